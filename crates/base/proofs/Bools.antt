@@ -1,0 +1,58 @@
+-- Tests that were passed and tests that failed, taken apart.
+use mathlib.Core.Bool.{Bool, true, false, not, _&&_, _||_, true≢false}
+use mathlib.Core.Path.{_≡_, refl, sym}
+use mathlib.Core.Logic.{_⊎_, inl, inr}
+
+pub bool-cases : (P : Bool → Type 0) (b : Bool) → (b ≡ true → P true) → (b ≡ false → P false) → P b
+bool-cases P true t f = t refl
+bool-cases P false t f = f refl
+
+-- both halves of a test that passed
+pub and-left : (a b : Bool) → (a && b) ≡ true → a ≡ true
+and-left true b e = refl
+and-left false b e = e
+
+pub and-right : (a b : Bool) → (a && b) ≡ true → b ≡ true
+and-right true b e = e
+and-right false b e = absurd (true≢false (sym e))
+
+pub and-both : (a b : Bool) → a ≡ true → b ≡ true → (a && b) ≡ true
+and-both true b e f = f
+and-both false b e f = e
+
+pub or-cases : (a b : Bool) → (a || b) ≡ true → (a ≡ true) ⊎ (b ≡ true)
+or-cases true b e = inl refl
+or-cases false b e = inr e
+
+-- an implication between tests, `not a || b`
+pub implies-true : (a b : Bool) → (not a || b) ≡ true → a ≡ true → b ≡ true
+implies-true true b e h = e
+implies-true false b e h = absurd (true≢false (sym h))
+
+pub true-implies : (a b : Bool) → (a ≡ true → b ≡ true) → (not a || b) ≡ true
+true-implies true b h = h refl
+true-implies false b h = refl
+
+-- tests that pass together are the same test
+pub same-test : (a b : Bool) → (a ≡ true → b ≡ true) → (b ≡ true → a ≡ true) → a ≡ b
+same-test true b f g = sym (f refl)
+same-test false true f g = g refl
+same-test false false f g = refl
+
+pub never-both : {a : Bool} → a ≡ true → a ≡ false → ⊥
+never-both {a = true} e f = true≢false f
+never-both {a = false} e f = true≢false (sym e)
+
+pub not-and : (a b : Bool) → not (a && b) ≡ (not a || not b)
+not-and true b = refl
+not-and false b = refl
+
+pub not-or : (a b : Bool) → not (a || b) ≡ (not a && not b)
+not-or true b = refl
+not-or false b = refl
+
+pub or-swap : (a b c d : Bool) → ((a || b) || (c || d)) ≡ ((a || c) || (b || d))
+or-swap true b c d = refl
+or-swap false true true d = refl
+or-swap false true false d = refl
+or-swap false false c d = refl

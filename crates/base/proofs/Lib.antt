@@ -1,0 +1,5 @@
+pub mod Bools
+pub mod Lists
+pub mod Bounded
+pub mod Numbered
+pub mod Bytes

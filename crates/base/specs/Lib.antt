@@ -1,0 +1,4 @@
+pub mod Bounded
+pub mod Numbered
+pub mod Lists
+pub mod Bytes
