@@ -1,10 +1,15 @@
--- `member`, `allb` and `ascending` of lists put together.
-use Prim.Native.Nat.{ℕ, _<_}
+-- `member`, `anyb`, `allb` and `ascending` of lists put together; the list of a function's values.
+use Prim.Native.Nat.{ℕ, zero, suc, _+_, _≤_, _<_}
 use mathlib.Core.List.{List, [], _∷_, _++_}
 use mathlib.Core.Bool.{Bool, true, false, _&&_, _||_, or-assoc, and-assoc}
 use mathlib.Core.Path.{_≡_, refl, sym, ap, ap₂, _∙_}
+use native.Mathlib.Nat.{add-zero, zero-add, suc-add, add-suc, add-assoc}
+use native.Mathlib.Omega.{arith}
 use lib.Dec.{eqb, ltb}
-use Rattle.base.specs.Lists.{member, allb, ascending}
+use lib.ListN.{length, getD, List·getD-eq-default}
+use borrow.Author.Tests.{ltb-true, ltb-false}
+use Rattle.base.specs.Bounded.{some}
+use Rattle.base.specs.Lists.{member, anyb, allb, valuesFrom, values, ascending}
 use Rattle.base.proofs.Bools.{and-left, and-right, and-both}
 
 pub member-append : (x : ℕ) (a b : List ℕ) → member x (a ++ b) ≡ (member x a || member x b)
@@ -12,7 +17,7 @@ unfolding member
 member-append x [] b = refl
 member-append x (y ∷ a) b = ap (λ (c : Bool). eqb x y || c) (member-append x a b) ∙ sym (or-assoc (eqb x y) (member x a) (member x b))
 
-pub allb-append : (p : ℕ → Bool) (a b : List ℕ) → allb p (a ++ b) ≡ (allb p a && allb p b)
+pub allb-append : {A : Type 0} (p : A → Bool) (a b : List A) → allb p (a ++ b) ≡ (allb p a && allb p b)
 unfolding allb
 allb-append p [] b = refl
 allb-append p (y ∷ a) b = ap (λ (c : Bool). p y && c) (allb-append p a b) ∙ sym (and-assoc (p y) (allb p a) (allb p b))
@@ -25,3 +30,43 @@ ascending-snoc (x ∷ l) n e h =
     and-both (allb (λ y. ltb x y) (l ++ (n ∷ []))) (ascending (l ++ (n ∷ [])))
     (allb-append (λ y. ltb x y) l (n ∷ []) ∙ and-both (allb (λ y. ltb x y) l) (ltb x n && true) (and-left (allb (λ y. ltb x y) l) (ascending l) e) (and-both (ltb x n) true (and-left (ltb x n) (allb (λ v. ltb v n) l) h) refl))
     (ascending-snoc l n (and-right (allb (λ y. ltb x y) l) (ascending l) e) (and-right (ltb x n) (allb (λ v. ltb v n) l) h))
+
+pub anyb-append : {A : Type 0} (p : A → Bool) (a b : List A) → anyb p (a ++ b) ≡ (anyb p a || anyb p b)
+unfolding anyb
+anyb-append p [] b = refl
+anyb-append p (y ∷ a) b = ap (λ (c : Bool). p y || c) (anyb-append p a b) ∙ sym (or-assoc (p y) (anyb p a) (anyb p b))
+
+module _ {A : Type 0} (f : ℕ → A) where
+  pub length-valuesFrom : (i n : ℕ) → length (valuesFrom f i n) ≡ n
+  unfolding valuesFrom
+  length-valuesFrom i zero = refl
+  length-valuesFrom i (suc n) = ap suc (length-valuesFrom (suc i) n)
+
+  pub at-valuesFrom : (i n j : ℕ) (d : A) → j < n → getD (valuesFrom f i n) j d ≡ f (i + j)
+  unfolding valuesFrom
+  at-valuesFrom i zero j d l = absurd (omega arith)
+  at-valuesFrom i (suc n) zero d l = ap f (sym (add-zero i))
+  at-valuesFrom i (suc n) (suc j) d l = at-valuesFrom (suc i) n j d (omega arith) ∙ ap f (suc-add i j ∙ sym (add-suc i j))
+
+  pub at-values : (n j : ℕ) (d : A) → j < n → getD (values f n) j d ≡ f j
+  at-values n j d l = at-valuesFrom 0 n j d l ∙ ap f (zero-add j)
+
+  -- one value more
+  pub valuesFrom-snoc : (i n : ℕ) → valuesFrom f i (suc n) ≡ valuesFrom f i n ++ (f (i + n) ∷ [])
+  unfolding valuesFrom
+  valuesFrom-snoc i zero = ap (λ (k : ℕ). f k ∷ []) (sym (add-zero i))
+  valuesFrom-snoc i (suc n) = ap (λ (l : List A). f i ∷ l) (valuesFrom-snoc (suc i) n ∙ ap (λ (k : ℕ). valuesFrom f (suc i) n ++ (f k ∷ [])) (suc-add i n ∙ sym (add-suc i n)))
+
+  -- a test of some value is a test of some number
+  pub any-values : (p : A → Bool) (n : ℕ) → anyb p (values f n) ≡ some (λ i. p (f i)) n
+  unfolding anyb some valuesFrom
+  any-values p zero = refl
+  any-values p (suc n) =
+      ap (anyb p) (valuesFrom-snoc 0 n) ∙ anyb-append p (values f n) (f (0 + n) ∷ [])
+      ∙ ap₂ (λ (a b : Bool). a || b) (any-values p n) (mathlib.Core.Bool.or-false (p (f (0 + n))) ∙ ap (λ (k : ℕ). p (f k)) (zero-add n))
+      ∙ mathlib.Core.Bool.or-comm (some (λ i. p (f i)) n) (p (f n))
+
+pub values-ext : {A : Type 0} (f g : ℕ → A) (i n : ℕ) → ((j : ℕ) → j < i + n → f j ≡ g j) → valuesFrom f i n ≡ valuesFrom g i n
+unfolding valuesFrom
+values-ext f g i zero h = refl
+values-ext {A} f g i (suc n) h = ap₂ (λ (x : A) (l : List A). x ∷ l) (h i (omega arith)) (values-ext f g (suc i) n (λ j l. h j (omega arith)))

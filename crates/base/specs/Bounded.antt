@@ -1,7 +1,12 @@
 -- Tests of numbers below a bound: some number passes, every number passes, how many pass, and which.
 use Prim.Native.Nat.{ℕ, zero, suc, _+_}
 use mathlib.Core.List.{List, [], _∷_, _++_}
-use mathlib.Core.Bool.{Bool, true, false, cond, _&&_, _||_}
+use mathlib.Core.Bool.{Bool, true, false, not, cond, _&&_, _||_}
+
+infixr 25 _⇒_
+-- if a, then b
+abbrev pub _⇒_ : Bool → Bool → Bool
+a ⇒ b = not a || b
 
 -- p holds of some number below n
 unfoldable pub some : (ℕ → Bool) → ℕ → Bool
