@@ -70,3 +70,16 @@ pub values-ext : {A : Type 0} (f g : ℕ → A) (i n : ℕ) → ((j : ℕ) → j
 unfolding valuesFrom
 values-ext f g i zero h = refl
 values-ext {A} f g i (suc n) h = ap₂ (λ (x : A) (l : List A). x ∷ l) (h i (omega arith)) (values-ext f g (suc i) n (λ j l. h j (omega arith)))
+
+-- `allb` is "for every place"
+module _ {A : Type 0} (p : A → Bool) where
+  pub allb-at : (l : List A) (d : A) → allb p l ≡ true → (i : ℕ) → i < length l → p (getD l i d) ≡ true
+  unfolding allb
+  allb-at [] d e i h = absurd (omega arith)
+  allb-at (x ∷ l) d e zero h = and-left (p x) (allb p l) e
+  allb-at (x ∷ l) d e (suc i) h = allb-at l d (and-right (p x) (allb p l) e) i (omega arith)
+
+  pub allb-all : (l : List A) (d : A) → ((i : ℕ) → i < length l → p (getD l i d) ≡ true) → allb p l ≡ true
+  unfolding allb
+  allb-all [] d h = refl
+  allb-all (x ∷ l) d h = and-both (p x) (allb p l) (h 0 (omega arith)) (allb-all l d (λ i k. h (suc i) (omega arith)))

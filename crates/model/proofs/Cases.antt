@@ -1,0 +1,36 @@
+-- The cases hold, by computation. `starred-hold` is the one theorem for document 01's starred cases.
+use mathlib.Core.List.{[], _∷_, List}
+use mathlib.Core.Bool.{true}
+use mathlib.Core.Path.{_≡_, refl}
+use lib.ListN.{getD}
+use Prim.Native.Nat.{ℕ}
+use Rattle.base.specs.Bytes.{bytes}
+use Rattle.base.specs.Bounded.{some, every, one, size, members}
+use Rattle.base.specs.Lists.{anyb, allb, member}
+use Rattle.model.specs.Graph.{valueOf, datatypeOf, languageOf, holds, hasTriple}
+use Rattle.model.specs.Paths.{ends, endsOf}
+use Rattle.model.specs.Shapes.{isKind, satisfies, within, subset, noneShared, allPairs, less, lessEq, sameLang, conforms, expand}
+use Rattle.model.specs.Rules.{Rule, subjectsOf, selects, violates, violations}
+use Rattle.model.specs.Books.{newTerms, newTriples, newShapes, newNames, newRules, joins, collect, graphOf, schemaFrom, schema, listOf, builtIn, names, nodes, links, rules}
+use Rattle.model.specs.Cases.{agree, bookB, bookC, starred, rows}
+
+pub starred-hold : agree bookB starred ≡ true
+unfolding some every one size anyb allb member valueOf datatypeOf languageOf holds hasTriple ends endsOf isKind satisfies within subset noneShared allPairs less lessEq sameLang conforms newTerms newTriples collect graphOf agree
+starred-hold = refl
+
+pub rows-hold : agree bookC rows ≡ true
+unfolding some every one size anyb allb member valueOf datatypeOf languageOf holds hasTriple ends endsOf isKind satisfies within subset noneShared allPairs less lessEq sameLang conforms newTerms newTriples collect graphOf agree
+rows-hold = refl
+
+-- book B's rule lists `left`, its node 0
+pub list-of-B : listOf bookB (record { shape = 0; target = subjectsOf 2 }) ≡ 0 ∷ []
+unfolding some every one size members anyb allb member valueOf datatypeOf languageOf holds hasTriple ends endsOf isKind satisfies within subset noneShared allPairs less lessEq sameLang conforms expand selects violates violations newTerms newTriples newShapes collect graphOf schemaFrom schema listOf
+list-of-B = refl
+
+pub names-of-B : names nodes bookB ≡ bytes "left" ∷ bytes "right" ∷ bytes "h240" ∷ bytes "h215" ∷ []
+unfolding newNames joins collect builtIn names
+names-of-B = refl
+
+pub links-of-B : names links bookB ≡ bytes "a" ∷ bytes "mount" ∷ bytes "twin" ∷ []
+unfolding newNames joins collect builtIn names
+links-of-B = refl

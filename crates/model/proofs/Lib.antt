@@ -1,0 +1,4 @@
+pub mod Cases
+pub mod Traps
+pub mod Logic
+pub mod Refusals

@@ -1,0 +1,127 @@
+-- The cases of document 01 over its book B: the starred ones, which one theorem proves, and a case or two for each other row of Table 1.
+use Prim.Native.Nat.{ℕ}
+use mathlib.Core.List.{List, [], _∷_}
+use mathlib.Core.Bool.{Bool, true, false, Bool·beq, _&&_}
+use lib.IntN.{pos, negsuc}
+use Rattle.base.specs.Bytes.{bytes}
+use Rattle.model.specs.Graph.{iri, blankNode, numeric, plain, tagged, Triple}
+use Rattle.model.specs.Paths.{Path, predicate, inverse, sequence, alternative, self, along}
+use Rattle.model.specs.Shapes.{Shape, top, hasShape, hasValue, conj, disj, neg, test, count, forAll, equals, disjoint, closed, lessThan, lessThanEq, uniqueLang, nodeKind, datatype, languageIn, minInclusive, minExclusive, maxInclusive, maxExclusive, anIri, aBlank, aLiteral, atMost, unbounded, conforms}
+use Rattle.model.specs.Rules.{subjectsOf}
+use Rattle.model.specs.Books.{Book, link, type, lang, node, fact, shape, rule, graphOf}
+
+-- ---- book B of document 01. Its nodes: 0 left, 1 right, 2 h240, 3 h215
+abbrev pub mount : Path
+mount = predicate 1
+
+abbrev pub twin : Path
+twin = predicate 2
+
+abbrev pub level : Shape
+level = equals (along (sequence twin mount)) 1
+
+abbrev pub bookB : Book
+bookB =
+    link (bytes "mount")
+    ∷ link (bytes "twin")
+    ∷ type (bytes "mm")
+    ∷ node (bytes "left") iri
+    ∷ node (bytes "right") iri
+    ∷ node (bytes "h240") (numeric 1 (pos 240))
+    ∷ node (bytes "h215") (numeric 1 (pos 215))
+    ∷ fact (record { subject = 0; predicate = 1; object = 2 })
+    ∷ fact (record { subject = 1; predicate = 1; object = 3 })
+    ∷ fact (record { subject = 0; predicate = 2; object = 1 })
+    ∷ shape (bytes "level") level
+    ∷ rule (record { shape = 0; target = subjectsOf 2 })
+    ∷ []
+
+-- a shape, a node, and whether it conforms
+pub data Case : Type 0 where
+  case : Shape → ℕ → Bool → Case
+
+unfoldable pub agree : Book → List Case → Bool
+agree b [] = true
+agree b (case φ v answer ∷ cs) = Bool·beq (conforms (graphOf b) φ v) answer && agree b cs
+
+-- the cases that document 01 marks with a star
+abbrev pub starred : List Case
+starred =
+    case level 0 false
+    ∷ case level 1 false
+    ∷ case level 2 true
+    ∷ case (count 0 (atMost 0) twin top) 1 true
+    ∷ case (lessThan mount 1) 0 false
+    ∷ case (lessThan mount 1) 2 true
+    ∷ case (lessThanEq mount 1) 0 true
+    ∷ case (lessThan (sequence twin mount) 1) 0 true
+    ∷ case (count 2 unbounded (alternative mount mount) top) 0 false
+    ∷ case (lessThan twin 1) 0 false
+    ∷ case (neg (forAll twin (test (nodeKind aLiteral)))) 0 true
+    ∷ case (closed (1 ∷ [])) 0 false
+    ∷ []
+
+-- ---- a book with a language, a blank node and a repeated line.
+-- Its nodes: 0 desk, 1 lamp, 2 hello, 3 salut, 4 hi, 5 spare, 6 low, 7 note
+abbrev pub bookC : Book
+bookC =
+    link (bytes "label")
+    ∷ link (bytes "feeds")
+    ∷ type (bytes "mm")
+    ∷ lang (bytes "en")
+    ∷ lang (bytes "fr")
+    ∷ node (bytes "desk") iri
+    ∷ node (bytes "lamp") iri
+    ∷ node (bytes "hello") (tagged 0)
+    ∷ node (bytes "salut") (tagged 1)
+    ∷ node (bytes "hi") (tagged 0)
+    ∷ node (bytes "spare") blankNode
+    ∷ node (bytes "low") (numeric 1 (negsuc 4))
+    ∷ node (bytes "note") (plain 1)
+    ∷ fact (record { subject = 0; predicate = 1; object = 2 })
+    ∷ fact (record { subject = 0; predicate = 1; object = 3 })
+    ∷ fact (record { subject = 1; predicate = 1; object = 2 })
+    ∷ fact (record { subject = 1; predicate = 1; object = 4 })
+    ∷ fact (record { subject = 0; predicate = 2; object = 1 })
+    ∷ fact (record { subject = 0; predicate = 2; object = 1 })
+    ∷ fact (record { subject = 5; predicate = 2; object = 6 })
+    ∷ []
+
+-- each row of Table 1 that no starred case has, met and not met
+abbrev pub rows : List Case
+rows =
+    case top 0 true
+    ∷ case (hasValue 1) 1 true
+    ∷ case (hasValue 1) 0 false
+    ∷ case (conj top (hasValue 1)) 0 false
+    ∷ case (conj top (hasValue 0)) 0 true
+    ∷ case (disj (neg top) (hasValue 1)) 0 false
+    ∷ case (disj (neg top) (hasValue 0)) 0 true
+    ∷ case (test (nodeKind anIri)) 0 true
+    ∷ case (test (nodeKind anIri)) 5 false
+    ∷ case (test (nodeKind aBlank)) 5 true
+    ∷ case (test (nodeKind aBlank)) 6 false
+    ∷ case (test (datatype 0)) 2 true
+    ∷ case (test (datatype 1)) 7 true
+    ∷ case (test (datatype 1)) 2 false
+    ∷ case (test (languageIn (1 ∷ 0 ∷ []))) 4 true
+    ∷ case (test (languageIn [])) 4 false
+    ∷ case (test (minInclusive (negsuc 4))) 6 true
+    ∷ case (test (minExclusive (negsuc 4))) 6 false
+    ∷ case (test (maxInclusive (negsuc 4))) 6 true
+    ∷ case (test (maxExclusive (negsuc 4))) 6 false
+    ∷ case (test (maxExclusive (pos 0))) 6 true
+    ∷ case (test (minExclusive (negsuc 5))) 6 true
+    ∷ case (test (maxInclusive (pos 9))) 7 false
+    ∷ case (count 1 (atMost 1) (predicate 2) top) 0 true
+    ∷ case (count 1 (atMost 1) (inverse (predicate 1)) top) 2 false
+    ∷ case (count 3 (atMost 1) (predicate 1) top) 0 false
+    ∷ case (forAll (predicate 1) (test (nodeKind aLiteral))) 0 true
+    ∷ case (equals self 2) 5 false
+    ∷ case (disjoint (along (sequence (predicate 2) (predicate 1))) 1) 0 false
+    ∷ case (disjoint self 2) 0 true
+    ∷ case (closed (2 ∷ 1 ∷ [])) 0 true
+    ∷ case (closed []) 2 true
+    ∷ case (uniqueLang (predicate 1)) 0 true
+    ∷ case (uniqueLang (predicate 1)) 1 false
+    ∷ []
