@@ -3,3 +3,4 @@ pub mod Lists
 pub mod Bounded
 pub mod Numbered
 pub mod Bytes
+pub mod Columns

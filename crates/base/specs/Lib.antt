@@ -2,3 +2,4 @@ pub mod Bounded
 pub mod Numbered
 pub mod Lists
 pub mod Bytes
+pub mod Columns
