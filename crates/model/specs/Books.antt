@@ -1,12 +1,12 @@
 -- A book as a list of lines, and what its lines say: names, graph, schema and rules.
-use Prim.Native.Nat.{ℕ, suc, _+_}
+use Prim.Native.Nat.{ℕ}
 use mathlib.Core.List.{List, [], _∷_, _++_, map}
-use mathlib.Core.Bool.{Bool, true, false, cond}
+use mathlib.Core.Bool.{Bool, cond}
 use lib.Dec.{eqb}
 use lib.ListN.{length, getD}
 use Rattle.base.specs.Bytes.{bytes}
 use Rattle.model.specs.Graph.{Term, iri, Triple, Graph}
-use Rattle.model.specs.Shapes.{Shape, top, hasShape, hasValue, conj, disj, neg, test, count, forAll, equals, disjoint, closed, lessThan, lessThanEq, uniqueLang, expand, conforms, def}
+use Rattle.model.specs.Shapes.{Shape, expand, conforms, def}
 use Rattle.model.specs.Rules.{Rule, violations}
 
 -- the bytes of a name
@@ -124,29 +124,3 @@ conformsIn b v s = conforms (graphOf b) (def (schema b) s) v
 -- the list of a rule: the nodes that it selects and that do not conform to its shape
 unfoldable pub listOf : Book → Rule → List ℕ
 listOf b r = violations (graphOf b) (schema b) r
-
--- how many form entries a shape takes: each FORM, bare `true` included
-unfoldable pub formEntries : Shape → ℕ
-formEntries top = 1
-formEntries (hasShape s) = 1
-formEntries (hasValue c) = 1
-formEntries (conj φ ψ) = suc (formEntries φ + formEntries ψ)
-formEntries (disj φ ψ) = suc (formEntries φ + formEntries ψ)
-formEntries (neg φ) = suc (formEntries φ)
-formEntries (test t) = 1
-formEntries (count lo hi e ψ) = suc (formEntries ψ)
-formEntries (forAll e ψ) = suc (formEntries ψ)
-formEntries (equals f p) = 1
-formEntries (disjoint f p) = 1
-formEntries (closed ps) = 1
-formEntries (lessThan e p) = 1
-formEntries (lessThanEq e p) = 1
-formEntries (uniqueLang e) = 1
-
-unfoldable pub sumOver : (Shape → ℕ) → List Shape → ℕ
-sumOver f [] = 0
-sumOver f (φ ∷ φs) = f φ + sumOver f φs
-
--- the form entries of a book
-unfoldable pub formsIn : Book → ℕ
-formsIn b = sumOver formEntries (collect newShapes b)

@@ -5,4 +5,6 @@ pub mod Paths
 pub mod Shapes
 pub mod Rules
 pub mod Books
+pub mod Sizes
+pub mod Valid
 pub mod Cases
