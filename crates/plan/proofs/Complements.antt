@@ -125,8 +125,8 @@ some-size p (suc n) = step (p n) (some-size p n)
     step true e = le-leb 1 (1 + size p n) (omega arith)
     step false e = ap (leb 1) (let z : 0 + size p n ≡ size p n = omega arith in z) ∙ e
 
-pub not-all : (n : ℕ) (a m : ℕ → Bool) → not (every (λ w. a w ⇒ m w) n) ≡ within 1 unbounded (size (λ w. a w && not (m w)) n)
-unfolding within
+pub not-all : (n : ℕ) (a m : ℕ → Bool) → not (every (λ w. a w ⇒ m w) n) ≡ within 1 (upperOf noNumber) (size (λ w. a w && not (m w)) n)
+unfolding within upperOf
 not-all n a m = not-every (λ w. a w ⇒ m w) (λ w. a w && not (m w)) n (λ w l. not-implies (a w) (m w)) ∙ sym (some-size (λ w. a w && not (m w)) n)
 
 -- the four cases of a broken count
