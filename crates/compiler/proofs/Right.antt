@@ -95,8 +95,8 @@ module _ (cs : List ℕ) (vs : List ℤ) (at : ℕ → Step) where
     unfolding inStep holds
     right-test t q st = right-two (Step.test e) (Step.untest e) (λ v. satisfies t (g .term v)) (λ v. failsTest t (g .term v)) st (ap (λ (o : Option Test). λ v. holds (λ t. satisfies t (g .term v)) o) q) (ap (λ (o : Option Test). λ v. holds (λ t. failsTest t (g .term v)) o) q) (λ v. not-satisfies t (g .term v))
 
-    right-count : (p a lo hi : ℕ) → Sets cs vs at s (keep a) (brk a) (conforms g (sh a)) → lo ≤ 1024 → Has at s (countPart cs keep brk s e p (keep a) lo hi .steps)
-        → Sets cs vs at (s + length (countPart cs keep brk s e p (keep a) lo hi .steps)) (countPart cs keep brk s e p (keep a) lo hi .keep) (countPart cs keep brk s e p (keep a) lo hi .brk) (λ v. within lo (upperOf hi) (counted p (conforms g (sh a)) v))
+    right-count : (p a lo hi : ℕ) → Sets cs vs at s (keep a) (brk a) (conforms g (sh a)) → lo ≤ 1024 → Has at s (countPart s p (keep a) lo hi .steps)
+        → Sets cs vs at (s + length (countPart s p (keep a) lo hi .steps)) (countPart s p (keep a) lo hi .keep) (countPart s p (keep a) lo hi .brk) (λ v. within lo (upperOf hi) (counted p (conforms g (sh a)) v))
     unfolding countPart inStep
     right-count p a lo hi r low st = go (eqb lo 0) refl (eqb hi noNumber) refl st
       where
@@ -104,7 +104,7 @@ module _ (cs : List ℕ) (vs : List ℤ) (at : ℕ → Step) where
         n v = counted p (conforms g (sh a)) v
 
         own : Bool → Bool → Part
-        own z t = cond z (cond t (two cs keep brk s e (Step.count p (keep a) lo hi) Step.none) (two cs keep brk s e (Step.count p (keep a) lo hi) (Step.count p (keep a) (hi + 1) noNumber))) (cond t (two cs keep brk s e (Step.count p (keep a) lo hi) (Step.count p (keep a) 0 (lo - 1))) (record { steps = Step.count p (keep a) lo hi ∷ Step.count p (keep a) 0 (lo - 1) ∷ Step.count p (keep a) (hi + 1) noNumber ∷ Step.either (s + 1) (s + 2) ∷ []; keep = s; brk = s + 3 }))
+        own z t = cond z (cond t (two s (Step.count p (keep a) lo hi) Step.none) (two s (Step.count p (keep a) lo hi) (Step.count p (keep a) (hi + 1) noNumber))) (cond t (two s (Step.count p (keep a) lo hi) (Step.count p (keep a) 0 (lo - 1))) (record { steps = Step.count p (keep a) lo hi ∷ Step.count p (keep a) 0 (lo - 1) ∷ Step.count p (keep a) (hi + 1) noNumber ∷ Step.either (s + 1) (s + 2) ∷ []; keep = s; brk = s + 3 }))
 
         -- the step of the count itself, and another count of the same members
         first : at s ≡ Step.count p (keep a) lo hi → setBy cs vs at s ≡ (λ v. within lo (upperOf hi) (n v))

@@ -46,7 +46,7 @@ entry-four cs keep brk s e (Entry.to x) = omega arith
 entry-four cs keep brk s e (Entry.under x) = omega arith
 entry-four cs keep brk s e (Entry.count p a lo hi) = ways (eqb lo 0) (eqb hi noNumber)
   where
-    ways : (z t : Bool) → length (cond z (cond t (two cs keep brk s e (Step.count p (keep a) lo hi) Step.none) (two cs keep brk s e (Step.count p (keep a) lo hi) (Step.count p (keep a) (hi + 1) noNumber))) (cond t (two cs keep brk s e (Step.count p (keep a) lo hi) (Step.count p (keep a) 0 (lo - 1))) (record { steps = Step.count p (keep a) lo hi ∷ Step.count p (keep a) 0 (lo - 1) ∷ Step.count p (keep a) (hi + 1) noNumber ∷ Step.either (s + 1) (s + 2) ∷ []; keep = s; brk = s + 3 })) .steps) ≤ 4
+    ways : (z t : Bool) → length (cond z (cond t (two s (Step.count p (keep a) lo hi) Step.none) (two s (Step.count p (keep a) lo hi) (Step.count p (keep a) (hi + 1) noNumber))) (cond t (two s (Step.count p (keep a) lo hi) (Step.count p (keep a) 0 (lo - 1))) (record { steps = Step.count p (keep a) lo hi ∷ Step.count p (keep a) 0 (lo - 1) ∷ Step.count p (keep a) (hi + 1) noNumber ∷ Step.either (s + 1) (s + 2) ∷ []; keep = s; brk = s + 3 })) .steps) ≤ 4
     ways true true = omega arith
     ways true false = omega arith
     ways false true = omega arith
@@ -127,7 +127,7 @@ module _ (cs : List ℕ) where
     unfolding upperOk
     high-star = refl
 
-    counts-fine : (p j lo hi : ℕ) → ltb p (pathCount cs) ≡ true → j < s → lo ≤ 1024 → upperOk cs hi ≡ true → Fine s (countPart cs keep brk s e p j lo hi .steps)
+    counts-fine : (p j lo hi : ℕ) → ltb p (pathCount cs) ≡ true → j < s → lo ≤ 1024 → upperOk cs hi ≡ true → Fine s (countPart s p j lo hi .steps)
     unfolding countPart stepOk
     counts-fine p j lo hi o l a b = ways (eqb lo 0) (eqb hi noNumber) refl
       where
@@ -140,7 +140,7 @@ module _ (cs : List ℕ) where
         under : stepOk cs (s + 1) (Step.count p j 0 (lo - 1)) ≡ true
         under = count-fine (s + 1) p j 0 (lo - 1) o (omega arith) (omega arith) (high-small (lo - 1) (omega arith))
 
-        ways : (z t : Bool) → eqb hi noNumber ≡ t → Fine s (cond z (cond t (two cs keep brk s e (Step.count p j lo hi) Step.none) (two cs keep brk s e (Step.count p j lo hi) (Step.count p j (hi + 1) noNumber))) (cond t (two cs keep brk s e (Step.count p j lo hi) (Step.count p j 0 (lo - 1))) (record { steps = Step.count p j lo hi ∷ Step.count p j 0 (lo - 1) ∷ Step.count p j (hi + 1) noNumber ∷ Step.either (s + 1) (s + 2) ∷ []; keep = s; brk = s + 3 })) .steps)
+        ways : (z t : Bool) → eqb hi noNumber ≡ t → Fine s (cond z (cond t (two s (Step.count p j lo hi) Step.none) (two s (Step.count p j lo hi) (Step.count p j (hi + 1) noNumber))) (cond t (two s (Step.count p j lo hi) (Step.count p j 0 (lo - 1))) (record { steps = Step.count p j lo hi ∷ Step.count p j 0 (lo - 1) ∷ Step.count p j (hi + 1) noNumber ∷ Step.either (s + 1) (s + 2) ∷ []; keep = s; brk = s + 3 })) .steps)
         ways true true et = (first, (refl, tt))
         ways true false et = (first, (above (s + 1) (omega arith) (eqb-false hi noNumber et), tt))
         ways false true et = (first, (under, tt))

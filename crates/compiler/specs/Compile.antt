@@ -19,15 +19,15 @@ pub record Part : Type 0 where
   pub keep : ℕ
   pub brk : ℕ
 
--- keep and brk: the two step numbers of each earlier entry; s: the number of the next step; e: the entry's own number
-module _ (cs : List ℕ) (keep brk : ℕ → ℕ) (s e : ℕ) where
+-- no step of its own: the numbers of two earlier ones
+abbrev pub taken : ℕ → ℕ → Part
+taken k b = record { steps = []; keep = k; brk = b }
+
+-- s: the number of the next step
+module _ (s : ℕ) where
   -- a keeping step and a breaking one
   abbrev pub two : Step → Step → Part
   two x y = record { steps = x ∷ y ∷ []; keep = s; brk = s + 1 }
-
-  -- no step: two numbers of earlier ones
-  abbrev pub taken : ℕ → ℕ → Part
-  taken k b = record { steps = []; keep = k; brk = b }
 
   -- a count of the members of step j; how it breaks: never, above HI, below LO, or one of the two
   unfoldable pub countPart : ℕ → ℕ → ℕ → ℕ → Part
@@ -44,29 +44,31 @@ module _ (cs : List ℕ) (keep brk : ℕ → ℕ) (s e : ℕ) where
         brk = s + 3;
       }))
 
+-- keep and brk: the two step numbers of each earlier entry; s: the number of the next step; e: the entry's own number
+module _ (cs : List ℕ) (keep brk : ℕ → ℕ) (s e : ℕ) where
   -- a line for each row of the table; `not` swaps its child's two, and `shape` takes that shape's
   unfoldable pub entryPart : Entry → Part
-  entryPart Entry.top = two Step.all Step.none
-  entryPart (Entry.is c) = two (Step.is c) (Step.isnot c)
+  entryPart Entry.top = two s Step.all Step.none
+  entryPart (Entry.is c) = two s (Step.is c) (Step.isnot c)
   entryPart (Entry.shape n) = taken (keep (rootAt cs n)) (brk (rootAt cs n))
-  entryPart (Entry.conj a b) = two (Step.both (keep a) (keep b)) (Step.either (brk a) (brk b))
-  entryPart (Entry.disj a b) = two (Step.either (keep a) (keep b)) (Step.both (brk a) (brk b))
+  entryPart (Entry.conj a b) = two s (Step.both (keep a) (keep b)) (Step.either (brk a) (brk b))
+  entryPart (Entry.disj a b) = two s (Step.either (keep a) (keep b)) (Step.both (brk a) (brk b))
   entryPart (Entry.neg a) = taken (brk a) (keep a)
-  entryPart (Entry.kind k) = two (Step.test e) (Step.untest e)
-  entryPart (Entry.datatype t) = two (Step.test e) (Step.untest e)
-  entryPart (Entry.lang i n) = two (Step.test e) (Step.untest e)
-  entryPart (Entry.from x) = two (Step.test e) (Step.untest e)
-  entryPart (Entry.above x) = two (Step.test e) (Step.untest e)
-  entryPart (Entry.to x) = two (Step.test e) (Step.untest e)
-  entryPart (Entry.under x) = two (Step.test e) (Step.untest e)
-  entryPart (Entry.count p a lo hi) = countPart p (keep a) lo hi
-  entryPart (Entry.all p a) = two (Step.every p (keep a)) (Step.count p (brk a) 1 noNumber)
-  entryPart (Entry.equal f l) = two (Step.equal f l) (Step.unequal f l)
-  entryPart (Entry.apart f l) = two (Step.apart f l) (Step.meet f l)
-  entryPart (Entry.closed i n) = two (Step.closed e) (Step.opened e)
-  entryPart (Entry.less p l) = two (Step.less p l) (Step.notless p l)
-  entryPart (Entry.lesseq p l) = two (Step.lesseq p l) (Step.notlesseq p l)
-  entryPart (Entry.onelang p) = two (Step.onelang p) (Step.manylang p)
+  entryPart (Entry.kind k) = two s (Step.test e) (Step.untest e)
+  entryPart (Entry.datatype t) = two s (Step.test e) (Step.untest e)
+  entryPart (Entry.lang i n) = two s (Step.test e) (Step.untest e)
+  entryPart (Entry.from x) = two s (Step.test e) (Step.untest e)
+  entryPart (Entry.above x) = two s (Step.test e) (Step.untest e)
+  entryPart (Entry.to x) = two s (Step.test e) (Step.untest e)
+  entryPart (Entry.under x) = two s (Step.test e) (Step.untest e)
+  entryPart (Entry.count p a lo hi) = countPart s p (keep a) lo hi
+  entryPart (Entry.all p a) = two s (Step.every p (keep a)) (Step.count p (brk a) 1 noNumber)
+  entryPart (Entry.equal f l) = two s (Step.equal f l) (Step.unequal f l)
+  entryPart (Entry.apart f l) = two s (Step.apart f l) (Step.meet f l)
+  entryPart (Entry.closed i n) = two s (Step.closed e) (Step.opened e)
+  entryPart (Entry.less p l) = two s (Step.less p l) (Step.notless p l)
+  entryPart (Entry.lesseq p l) = two s (Step.lesseq p l) (Step.notlesseq p l)
+  entryPart (Entry.onelang p) = two s (Step.onelang p) (Step.manylang p)
   entryPart Entry.bad = taken 0 0
 
 -- the steps of the entries so far, and the two step numbers of each
