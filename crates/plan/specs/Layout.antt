@@ -1,7 +1,7 @@
 -- Where everything stands in a lent plan (16-bit cells): the number of steps, per rule its step, then per step its code and
 -- four operands, in columns of 32 and 512 places.
 use Prim.Native.Nat.{ℕ, _+_}
-use mathlib.Core.List.{List, [], _∷_, map}
+use mathlib.Core.List.{List, [], _∷_, _++_, map}
 use lib.ListN.{getD, length, set}
 use Rattle.base.specs.Columns.{Column, flat}
 use Rattle.plan.specs.Steps.{Step, stepOf, numbersOf}
@@ -67,6 +67,10 @@ planColumns counts rules ss =
     ∷ stepColumn ss 3
     ∷ stepColumn ss 4
     ∷ []
+
+-- a plan with these columns, and t past them
+abbrev pub laid : List ℕ → List ℕ → List ℕ → List Step → List ℕ
+laid t counts rules ss = flat 0 (planColumns counts rules ss) ++ t
 
 -- ---- stores: a code and four operands as step k; steps from number k on
 unfoldable pub withNumbers : List ℕ → ℕ → List ℕ → List ℕ
