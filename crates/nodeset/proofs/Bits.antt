@@ -11,7 +11,7 @@ use lib.Arith.{digits-lt, lt-one, le-zero}
 use lib.Pow.{pow-pos, pow-lt, pow-add, shr-lt, split, high, low, field, mod-mod-pow}
 use lib.Bits.{bitOr, bitAnd, bitXor, or-shr, and-shr, xor-shr, or-mod, and-mod, xor-mod}
 use lib.Count.{ones, ones-cat}
-use borrow.Author.Tests.{eq-eqb, ne-eqb, eqb-true, eqb-false, lt-ltb, le-ltb, ltb-true, ltb-false}
+use borrow.Author.Tests.{eqb-true, eqb-false, lt-ltb, le-ltb, ltb-true, ltb-false}
 use Rattle.base.specs.Bounded.{one, size}
 use Rattle.nodeset.specs.Words.{bit, wordOf}
 use Rattle.base.proofs.Bounded.{size-ext}

@@ -1,17 +1,16 @@
 -- Laws of sets of words, for every number of words.
-use Prim.Native.Nat.{ℕ, zero, suc, _+_, _-_, _*_, _/_, _%_, _^_, _≤_, _<_}
-use mathlib.Core.List.{List, [], _∷_, _++_}
+use Prim.Native.Nat.{ℕ, zero, suc, _+_, _*_, _/_, _%_, _^_, _≤_, _<_}
+use mathlib.Core.List.{List, [], _∷_}
 use mathlib.Core.Bool.{Bool, true, false, not, cond, _&&_, _||_, or-false}
 use mathlib.Core.Path.{_≡_, refl, sym, ap, ap₂, _∙_, subst}
 use native.Mathlib.Nat.{one-mul, lt-of-le-of-lt, mod-eq-of-lt, add-zero, zero-add, add-suc, suc-add}
-use native.Mathlib.Numerals.{add-one}
 use native.Mathlib.Omega.{arith}
 use lib.Dec.{eqb, ltb, lit<}
 use lib.Pow.{pow-lt}
 use lib.ListN.{length, getD, set, take, drop, replicate, length-set, length-replicate, List·getD-eq-default}
-use lib.Seq.{getD-set-same, getD-set-other, ext-getD, getD-take, length-take-le}
+use lib.Seq.{getD-set-same, getD-set-other, ext-getD, getD-take, getD-drop, length-take-le}
 use lib.Bits.{bitOr, bitAnd, and-le-r, or-lt}
-use lib.Count.{ones, ones-le}
+use lib.Count.{ones}
 use borrow.Author.Tests.{eq-eqb, ne-eqb, eqb-true, eqb-false, lt-ltb, le-ltb, ltb-true, ltb-false}
 use Rattle.base.specs.Bounded.{size}
 use Rattle.base.proofs.Bools.{same-test}
@@ -33,6 +32,14 @@ has-at ws i k l =
 pub has-out : (ws : List ℕ) (m : ℕ) → length ws ≤ m / 64 → has ws m ≡ false
 unfolding has
 has-out ws m l = ap (λ (y : ℕ). bit y (m % 64)) (List·getD-eq-default ws 0 l) ∙ bit-zero (m % 64)
+
+-- what a part from word i on has
+pub has-drop : (ws : List ℕ) (i m : ℕ) → has (drop i ws) m ≡ has ws (i * 64 + m)
+unfolding has
+has-drop ws i m =
+    let q : i + m / 64 ≡ (i * 64 + m) / 64 = omega arith in
+    let r : m % 64 ≡ (i * 64 + m) % 64 = omega arith in
+    ap (λ (y : ℕ). bit y (m % 64)) (getD-drop i ws (m / 64) 0) ∙ ap₂ (λ (a b : ℕ). bit (getD ws a 0) b) q r
 
 -- ---- the words of a set
 

@@ -53,7 +53,7 @@ pub fn insert(words: &mut [u64], n: usize)
     put_word(words, n / 64, old | (1 << (n % 64)));
 }
 
-// What two sets are put together to.
+// How two sets are put together.
 enum Operation {
     Union,
     Intersection,
@@ -139,8 +139,8 @@ pub fn store(into: &mut [u64], set: NodeSet)
     ensures { λ _. ⌜ now (into .exit) ≡ stored (now (into .entry)) (set .words) ⌝ }
 {
     let words = set.words;
-    for i in 0..16 {
-        put_word(into, i, words[i]);
+    for k in 0..16 {
+        put_word(into, k, words[k]);
     }
 }
 
@@ -165,8 +165,8 @@ impl NodeSet {
         ensures { λ r. ⌜ r .words ≡ wordsOf (λ m. ltb m n) 16 ⌝ }
     {
         let mut words = [0u64; 16];
-        for i in 0..16 {
-            words[i] = word_below(n, i);
+        for j in 0..16 {
+            words[j] = word_below(n, j);
         }
         NodeSet { words }
     }

@@ -1,9 +1,9 @@
-use borrow.Author.Needs.{needs}
+-- `combine_into` meets its contract. Before word i the words are those of the result, and from there on as they were.
 use Prim.Native.Nat.{ℕ, _≤_, _-_}
-use mathlib.Core.Bool.{Bool}
-use mathlib.Core.Path.{_≡_, refl, sym, ap, ap₂, _∙_}
+use mathlib.Core.Path.{_≡_, refl, ap₂, _∙_}
 use native.Mathlib.Omega.{arith}
 use lib.ListN.{length}
+use borrow.Author.Needs.{needs}
 use Rattle.nodeset.specs.Words.{bit, has, wordsOf}
 use Rattle.nodeset.specs.Operations.{keeps}
 use Rattle.nodeset.proofs.Sets.{own, upTo, upTo-none, upTo-all, combine-more}
@@ -43,14 +43,14 @@ loop-less c = search needs
 loop-again : tie.Need-loop-again Inv-loop μ-loop
 loop-again c =
     let a = c .before .before .before .before .before .before .before .before .before .before .before .before .args in
-    let t = c .before .before .before .before .before .before .before .before .before .loop in (
-      omega arith,
-      refl,
-      c .before .before .put-word .kept .0 ∙ t .inv .2,
-      c .before .before .put-word .ensures
-          ∙ combine-more (keeps (a .op)) (a .into .now) (a .from .now) (length (a .into .now)) (t .i) (c .before .before .before .before .combined .result) (t .inv .3) (omega (arith, c .before .before .before .before .combined .ok))
-          (λ d. c .before .before .before .before .combined .ensures d ∙ ap₂ (λ (x y : ℕ). keeps (a .op) (bit x d) (bit y d)) (c .before .before .before .before .before .before .word .ensures) (c .before .before .before .before .before .word2 .ensures)),
-    )
+    let t = c .before .before .before .before .before .before .before .before .before .loop in
+    let made = c .before .before .before .before .combined in
+    let x-word = c .before .before .before .before .before .before .word .ensures in
+    let y-word = c .before .before .before .before .before .word2 .ensures in
+    let grown =
+    combine-more (keeps (a .op)) (a .into .now) (a .from .now) (length (a .into .now)) (t .i) (made .result) (t .inv .3) (omega (arith, made .ok))
+    (λ d. made .ensures d ∙ ap₂ (λ (x y : ℕ). keeps (a .op) (bit x d) (bit y d)) x-word y-word) in
+    (omega arith, refl, c .before .before .put-word .kept .0 ∙ t .inv .2, c .before .before .put-word .ensures ∙ grown)
 
 same-length : tie.Need-same-length Inv-loop μ-loop
 same-length c = search needs

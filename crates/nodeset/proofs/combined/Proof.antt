@@ -1,5 +1,6 @@
-use Rattle.nodeset.proofs.Bits.{bit-or, bit-and, bit-without}
+-- `combined` meets its contract, by the law of digits of each operation.
 use borrow.Author.Needs.{needs}
+use Rattle.nodeset.proofs.Bits.{bit-or, bit-and, bit-without}
 use Rattle.nodeset.proofs.combined.Statement.{statement}
 use Rattle.nodeset.proofs.combined.Tie as tie
 

@@ -1,10 +1,11 @@
-use borrow.Author.Needs.{needs}
+-- `count_both` meets its contract. The invariant: the total is the ones of the first i words; and these are the shared members.
 use Prim.Native.Nat.{ℕ, _≤_, _-_, _+_, _*_}
 use mathlib.Core.Path.{_≡_, refl, sym, ap, ap₂, _∙_}
 use native.Mathlib.Numerals.{add-one}
 use native.Mathlib.Omega.{arith}
 use lib.Bits.{bitAnd}
 use lib.Count.{ones}
+use borrow.Author.Needs.{needs}
 use Rattle.nodeset.specs.Words.{onesBoth}
 use Rattle.nodeset.proofs.Sets.{ones-both, onesBoth-le}
 use Rattle.nodeset.proofs.count_both.Statement.{statement}

@@ -1,3 +1,4 @@
+-- `empty` meets its contract: sixteen zeros are the words of the empty set.
 use Rattle.nodeset.proofs.Sets.{zeros}
 use Rattle.nodeset.proofs.empty.Statement.{statement}
 use Rattle.nodeset.proofs.empty.Tie as tie

@@ -1,9 +1,10 @@
-use mathlib.Core.Path.{ap, _∙_}
+-- `insert` meets its contract, by the law of one more member.
 use Prim.Native.Nat.{ℕ, _*_, _/_, _%_, _^_}
+use mathlib.Core.Path.{ap, _∙_}
 use lib.ListN.{set}
 use lib.Bits.{bitOr}
-use Rattle.nodeset.proofs.Sets.{insert-code}
 use borrow.Author.Needs.{needs}
+use Rattle.nodeset.proofs.Sets.{insert-code}
 use Rattle.nodeset.proofs.insert.Statement.{statement}
 use Rattle.nodeset.proofs.insert.Tie as tie
 

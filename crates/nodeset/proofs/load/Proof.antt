@@ -1,6 +1,7 @@
+-- `load` meets its contract: zeros joined with words are these words.
 use mathlib.Core.Path.{_∙_}
-use Rattle.nodeset.proofs.Sets.{union-zeros}
 use borrow.Author.Needs.{needs}
+use Rattle.nodeset.proofs.Sets.{union-zeros}
 use Rattle.nodeset.proofs.load.Statement.{statement}
 use Rattle.nodeset.proofs.load.Tie as tie
 

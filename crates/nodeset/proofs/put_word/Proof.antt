@@ -1,5 +1,6 @@
-use lib.Seq.{set-out}
+-- `put_word` meets its contract: past the end `set` changes nothing.
 use mathlib.Core.Path.{sym}
+use lib.Seq.{set-out}
 use borrow.Author.Needs.{needs}
 use Rattle.nodeset.proofs.put_word.Statement.{statement}
 use Rattle.nodeset.proofs.put_word.Tie as tie

@@ -1,7 +1,8 @@
-use mathlib.Core.Path.{ap}
+-- `test` meets its contract: the code is the digit that `has` asks for, of the word that `word` gives.
 use Prim.Native.Nat.{ℕ, _%_}
-use Rattle.nodeset.specs.Words.{bit, has}
+use mathlib.Core.Path.{ap}
 use borrow.Author.Needs.{needs}
+use Rattle.nodeset.specs.Words.{bit, has}
 use Rattle.nodeset.proofs.test.Statement.{statement}
 use Rattle.nodeset.proofs.test.Tie as tie
 

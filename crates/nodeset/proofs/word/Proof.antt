@@ -1,5 +1,6 @@
-use lib.ListN.{List·getD-eq-default}
+-- `word` meets its contract: past the end `getD` gives its default.
 use mathlib.Core.Path.{sym}
+use lib.ListN.{List·getD-eq-default}
 use borrow.Author.Needs.{needs}
 use Rattle.nodeset.proofs.word.Statement.{statement}
 use Rattle.nodeset.proofs.word.Tie as tie

@@ -1,8 +1,9 @@
+-- `NodeSet::count` meets its contract: a set shares all its members with itself.
 use mathlib.Core.Bool.{and-self}
 use mathlib.Core.Path.{_∙_}
+use borrow.Author.Needs.{needs}
 use Rattle.base.proofs.Bounded.{size-ext}
 use Rattle.nodeset.specs.Words.{has, both}
-use borrow.Author.Needs.{needs}
 use Rattle.nodeset.proofs.NodeSet.count.Statement.{statement}
 use Rattle.nodeset.proofs.NodeSet.count.Tie as tie
 

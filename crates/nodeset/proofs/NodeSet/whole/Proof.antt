@@ -1,21 +1,22 @@
-use borrow.Author.Needs.{needs}
-use Prim.Native.Nat.{ℕ, _≤_, _<_, _-_, _+_, _*_, _/_, _%_, _^_}
+-- `NodeSet::whole` meets its contract. Before word j the words are those of the numbers below n, and from there on zeros.
+use Prim.Native.Nat.{ℕ, _≤_, _<_, _-_, _+_, _*_, _%_, _^_}
 use mathlib.Core.Bool.{false}
 use mathlib.Core.Path.{_≡_, refl, sym, ap, _∙_, subst}
 use native.Mathlib.Omega.{arith}
 use lib.Dec.{ltb}
 use lib.ListN.{length, length-set}
-use Rattle.nodeset.specs.Words.{bit, wordOf, wordsOf}
+use borrow.Author.Needs.{needs}
+use Rattle.nodeset.specs.Words.{bit, wordsOf}
 use Rattle.nodeset.proofs.Bits.{wordOf-lt, bit-wordOf}
 use Rattle.nodeset.proofs.Sets.{zeros, upTo, upTo-none, upTo-more, upTo-all}
 use Rattle.nodeset.proofs.NodeSet.whole.Statement.{statement}
 use Rattle.nodeset.proofs.NodeSet.whole.Tie as tie
 
 abbrev Inv-loop : tie.InvT-loop
-Inv-loop n words₀ i₀ words i = (i ≤ 16) × (length words ≡ 16) × (words ≡ wordsOf (upTo (λ m. ltb m n) (λ m. false) i) 16)
+Inv-loop n words₀ j₀ words j = (j ≤ 16) × (length words ≡ 16) × (words ≡ wordsOf (upTo (λ m. ltb m n) (λ m. false) j) 16)
 
 abbrev μ-loop : tie.MeasureT-loop
-μ-loop n words₀ i₀ words i = 16 - i
+μ-loop n words₀ j₀ words j = 16 - j
 
 loop-holds : tie.Need-loop-holds Inv-loop μ-loop
 loop-holds c = (search needs, refl, upTo-none (λ m. ltb m (c .args .n)) (λ m. false) 16 (zeros 16))
@@ -29,8 +30,8 @@ mul-words c = search needs
 array-write-words : tie.Need-array-write-words Inv-loop μ-loop
 array-write-words c = search needs
 
-add-i : tie.Need-add-i Inv-loop μ-loop
-add-i c = search needs
+add-j : tie.Need-add-j Inv-loop μ-loop
+add-j c = search needs
 
 loop-less : tie.Need-loop-less Inv-loop μ-loop
 loop-less c = search needs
@@ -38,16 +39,16 @@ loop-less c = search needs
 loop-again : tie.Need-loop-again Inv-loop μ-loop
 loop-again c =
     let n = c .before .before .before .args .n in
-    let i = c .before .before .loop .i in (
-      search needs,
-      length-set (c .before .before .loop .words) i (c .word-below .result) ∙ c .before .before .loop .inv .1,
-      upTo-more (λ m. ltb m n) (λ m. false) 16 i (c .word-below .result) (c .before .before .loop .inv .2)
-          (subst (λ (x : ℕ). x < 2 ^ 64) (sym (c .word-below .ensures)) (wordOf-lt (λ k. ltb (i * 64 + k) n) 64))
-          (λ m l e. ap (λ (x : ℕ). bit x (m % 64)) (c .word-below .ensures) ∙ bit-wordOf (λ k. ltb (i * 64 + k) n) 64 (m % 64) (omega arith) ∙ ap (λ (x : ℕ). ltb x n) (omega arith)),
-    )
+    let t = c .before .before .loop in
+    let x = c .word-below .result in
+    let e = c .word-below .ensures in
+    let grown =
+    upTo-more (λ m. ltb m n) (λ m. false) 16 (t .j) x (t .inv .2) (subst (λ (y : ℕ). y < 2 ^ 64) (sym e) (wordOf-lt (λ d. ltb (t .j * 64 + d) n) 64))
+    (λ m l q. ap (λ (y : ℕ). bit y (m % 64)) e ∙ bit-wordOf (λ d. ltb (t .j * 64 + d) n) 64 (m % 64) (omega arith) ∙ ap (λ (y : ℕ). ltb y n) (omega arith)) in
+    (search needs, length-set (t .words) (t .j) x ∙ t .inv .1, grown)
 
 returns : tie.Need-returns Inv-loop μ-loop
-returns c = upTo-all (λ m. ltb m (c .before .before .args .n)) (λ m. false) 16 (c .before .loop .i) (omega arith) (c .before .loop .inv .2)
+returns c = upTo-all (λ m. ltb m (c .before .before .args .n)) (λ m. false) 16 (c .before .loop .j) (omega arith) (c .before .loop .inv .2)
 
 pub whole-spec : {M : Type 1} → statement M
 whole-spec =
@@ -59,7 +60,7 @@ whole-spec =
     word-below-requires
     mul-words
     array-write-words
-    add-i
+    add-j
     loop-less
     loop-again
     returns)
