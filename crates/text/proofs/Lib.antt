@@ -1,0 +1,4 @@
+pub mod Parts
+pub mod Items
+pub mod Decimals
+pub mod Pool
