@@ -10,6 +10,7 @@ use lib.ListN.{length, getD, take, drop, drop-of-length-le}
 use lib.Seq.{slice, slice-cons, slice-empty, drop-cons, getD-drop, getD-take}
 use Rattle.base.specs.Lists.{allb}
 use Rattle.base.specs.Bytes.{eql}
+use Rattle.base.proofs.Bools.{and-left, and-right, and-both}
 
 pub slice-at : (s : List ℕ) (f t j : ℕ) → f + j < t → getD (slice f t s) j 0 ≡ getD s (f + j) 0
 slice-at s f t j h = getD-drop f (take t s) j 0 ∙ getD-take t s (f + j) 0 h
@@ -33,6 +34,11 @@ module _ (p : ℕ → Bool) (s : List ℕ) (t : ℕ) where
   pub all-fails : (i : ℕ) → i < t → t ≤ length s → p (getD s i 0) ≡ false → allb p (slice i t s) ≡ false
   unfolding allb
   all-fails i h k e = rw (slice-cons i t s 0 h k, e)
+
+pub allb-mono : (p q : ℕ → Bool) → ((x : ℕ) → p x ≡ true → q x ≡ true) → (w : List ℕ) → allb p w ≡ true → allb q w ≡ true
+unfolding allb
+allb-mono p q h [] e = refl
+allb-mono p q h (x ∷ w) e = and-both (q x) (allb q w) (h x (and-left (p x) (allb p w) e)) (allb-mono p q h w (and-right (p x) (allb p w) e))
 
 -- ---- two lists, compared from an index on
 module _ (a b : List ℕ) (j : ℕ) where

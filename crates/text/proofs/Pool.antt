@@ -1,15 +1,13 @@
 -- Padded names and the search for one, by position.
 use Prim.Native.Nat.{ℕ, zero, suc, _+_, _-_, _*_, _<_, _≤_}
 use mathlib.Core.Path.{_≡_, refl, sym, ap, _∙_}
-use mathlib.Core.List.{List, [], _∷_, _++_}
+use mathlib.Core.List.{List, [], _∷_, _++_, append-assoc}
 use mathlib.Core.Bool.{Bool, true, false, cond}
 use native.Mathlib.Numerals.{add-one}
 use native.Mathlib.Omega.{arith}
 use lib.ListN.{length, getD, take, drop, replicate, length-append, length-replicate, List·getD-append}
 use lib.Seq.{slice, length-slice, getD-append-add, paste, take-all}
-use Rattle.base.specs.Bytes.{eql}
-use Rattle.text.specs.Pool.{padded, findFrom, find, store}
-use Rattle.text.specs.declared.Found.{Found}
+use Rattle.text.specs.Pool.{padded, firstFrom, store}
 use Rattle.text.specs.declared.Found.the-variants.{At, Nothing}
 use Rattle.text.proofs.Parts.{slice-at}
 
@@ -39,23 +37,23 @@ pub padded-length : (w : List ℕ) → length w ≤ 32 → length (padded w) ≡
 unfolding padded
 padded-length w h = simp (length-append, length-replicate) (omega arith)
 
--- a search, from a number on
-module _ (names : List ℕ) (base : ℕ) (p : List ℕ) (n k : ℕ) (l : k < n) where
+-- ---- a search, from a number on
+module _ (p : ℕ → Bool) (n k : ℕ) (l : k < n) where
   left : n - k ≡ suc (n - (k + 1))
   left = omega arith
 
-  pub find-here : eql p (slice (base + k * 32) (base + k * 32 + 32) names) ≡ true → findFrom names base p (n - k) k ≡ At k
-  unfolding findFrom
-  find-here e = rw (left, e)
+  pub first-here : p k ≡ true → firstFrom p (n - k) k ≡ At k
+  unfolding firstFrom
+  first-here e = rw (left, e)
 
-  pub find-step : eql p (slice (base + k * 32) (base + k * 32 + 32) names) ≡ false → findFrom names base p (n - k) k ≡ findFrom names base p (n - (k + 1)) (k + 1)
-  unfolding findFrom
-  find-step e = rw (left, e, add-one k)
+  pub first-step : p k ≡ false → firstFrom p (n - k) k ≡ firstFrom p (n - (k + 1)) (k + 1)
+  unfolding firstFrom
+  first-step e = rw (left, e, add-one k)
 
-pub find-none : (names : List ℕ) (base : ℕ) (p : List ℕ) (n k : ℕ) → n ≤ k → findFrom names base p (n - k) k ≡ Nothing
-unfolding findFrom
-find-none names base p n k h = let e : n - k ≡ 0 = omega arith in rw e
+pub first-none : (p : ℕ → Bool) (n k : ℕ) → n ≤ k → firstFrom p (n - k) k ≡ Nothing
+unfolding firstFrom
+first-none p n k h = let e : n - k ≡ 0 = omega arith in rw e
 
 pub store-done : (l v : List ℕ) (i : ℕ) → paste l i v (length v) ≡ store l i v
 unfolding store
-store-done l v i = rw (take-all (length v) v (omega arith))
+store-done l v i = rw (take-all (length v) v (omega arith)) (append-assoc (take i l) v (drop (i + length v) l))

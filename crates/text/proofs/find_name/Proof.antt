@@ -6,8 +6,9 @@ use borrow.Author.Needs.{needs}
 use native.Mathlib.Omega.{arith}
 use lib.ListN.{length}
 use lib.Seq.{slice}
-use Rattle.text.specs.Pool.{padded, findFrom, find}
-use Rattle.text.proofs.Pool.{find-here, find-step, find-none}
+use Rattle.base.specs.Bytes.{eql}
+use Rattle.text.specs.Pool.{padded, firstFrom, place, find}
+use Rattle.text.proofs.Pool.{first-here, first-step, first-none}
 use Rattle.text.proofs.find_name.Statement.{statement}
 use Rattle.text.proofs.find_name.Tie as tie
 use Rattle.text.proofs.find_name.Reads as reads
@@ -16,7 +17,7 @@ use Rattle.text.proofs.same_name.Reads as same-name-reads
 
 abbrev Inv-loop : tie.InvT-loop
 Inv-loop names base count book at end k₀ k =
-    (k ≤ count) × (find names base count (slice at end book) ≡ findFrom names base (padded (slice at end book)) (count - k) k)
+    (k ≤ count) × (find names base count (slice at end book) ≡ firstFrom (λ i. eql (padded (slice at end book)) (place names base i)) (count - k) k)
 
 abbrev μ-loop : tie.MeasureT-loop
 μ-loop names base count book at end k₀ k = count - k
@@ -39,7 +40,7 @@ returns c =
     let l = c .before .before .before in
     let s = l .before .before .before in
     let w : List ℕ = padded (slice (s .args .at) (s .args .end) (s .args .book .now)) in
-    sym (l .loop .inv .1 ∙ find-here (s .args .names .now) (s .args .base) w (s .args .count) (l .loop .k) (c .before .before .loop-test .taken) (sym (c .before .same-name .ensures) ∙ c .if1 .taken))
+    sym (l .loop .inv .1 ∙ first-here (λ i. eql w (place (s .args .names .now) (s .args .base) i)) (s .args .count) (l .loop .k) (c .before .before .loop-test .taken) (sym (c .before .same-name .ensures) ∙ c .if1 .taken))
 
 add-k : tie.Need-add-k Inv-loop μ-loop
 add-k c = search needs
@@ -52,14 +53,14 @@ loop-again c =
     let l = c .before .before .before in
     let s = l .before .before .before in
     let w : List ℕ = padded (slice (s .args .at) (s .args .end) (s .args .book .now)) in
-    (omega arith, l .loop .inv .1 ∙ find-step (s .args .names .now) (s .args .base) w (s .args .count) (l .loop .k) (c .before .before .loop-test .taken) (sym (c .before .same-name .ensures) ∙ c .if1 .left))
+    (omega arith, l .loop .inv .1 ∙ first-step (λ i. eql w (place (s .args .names .now) (s .args .base) i)) (s .args .count) (l .loop .k) (c .before .before .loop-test .taken) (sym (c .before .same-name .ensures) ∙ c .if1 .left))
 
 returns-2 : tie.Need-returns-2 Inv-loop μ-loop
 returns-2 c =
     let l = c .before in
     let s = l .before .before .before in
     let w : List ℕ = padded (slice (s .args .at) (s .args .end) (s .args .book .now)) in
-    sym (l .loop .inv .1 ∙ find-none (s .args .names .now) (s .args .base) w (s .args .count) (l .loop .k) (c .loop-test .left))
+    sym (l .loop .inv .1 ∙ first-none (λ i. eql w (place (s .args .names .now) (s .args .base) i)) (s .args .count) (l .loop .k) (c .loop-test .left))
 
 pub find-name-spec : {M : Type 1} → statement M
 find-name-spec =
