@@ -86,7 +86,7 @@ module _ (s : List ℕ) (above : Book) where
   subjectAt at = andThen (usedAt nodes at) (λ v next. cond (isResource (getD (collect newTerms above) v iri)) (got v next) (refused 2))
 
   unfoldable pub literalTypeAt : ℕ → Read ℕ
-  literalTypeAt at = andThen (usedAt types at) (λ t next. cond (eqb t langString) (refused 2) (got t next))
+  literalTypeAt at = andThen (usedAt types at) (λ t next. cond (not (eqb t langString)) (got t next) (refused 2))
 
   abbrev pub unknown : Found → Read Name → Read Name
   unknown (Found.At k) r = refused 6
