@@ -56,7 +56,7 @@ unfolding anyb
 nothing-fresh [] w n = refl
 nothing-fresh (x ∷ ws) w n = ap₂ (λ (a b : Bool). a || b) (bool-cases (λ b. eql w x ≡ b → b ≡ false) (eql w x) (λ e f. absurd (n 0 (omega arith) (sym (eql-true w x f)))) (λ _ _. refl) refl) (nothing-fresh ws w (λ j l q. n (suc j) (omega arith) q))
 
-named-plain : (p : Pool) (n : Name) → wellNamed p n ≡ true → allb plain n ≡ true
+pub named-plain : (p : Pool) (n : Name) → wellNamed p n ≡ true → allb plain n ≡ true
 unfolding wellNamed
 named-plain p n e = names-plain n (and-left (isName n) (not (reserved p n)) e)
 

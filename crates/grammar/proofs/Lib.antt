@@ -1,2 +1,3 @@
 pub mod Exact
 pub mod Leaves
+pub mod Args
