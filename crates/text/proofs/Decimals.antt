@@ -1,16 +1,16 @@
 -- Decimals by position: the value of digits, and what a part is read as in each case.
 use Prim.Native.Nat.{ℕ, zero, suc, _+_, _-_, _*_, _<_, _≤_}
-use mathlib.Core.Path.{_≡_, refl, sym, ap, _∙_}
+use mathlib.Core.Path.{_≡_, refl, ap, _∙_}
 use mathlib.Core.List.{List, [], _∷_}
 use mathlib.Core.Bool.{Bool, true, false, not, cond, _&&_, _||_, and-eq-true-iff}
 use mathlib.Core.Logic.{⊎-elim}
 use native.Mathlib.Numerals.{add-one, sub-one}
 use native.Mathlib.Nat.{zero-add, eq-or-lt-of-le, le-refl}
 use native.Mathlib.Omega.{arith}
-use borrow.Author.Tests.{leb-true, ltb-false, ne-eqb, le-ltb, lt-ltb, le-leb, lt-leb}
+use borrow.Author.Tests.{leb-true, ltb-false, ne-eqb, le-ltb, lt-ltb, lt-leb}
 use lib.Dec.{ltb, leb, eqb}
 use lib.IntN.{ℤ, pos, negsuc, negℤ, _-ℤ_}
-use lib.ListN.{length, getD, drop}
+use lib.ListN.{length, getD}
 use lib.Seq.{slice, length-slice, slice-cons, slice-empty}
 use mir.Syntax.{w64}
 use mir.Val.{toZ, ofZ, SFits}
@@ -109,30 +109,30 @@ neg-suc (suc v) n = rw sub-one
 
 -- ---- the readings, by magnitude
 module _ (s : List ℕ) (e : magOf s ≡ Mag.Not) where
-  pub positive-not : positiveOf s ≡ Number.Not
+  pub positive-none : positiveOf s ≡ Number.Not
   unfolding positiveOf
-  positive-not = rw (not-mag s e)
+  positive-none = rw (not-mag s e)
 
-  pub negative-not : negativeOf s ≡ Number.Not
+  pub negative-none : negativeOf s ≡ Number.Not
   unfolding negativeOf
-  negative-not = rw (not-mag s e)
+  negative-none = rw (not-mag s e)
 
-  pub bound-not : boundOf s ≡ Bound.Not
+  pub bound-none : boundOf s ≡ Bound.Not
   unfolding boundOf
-  bound-not = rw (not-mag s e)
+  bound-none = rw (not-mag s e)
 
 module _ (s : List ℕ) (e : magOf s ≡ Mag.Over) where
-  pub positive-over : positiveOf s ≡ Number.Range
+  pub positive-long : positiveOf s ≡ Number.Range
   unfolding positiveOf
-  positive-over = let m = over-mag s e in rw (m .0, le-ltb (valueFrom 0 s) 9223372036854775808 (omega arith))
+  positive-long = let m = over-mag s e in rw (m .0, le-ltb (valueFrom 0 s) 9223372036854775808 (omega arith))
 
-  pub negative-over : negativeOf s ≡ Number.Range
+  pub negative-long : negativeOf s ≡ Number.Range
   unfolding negativeOf
-  negative-over = let m = over-mag s e in rw (m .0, ne-eqb (valueFrom 0 s) 0 (λ z. omega arith), lt-leb (valueFrom 0 s) 9223372036854775808 (omega arith))
+  negative-long = let m = over-mag s e in rw (m .0, ne-eqb (valueFrom 0 s) 0 (λ z. omega arith), lt-leb (valueFrom 0 s) 9223372036854775808 (omega arith))
 
-  pub bound-over : boundOf s ≡ Bound.Over
+  pub bound-long : boundOf s ≡ Bound.Over
   unfolding boundOf
-  bound-over = let m = over-mag s e in rw (m .0, lt-leb (valueFrom 0 s) 1024 (omega arith))
+  bound-long = let m = over-mag s e in rw (m .0, lt-leb (valueFrom 0 s) 1024 (omega arith))
 
 module _ (s : List ℕ) (v : ℕ) (e : magOf s ≡ Mag.Is v) where
   pub positive-is : positiveOf s ≡ cond (ltb v 9223372036854775808) (Number.Value (pos v)) Number.Range

@@ -4,13 +4,12 @@ use mathlib.Core.Path.{_≡_, refl, sym, ap, _∙_, subst}
 use mathlib.Core.List.{List, [], _∷_, _++_, append-assoc, map}
 use mathlib.Core.Bool.{Bool, true, false, not, cond, _&&_, _||_, true≢false, and-true}
 use mathlib.Core.Logic.{_⊎_, inl, inr, ⊎-elim, _↔_}
-use native.Mathlib.Nat.{div-lt-self, mod-lt, div-add-mod', div-eq-of-lt, mod-eq-of-lt, le-trans, le-refl}
-use native.Mathlib.Numerals.{sub-one}
+use native.Mathlib.Nat.{div-lt-self, mod-lt, div-add-mod', le-refl}
 use native.Mathlib.Omega.{arith}
-use borrow.Author.Tests.{eq-eqb, ne-eqb, eqb-true, eqb-false, ltb-true, ltb-false, lt-ltb, le-ltb, leb-true, leb-false, le-leb, lt-leb, not-true}
+use borrow.Author.Tests.{ne-eqb, eqb-true, eqb-false, ltb-true, ltb-false, lt-ltb, le-ltb, leb-true, leb-false, le-leb, lt-leb, not-true}
 use lib.Dec.{eqb, ltb, leb}
 use lib.IntN.{ℤ, pos, negsuc, negℤ}
-use lib.ListN.{length, getD, drop, length-append, List·getD-append}
+use lib.ListN.{length, getD, length-append, List·getD-append}
 use Rattle.base.specs.Lists.{allb}
 use Rattle.base.specs.Bytes.{bytes}
 use Rattle.base.proofs.Bools.{bool-cases, and-left, and-right, and-both, or-cases, never-both, same-test}
@@ -23,17 +22,15 @@ use Rattle.text.proofs.Words.{plain, digits-plain}
 
 -- ---- the two equations of `decimal`
 -- any bound above n gives the same digits
-digits-bound : (j k n : ℕ) → n < j → n < k → digitsOf j n ≡ digitsOf k n
+digits-bound : (j k n : ℕ) (one : Bool) → ltb n 10 ≡ one → n < j → n < k → digitsOf j one n ≡ digitsOf k one n
 unfolding digitsOf
-digits-bound zero k n h l = absurd (omega arith)
-digits-bound (suc j) zero n h l = absurd (omega arith)
-digits-bound (suc j) (suc k) n h l = bool-cases (λ b. ltb n 10 ≡ b → digitsOf (suc j) n ≡ digitsOf (suc k) n) (ltb n 10)
-    (λ _ e. rw e)
-    (λ _ e.
+digits-bound zero k n one e h l = absurd (omega arith)
+digits-bound (suc j) zero n one e h l = absurd (omega arith)
+digits-bound (suc j) (suc k) n true e h l = refl
+digits-bound (suc j) (suc k) n false e h l =
     let t = ltb-false n 10 e in
     let d : n / 10 < n = div-lt-self (omega arith) (omega arith) in
-    rw e (ap (λ (r : List ℕ). r ++ ((48 + n % 10) ∷ [])) (digits-bound j k (n / 10) (omega arith) (omega arith))))
-    refl
+    ap (λ (r : List ℕ). r ++ ((48 + n % 10) ∷ [])) (digits-bound j k (n / 10) (ltb (n / 10) 10) refl (omega arith) (omega arith))
 
 pub decimal-digit : (n : ℕ) → n < 10 → decimal n ≡ (48 + n) ∷ []
 unfolding decimal digitsOf
@@ -43,7 +40,7 @@ pub decimal-more : (n : ℕ) → 10 ≤ n → decimal n ≡ decimal (n / 10) ++ 
 unfolding decimal digitsOf
 decimal-more n h =
     let d : n / 10 < n = div-lt-self (omega arith) (omega arith) in
-    rw (le-ltb n 10 h) (ap (λ (r : List ℕ). r ++ ((48 + n % 10) ∷ [])) (digits-bound n (suc (n / 10)) (n / 10) d (le-refl (suc (n / 10)))))
+    rw (le-ltb n 10 h) (ap (λ (r : List ℕ). r ++ ((48 + n % 10) ∷ [])) (digits-bound n (suc (n / 10)) (n / 10) (ltb (n / 10) 10) refl d (le-refl (suc (n / 10)))))
 
 -- a digit after a number above zero
 decimal-snoc : (v c : ℕ) → 0 < v → c < 10 → decimal (v * 10 + c) ≡ decimal v ++ ((48 + c) ∷ [])
@@ -163,58 +160,62 @@ decimal-mag n =
     front zero = rw (decimal-digit 0 (omega arith))
     front (suc n) = rw (ne-eqb (getD (decimal (suc n)) 0 0) 48 (decimal-first (suc n) (omega arith)))
 
--- ---- a reading that takes what is written of some values, and no other text
--- `val` for those that pass `ok`, `out` for the others; `none` for any other text
-module _ {A N : Type 0} (write : A → List ℕ) (ok : A → Bool) (read : List ℕ → N) (val : A → N) (out none : N)
-    (same : (a b : A) → val a ≡ val b → a ≡ b) (val-out : (a : A) → val a ≡ out → ⊥) (val-none : (a : A) → val a ≡ none → ⊥) (out-none : out ≡ none → ⊥)
-    (forth : (a : A) → read (write a) ≡ cond (ok a) (val a) out) (back : (s : List ℕ) → (read s ≡ none) ⊎ ((a : A) × (s ≡ write a))) where
+-- ---- a reading of what is written of some values, and of no other text
+-- `val` for the values that pass `ok`, `out` for the others, `none` for any other text; `tell` tells the three apart
+record Reading {A N : Type 0} (write : A → List ℕ) (ok : A → Bool) (read : List ℕ → N) (val : A → N) (out none : N) : Type 0 where
+  tell : N → ℕ
+  tells : (a : A) → (tell (val a) ≡ 0) × (tell out ≡ 1) × (tell none ≡ 2)
+  same : (a b : A) → val a ≡ val b → a ≡ b
+  forth : (a : A) → read (write a) ≡ cond (ok a) (val a) out
+  back : (s : List ℕ) → (read s ≡ none) ⊎ ((a : A) × (s ≡ write a))
+
+module _ {A N : Type 0} {write : A → List ℕ} {ok : A → Bool} {read : List ℕ → N} {val : A → N} {out none : N} (r : Reading write ok read val out none) where
+  -- two of the three for one text
+  val-out : {x : N} (a : A) → x ≡ val a → x ≡ out → ⊥
+  val-out a e f = let t = r .tells a in let z : _≡_ {A = ℕ} 0 1 = sym (t .0) ∙ ap (r .tell) (sym e ∙ f) ∙ t .1 in omega arith
+
+  val-none : {x : N} (a : A) → x ≡ val a → x ≡ none → ⊥
+  val-none a e f = let t = r .tells a in let z : _≡_ {A = ℕ} 0 2 = sym (t .0) ∙ ap (r .tell) (sym e ∙ f) ∙ t .2 in omega arith
+
+  out-none : {x : N} (a : A) → x ≡ out → x ≡ none → ⊥
+  out-none a e f = let t = r .tells a in let z : _≡_ {A = ℕ} 1 2 = sym (t .1) ∙ ap (r .tell) (sym e ∙ f) ∙ t .2 in omega arith
+
   takes : (s : List ℕ) (a : A) → s ≡ write a → read s ≡ cond (ok a) (val a) out
-  takes s a e = ap read e ∙ forth a
+  takes s a e = ap read e ∙ r .forth a
 
   value-iff : (s : List ℕ) (a : A) → (read s ≡ val a) ↔ ((s ≡ write a) × (ok a ≡ true))
   value-iff s a = (
-    λ e. ⊎-elim (λ n. absurd (val-none a (sym e ∙ n))) (λ w. pick (w .0) (w .1) (ok (w .0)) refl (sym (takes s (w .0) (w .1)) ∙ e)) (back s),
+    λ e. ⊎-elim (λ n. absurd (val-none a e n)) (λ w. pick (w .0) (w .1) (ok (w .0)) refl (sym e ∙ takes s (w .0) (w .1))) (r .back s),
     λ w. takes s a (w .0) ∙ ap (λ (b : Bool). cond b (val a) out) (w .1),
   )
     where
-      pick : (b : A) → s ≡ write b → (t : Bool) → ok b ≡ t → cond t (val b) out ≡ val a → (s ≡ write a) × (ok a ≡ true)
-      pick b q true k e = let z = same b a e in (q ∙ ap write z, ap ok (sym z) ∙ k)
-      pick b q false k e = absurd (val-out a (sym e))
+      pick : (b : A) → s ≡ write b → (t : Bool) → ok b ≡ t → val a ≡ cond t (val b) out → (s ≡ write a) × (ok a ≡ true)
+      pick b q true k e = let z = r .same a b e in (q ∙ ap write (sym z), ap ok z ∙ k)
+      pick b q false k e = absurd (val-out a refl e)
 
-  out-iff : (s : List ℕ) → (read s ≡ out) ↔ ((a : A) × (s ≡ write a) × (ok a ≡ false))
-  out-iff s = (
-    λ e. ⊎-elim (λ n. absurd (out-none (sym e ∙ n))) (λ w. (w .0, w .1, pick (w .0) (ok (w .0)) refl (sym (takes s (w .0) (w .1)) ∙ e))) (back s),
+  -- some value is there, so that the three are told apart
+  out-iff : A → (s : List ℕ) → (read s ≡ out) ↔ ((a : A) × (s ≡ write a) × (ok a ≡ false))
+  out-iff any s = (
+    λ e. ⊎-elim (λ n. absurd (out-none any e n)) (λ w. (w .0, w .1, pick (w .0) (ok (w .0)) refl (sym (takes s (w .0) (w .1)) ∙ e))) (r .back s),
     λ w. takes s (w .0) (w .1) ∙ ap (λ (b : Bool). cond b (val (w .0)) out) (w .2),
   )
     where
       pick : (b : A) (t : Bool) → ok b ≡ t → cond t (val b) out ≡ out → ok b ≡ false
-      pick b true k e = absurd (val-out b e)
+      pick b true k e = absurd (val-out b refl e)
       pick b false k e = k
 
   none-iff : (s : List ℕ) → (read s ≡ none) ↔ ((a : A) → s ≡ write a → ⊥)
   none-iff s = (
     λ e a q. pick a (ok a) (sym (takes s a q) ∙ e),
-    λ n. ⊎-elim (λ e. e) (λ w. absurd (n (w .0) (w .1))) (back s),
+    λ n. ⊎-elim (λ e. e) (λ w. absurd (n (w .0) (w .1))) (r .back s),
   )
     where
       pick : (b : A) (t : Bool) → cond t (val b) out ≡ none → ⊥
-      pick b true e = val-none b e
-      pick b false e = out-none e
+      pick b true e = val-none b refl e
+      pick b false e = out-none b refl e
 
 -- ---- signed decimals
 module _ where
-  number-same : (a b : ℤ) → Number.Value a ≡ Number.Value b → a ≡ b
-  number-same a b e = cc
-
-  value-range : (a : ℤ) → Number.Value a ≡ Number.Range → ⊥
-  value-range a e = let z : _≡_ {A = ℕ} 0 1 = cc in omega arith
-
-  value-not : (a : ℤ) → Number.Value a ≡ Number.Not → ⊥
-  value-not a e = let z : _≡_ {A = ℕ} 0 1 = cc in omega arith
-
-  range-not : Number.Range ≡ Number.Not → ⊥
-  range-not e = let z : _≡_ {A = ℕ} 0 1 = cc in omega arith
-
   no-minus : (n : ℕ) → eqb (getD (decimal n) 0 0) 45 ≡ false
   unfolding allb
   no-minus n = go (decimal n) (decimal-some n) (decimal-digits n)
@@ -264,35 +265,31 @@ module _ where
       (λ _ e. plain-back (x ∷ s) e)
       refl
 
--- a number of the range is read back from what is written of it, and only from that
-pub number-signed : (z : ℤ) → inRange z ≡ true → numberOf (signed z) ≡ Number.Value z
-number-signed z e = signed-forth z ∙ ap (λ (b : Bool). cond b (Number.Value z) Number.Range) e
+abbrev tell-number : Number → ℕ
+tell-number (Number.Value z) = 0
+tell-number Number.Range = 1
+tell-number Number.Not = 2
 
+numbers : Reading signed inRange numberOf Number.Value Number.Range Number.Not
+numbers = record { tell = tell-number; tells = λ a. (refl, refl, refl); same = λ a b e. cc; forth = signed-forth; back = signed-back }
+
+-- a number of the range is read from what is written of it, and from no other text
 pub number-value : (s : List ℕ) (z : ℤ) → (numberOf s ≡ Number.Value z) ↔ ((s ≡ signed z) × (inRange z ≡ true))
-number-value = value-iff signed inRange numberOf Number.Value Number.Range Number.Not number-same value-range value-not range-not signed-forth signed-back
+number-value = value-iff numbers
 
--- out of the range: a well written decimal of a number that is not in it
+-- out of the range: what is written of a number that is not in it
 pub number-range : (s : List ℕ) → (numberOf s ≡ Number.Range) ↔ ((z : ℤ) × (s ≡ signed z) × (inRange z ≡ false))
-number-range = out-iff signed inRange numberOf Number.Value Number.Range Number.Not number-same value-range value-not range-not signed-forth signed-back
+number-range = out-iff numbers (pos 0)
 
--- not a number: what no number is written as
+-- not a number: what is written of none
 pub number-not : (s : List ℕ) → (numberOf s ≡ Number.Not) ↔ ((z : ℤ) → s ≡ signed z → ⊥)
-number-not = none-iff signed inRange numberOf Number.Value Number.Range Number.Not number-same value-range value-not range-not signed-forth signed-back
+number-not = none-iff numbers
+
+pub number-signed : (z : ℤ) → inRange z ≡ true → numberOf (signed z) ≡ Number.Value z
+number-signed z e = number-value (signed z) z .1 (refl, e)
 
 -- ---- bounds
 module _ where
-  bound-same : (a b : ℕ) → Bound.Value a ≡ Bound.Value b → a ≡ b
-  bound-same a b e = cc
-
-  value-over : (a : ℕ) → Bound.Value a ≡ Bound.Over → ⊥
-  value-over a e = let z : _≡_ {A = ℕ} 0 1 = cc in omega arith
-
-  value-no : (a : ℕ) → Bound.Value a ≡ Bound.Not → ⊥
-  value-no a e = let z : _≡_ {A = ℕ} 0 1 = cc in omega arith
-
-  over-no : Bound.Over ≡ Bound.Not → ⊥
-  over-no e = let z : _≡_ {A = ℕ} 0 1 = cc in omega arith
-
   bound-forth : (n : ℕ) → boundOf (decimal n) ≡ cond (leb n 1024) (Bound.Value n) Bound.Over
   unfolding boundOf
   bound-forth n = rw (decimal-mag n, value-decimal n)
@@ -304,17 +301,29 @@ module _ where
       (λ _ e. inl (rw e))
       refl
 
+abbrev tell-bound : Bound → ℕ
+tell-bound (Bound.Value n) = 0
+tell-bound Bound.Over = 1
+tell-bound Bound.Not = 2
+
+bounds : Reading decimal (λ n. leb n 1024) boundOf Bound.Value Bound.Over Bound.Not
+bounds = record { tell = tell-bound; tells = λ a. (refl, refl, refl); same = λ a b e. cc; forth = bound-forth; back = bound-back }
+
+pub bound-value : (s : List ℕ) (n : ℕ) → (boundOf s ≡ Bound.Value n) ↔ ((s ≡ decimal n) × (n ≤ 1024))
+bound-value s n =
+    let i = value-iff bounds s n in
+    (λ e. (i .0 e .0, leb-true n 1024 (i .0 e .1)), λ w. i .1 (w .0, le-leb n 1024 (w .1)))
+
+pub bound-over : (s : List ℕ) → (boundOf s ≡ Bound.Over) ↔ ((n : ℕ) × (s ≡ decimal n) × (1024 < n))
+bound-over s =
+    let i = out-iff bounds 0 s in
+    (λ e. let w = i .0 e in (w .0, w .1, leb-false (w .0) 1024 (w .2)), λ w. i .1 (w .0, w .1, lt-leb (w .0) 1024 (w .2)))
+
+pub bound-not : (s : List ℕ) → (boundOf s ≡ Bound.Not) ↔ ((n : ℕ) → s ≡ decimal n → ⊥)
+bound-not = none-iff bounds
+
 pub bound-decimal : (n : ℕ) → n ≤ 1024 → boundOf (decimal n) ≡ Bound.Value n
-bound-decimal n h = bound-forth n ∙ ap (λ (b : Bool). cond b (Bound.Value n) Bound.Over) (le-leb n 1024 h)
-
-pub bound-value : (s : List ℕ) (n : ℕ) → (boundOf s ≡ Bound.Value n) ↔ ((s ≡ decimal n) × (leb n 1024 ≡ true))
-bound-value = value-iff decimal (λ n. leb n 1024) boundOf Bound.Value Bound.Over Bound.Not bound-same value-over value-no over-no bound-forth bound-back
-
-pub bound-out : (s : List ℕ) → (boundOf s ≡ Bound.Over) ↔ ((n : ℕ) × (s ≡ decimal n) × (leb n 1024 ≡ false))
-bound-out = out-iff decimal (λ n. leb n 1024) boundOf Bound.Value Bound.Over Bound.Not bound-same value-over value-no over-no bound-forth bound-back
-
-pub bound-none : (s : List ℕ) → (boundOf s ≡ Bound.Not) ↔ ((n : ℕ) → s ≡ decimal n → ⊥)
-bound-none = none-iff decimal (λ n. leb n 1024) boundOf Bound.Value Bound.Over Bound.Not bound-same value-over value-no over-no bound-forth bound-back
+bound-decimal n h = bound-value (decimal n) n .1 (refl, h)
 
 -- ---- a decimal is an item
 pub decimal-plain : (n : ℕ) → allb plain (decimal n) ≡ true
@@ -333,7 +342,14 @@ signed-injective (pos m) (negsuc n) e = absurd (never-both (ap (λ (s : List ℕ
 signed-injective (negsuc m) (pos n) e = absurd (never-both (ap (λ (s : List ℕ). eqb (getD s 0 0) 45) (sym e)) (no-minus n))
 
 -- ---- the edges, computed
-pub edges : map (λ s. numberOf (bytes s)) ("-0" ∷ "+1" ∷ "01" ∷ "--1" ∷ "" ∷ "-" ∷ "9223372036854775807" ∷ "9223372036854775808" ∷ "-9223372036854775808" ∷ "-9223372036854775809" ∷ "0" ∷ "-1" ∷ [])
-    ≡ Number.Not ∷ Number.Not ∷ Number.Not ∷ Number.Not ∷ Number.Not ∷ Number.Not ∷ Number.Value (pos 9223372036854775807) ∷ Number.Range ∷ Number.Value (negℤ (pos 9223372036854775808)) ∷ Number.Range ∷ Number.Value (pos 0) ∷ Number.Value (negsuc 0) ∷ []
-unfolding numberOf positiveOf negativeOf isMag valueFrom allb digit
-edges = refl
+abbrev Cases : Type 0
+Cases =
+    (map (λ s. numberOf (bytes s)) ("-0" ∷ "+1" ∷ "01" ∷ "--1" ∷ "" ∷ "-" ∷ []) ≡ Number.Not ∷ Number.Not ∷ Number.Not ∷ Number.Not ∷ Number.Not ∷ Number.Not ∷ [])
+    × (map (λ s. numberOf (bytes s)) ("9223372036854775807" ∷ "-9223372036854775808" ∷ "0" ∷ "-1" ∷ []) ≡ map Number.Value (pos 9223372036854775807 ∷ negℤ (pos 9223372036854775808) ∷ pos 0 ∷ negℤ (pos 1) ∷ []))
+    × (map (λ s. numberOf (bytes s)) ("9223372036854775808" ∷ "-9223372036854775809" ∷ []) ≡ Number.Range ∷ Number.Range ∷ [])
+    × (map (λ s. boundOf (bytes s)) ("0" ∷ "1024" ∷ "1025" ∷ "99999999999999999999" ∷ "01" ∷ "-1" ∷ "" ∷ []) ≡ Bound.Value 0 ∷ Bound.Value 1024 ∷ Bound.Over ∷ Bound.Over ∷ Bound.Not ∷ Bound.Not ∷ Bound.Not ∷ [])
+    × (map signed (negℤ (pos 9223372036854775808) ∷ pos 0 ∷ pos 1024 ∷ []) ≡ bytes "-9223372036854775808" ∷ bytes "0" ∷ bytes "1024" ∷ [])
+
+pub cases : Cases
+unfolding numberOf positiveOf negativeOf boundOf isMag valueFrom allb digit signed decimal digitsOf
+cases = (refl, refl, refl, refl, refl)

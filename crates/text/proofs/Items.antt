@@ -1,6 +1,6 @@
 -- Where an item ends, and what a name is, by position.
 use Prim.Native.Nat.{ℕ, suc, _+_, _-_, _<_, _≤_, zero-le, suc-le-suc}
-use mathlib.Core.Path.{_≡_, refl, sym, ap, _∙_}
+use mathlib.Core.Path.{_≡_}
 use mathlib.Core.List.{List, [], _∷_}
 use mathlib.Core.Bool.{Bool, true, false, cond, _&&_}
 use native.Mathlib.Numerals.{add-one}

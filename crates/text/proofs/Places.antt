@@ -4,16 +4,13 @@ use mathlib.Core.Path.{_≡_, refl, sym, ap, ap₂, _∙_, subst}
 use mathlib.Core.List.{List, [], _∷_, _++_, append-assoc, append-nil}
 use mathlib.Core.Bool.{Bool, true, false, cond, _&&_, and-assoc}
 use mathlib.Core.Logic.{⊎-elim, _↔_}
-use native.Mathlib.Nat.{eq-or-lt-of-le, le-refl, zero-add}
-use native.Mathlib.Numerals.{add-one}
+use native.Mathlib.Nat.{eq-or-lt-of-le, le-refl}
 use native.Mathlib.Omega.{arith}
-use borrow.Author.Tests.{eqb-true}
-use lib.Dec.{eqb}
-use lib.ListN.{length, getD, replicate, length-append, length-replicate, List·getD-append}
-use lib.Seq.{slice, getD-append-add}
+use lib.ListN.{length, getD, replicate, length-append, List·getD-append}
+use lib.Seq.{slice}
 use Rattle.base.specs.Lists.{allb}
 use Rattle.base.specs.Bytes.{eql}
-use Rattle.base.proofs.Bools.{bool-cases, and-left, and-right, and-both, never-both, same-test}
+use Rattle.base.proofs.Bools.{bool-cases, and-left, and-right, never-both, same-test}
 use Rattle.base.proofs.Bytes.{eql-true, eql-refl}
 use Rattle.text.specs.Items.{isName, nameByte}
 use Rattle.text.specs.Pool.{padded, allNames, poolOf, firstFrom, indexOf, place, find, store}
@@ -21,7 +18,7 @@ use Rattle.text.specs.declared.Found.{Found}
 use Rattle.text.specs.declared.Found.the-variants.{At, Nothing}
 use Rattle.text.proofs.Items.{name-short, name-bytes}
 use Rattle.text.proofs.Pool.{padded-length}
-use Rattle.text.proofs.Spans.{Span, span-join, span-split, span-end, store-here, store-before}
+use Rattle.text.proofs.Spans.{Span, span-join, span-split, store-here, store-before}
 
 -- ---- the first number that passes
 -- k is the first of the n numbers from i on that passes

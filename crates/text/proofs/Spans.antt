@@ -3,10 +3,10 @@ use Prim.Native.Nat.{ℕ, suc, _+_, _-_, _<_, _≤_}
 use mathlib.Core.Path.{_≡_, refl, sym, ap, _∙_, subst}
 use mathlib.Core.List.{List, [], _∷_, _++_, append-assoc}
 use native.Mathlib.Numerals.{add-one}
-use native.Mathlib.Nat.{le-refl, zero-add}
+use native.Mathlib.Nat.{le-refl}
 use native.Mathlib.Omega.{arith}
-use lib.ListN.{length, getD, take, drop, length-append, length-take, length-drop, take-append-drop}
-use lib.Seq.{slice, slice-cons, slice-empty, length-slice, take-take, take-all, take-length, take-append-le, take-append-add, drop-append-le, drop-append-seam, drop-append-add, length-take-le, take-at, drop-at, drop-drop}
+use lib.ListN.{length, getD, take, drop, length-append, length-drop, take-append-drop}
+use lib.Seq.{slice, slice-cons, slice-empty, length-slice, take-take, take-length, take-append-le, take-append-add, drop-append-le, drop-append-seam, drop-append-add, length-take-le, take-at, drop-at, drop-drop}
 use Rattle.text.specs.Pool.{store}
 use Rattle.text.proofs.Parts.{inside}
 

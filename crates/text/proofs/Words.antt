@@ -1,19 +1,18 @@
 -- An item is a word without edge bytes, up to an edge byte or the end of the text; and the other way round.
-use Prim.Native.Nat.{ℕ, zero, suc, _+_, _-_, _<_, _≤_}
-use mathlib.Core.Path.{_≡_, refl, sym, ap, _∙_, subst}
+use Prim.Native.Nat.{ℕ, zero, suc, _+_, _<_, _≤_}
+use mathlib.Core.Path.{_≡_, refl, sym, ap, _∙_}
 use mathlib.Core.List.{List, [], _∷_, _++_, append-nil}
-use mathlib.Core.Bool.{Bool, true, false, not, _&&_}
+use mathlib.Core.Bool.{Bool, true, false, not}
 use mathlib.Core.Logic.{_⊎_, inl, inr, ⊎-elim}
 use native.Mathlib.Numerals.{add-one}
-use native.Mathlib.Nat.{add-zero, eq-or-lt-of-le, le-refl}
 use native.Mathlib.Omega.{arith}
 use borrow.Author.Tests.{eqb-true, not-true, ltb-true, ltb-false}
 use lib.Dec.{eqb, ltb}
-use lib.ListN.{length, getD, take, drop, length-append, drop-of-length-le, length-drop}
-use lib.Seq.{slice, slice-empty, slice-cons, getD-append-seam, drop-cons}
+use lib.ListN.{length, getD, length-append}
+use lib.Seq.{slice, slice-empty, slice-cons, getD-append-seam}
 use Rattle.base.specs.Lists.{allb}
 use Rattle.base.proofs.Bools.{bool-cases, and-left, and-right, and-both, or-cases, never-both}
-use Rattle.text.specs.Items.{edge, itemLen, itemEnd, nameByte, isName}
+use Rattle.text.specs.Items.{edge, itemEnd, nameByte, isName}
 use Rattle.text.specs.Decimals.{digit}
 use Rattle.text.proofs.Parts.{inside, allb-mono}
 use Rattle.text.proofs.Items.{itemEnd-out, itemEnd-edge, itemEnd-step, itemEnd-from, itemEnd-within, name-bytes}

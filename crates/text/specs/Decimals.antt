@@ -1,7 +1,7 @@
 -- Decimals: how a number is written, and what a text is read as.
 use Prim.Native.Nat.{ℕ, zero, suc, _+_, _-_, _*_, _/_, _%_, _^_}
 use mathlib.Core.List.{List, [], _∷_, _++_}
-use mathlib.Core.Bool.{Bool, not, cond, _&&_, _||_}
+use mathlib.Core.Bool.{Bool, true, false, not, cond, _&&_, _||_}
 use lib.ListN.{length, getD, drop}
 use lib.Dec.{ltb, leb, eqb}
 use lib.IntN.{ℤ, pos, negsuc, negℤ}
@@ -13,14 +13,15 @@ use Rattle.text.specs.declared.Bound.{Bound}
 use Rattle.text.specs.declared.Mag.{Mag}
 
 -- ---- writing
--- the decimal digits of n, where k is above n
-unfoldable pub digitsOf : ℕ → ℕ → List ℕ
-digitsOf zero n = []
-digitsOf (suc k) n = cond (ltb n 10) ((48 + n) ∷ []) (digitsOf k (n / 10) ++ ((48 + n % 10) ∷ []))
+-- the decimal digits of n, where k is above n, by whether n has one digit
+unfoldable pub digitsOf : ℕ → Bool → ℕ → List ℕ
+digitsOf zero one n = []
+digitsOf (suc k) true n = (48 + n) ∷ []
+digitsOf (suc k) false n = digitsOf k (ltb (n / 10) 10) (n / 10) ++ ((48 + n % 10) ∷ [])
 
 -- a number in decimal digits
 unfoldable pub decimal : ℕ → List ℕ
-decimal n = digitsOf (suc n) n
+decimal n = digitsOf (suc n) (ltb n 10) n
 
 -- with a minus below zero
 unfoldable pub signed : ℤ → List ℕ

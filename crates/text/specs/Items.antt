@@ -3,7 +3,6 @@ use Prim.Native.Nat.{ℕ, suc, _+_}
 use mathlib.Core.List.{List, [], _∷_}
 use mathlib.Core.Bool.{Bool, cond, _&&_, _||_}
 use lib.ListN.{length, drop}
-use lib.Seq.{slice}
 use lib.Dec.{ltb, leb, eqb}
 use Rattle.base.specs.Lists.{allb}
 

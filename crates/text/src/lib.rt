@@ -279,9 +279,9 @@ pub fn put_name(names: &mut [u8], place: usize, book: &[u8], at: usize, end: usi
     requires { ⌜ (at ≤ end) × (end ≤ length (now book)) × (end - at ≤ 31) × (place + 32 ≤ length (now names)) ⌝ }
     ensures { λ _. ⌜ now (names .exit) ≡ store (now (names .entry)) place (padded (slice at end (now (book .entry)))) ⌝ }
 {
-    let mut j = 0;
-    while j < 32 {
-        names[place + j] = letter(book, at, end, j);
-        j += 1;
+    let mut i = 0;
+    while i < 32 {
+        names[place + i] = letter(book, at, end, i);
+        i += 1;
     }
 }

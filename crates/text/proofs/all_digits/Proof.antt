@@ -1,18 +1,14 @@
 use Prim.Native.Nat.{_-_, _≤_}
-use mathlib.Core.Path.{_≡_, refl, sym, ap, _∙_}
+use mathlib.Core.Path.{_≡_, sym, _∙_}
 use borrow.Author.Tests.{not-true, not-false}
 use borrow.Author.Needs.{needs}
 use native.Mathlib.Omega.{arith}
-use lib.ListN.{length}
 use lib.Seq.{slice}
 use Rattle.text.specs.Decimals.{digit}
 use Rattle.base.specs.Lists.{allb}
 use Rattle.text.proofs.Parts.{all-none, all-more, all-fails}
 use Rattle.text.proofs.all_digits.Statement.{statement}
 use Rattle.text.proofs.all_digits.Tie as tie
-use Rattle.text.proofs.all_digits.Reads as reads
-use Rattle.text.proofs.all_digits.Lts as lts
-use Rattle.text.proofs.is_digit.Reads as is-digit-reads
 
 abbrev Inv-loop : tie.InvT-loop
 Inv-loop book at end i₀ i = (at ≤ i) × (i ≤ end) × (allb digit (slice at end book) ≡ allb digit (slice i end book))

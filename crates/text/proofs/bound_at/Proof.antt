@@ -1,12 +1,24 @@
 use borrow.Author.Needs.{needs}
-use mathlib.Core.Path.{_≡_, refl, sym, ap, _∙_}
-use Prim.Native.Nat.{ℕ, _-_}
+use Prim.Native.Nat.{ℕ}
+use mathlib.Core.Path.{_≡_, sym, _∙_}
+use mathlib.Core.List.{List}
 use borrow.Author.Tests.{le-leb, lt-leb}
-use native.Mathlib.Omega.{arith}
 use lib.Seq.{slice}
-use Rattle.text.proofs.Decimals.{bound-not, bound-over, bound-is}
+use Rattle.text.specs.Decimals.{magOf}
+use Rattle.text.specs.declared.Mag.{Mag}
+use Rattle.text.proofs.Decimals.{bound-none, bound-long, bound-is}
 use Rattle.text.proofs.bound_at.Statement.{statement}
 use Rattle.text.proofs.bound_at.Tie as tie
+
+-- the part that is read, and its magnitude where it has one
+abbrev word : tie.After-magnitude → List ℕ
+word m = let s = m .before .before .args in slice (s .at) (s .end) (s .book .now)
+
+abbrev value : tie.After-v → ℕ
+value v = v .v .given .0 .0
+
+is : (v : tie.After-v) → magOf (word (v .before .before)) ≡ Mag.Is (value v)
+is v = sym (v .before .before .magnitude .ensures) ∙ v .v .given .1
 
 magnitude-requires : tie.Need-magnitude-requires
 magnitude-requires c κs = search needs
@@ -24,34 +36,16 @@ cast-t9 : tie.Need-cast-t9
 cast-t9 c = search needs
 
 returns : tie.Need-returns
-returns c =
-    let m = c .before .before in
-    let s = m .before .before .args in
-    sym (bound-not (slice (s .at) (s .end) (s .book .now)) (sym (m .magnitude .ensures) ∙ c .enum-told .given .1))
+returns c = sym (bound-none (word (c .before .before)) (sym (c .before .before .magnitude .ensures) ∙ c .enum-told .given .1))
 
 returns-2 : tie.Need-returns-2
-returns-2 c =
-    let m = c .before .before in
-    let s = m .before .before .args in
-    sym (bound-over (slice (s .at) (s .end) (s .book .now)) (sym (m .magnitude .ensures) ∙ c .enum-told2 .given .1))
+returns-2 c = sym (bound-long (word (c .before .before)) (sym (c .before .before .magnitude .ensures) ∙ c .enum-told2 .given .1))
 
 returns-3 : tie.Need-returns-3
-returns-3 c =
-    let v = c .before .before in
-    let m = v .before .before in
-    let s = m .before .before .args in
-    let n : ℕ = v .v .given .0 .0 in
-    let is = bound-is (slice (s .at) (s .end) (s .book .now)) n (sym (m .magnitude .ensures) ∙ v .v .given .1) in
-    sym (rw (le-leb n 1024 (c .if1 .taken)) at is)
+returns-3 c = sym (rw (le-leb (value (c .before .before)) 1024 (c .if1 .taken)) at (bound-is (word (c .before .before .before .before)) (value (c .before .before)) (is (c .before .before))))
 
 returns-4 : tie.Need-returns-4
-returns-4 c =
-    let v = c .before .before in
-    let m = v .before .before in
-    let s = m .before .before .args in
-    let n : ℕ = v .v .given .0 .0 in
-    let is = bound-is (slice (s .at) (s .end) (s .book .now)) n (sym (m .magnitude .ensures) ∙ v .v .given .1) in
-    sym (rw (lt-leb n 1024 (c .if1 .left)) at is)
+returns-4 c = sym (rw (lt-leb (value (c .before .before)) 1024 (c .if1 .left)) at (bound-is (word (c .before .before .before .before)) (value (c .before .before)) (is (c .before .before))))
 
 pub bound-at-spec : {M : Type 1} → statement M
 bound-at-spec =

@@ -1,19 +1,15 @@
 use Prim.Native.Nat.{ℕ, _-_, _≤_}
-use mathlib.Core.Path.{_≡_, refl, sym, ap, _∙_}
+use mathlib.Core.Path.{_≡_, sym, _∙_}
 use mathlib.Core.List.{List}
 use native.Mathlib.Nat.{sub-zero}
 use borrow.Author.Needs.{needs}
 use native.Mathlib.Omega.{arith}
-use lib.ListN.{length}
 use lib.Seq.{slice}
 use Rattle.base.specs.Bytes.{eql}
 use Rattle.text.specs.Pool.{padded, firstFrom, place, find}
 use Rattle.text.proofs.Pool.{first-here, first-step, first-none}
 use Rattle.text.proofs.find_name.Statement.{statement}
 use Rattle.text.proofs.find_name.Tie as tie
-use Rattle.text.proofs.find_name.Reads as reads
-use Rattle.text.proofs.find_name.Lts as lts
-use Rattle.text.proofs.same_name.Reads as same-name-reads
 
 abbrev Inv-loop : tie.InvT-loop
 Inv-loop names base count book at end k₀ k =

@@ -2,8 +2,6 @@ use mathlib.Core.Path.{refl}
 use Rattle.text.specs.Items.{edge}
 use Rattle.text.proofs.is_edge.Statement.{statement}
 use Rattle.text.proofs.is_edge.Tie as tie
-use Rattle.text.proofs.is_edge.Reads as reads
-use Rattle.text.proofs.is_edge.Lts as lts
 
 returns : tie.Need-returns
 unfolding edge

@@ -2,10 +2,6 @@ use borrow.Author.Needs.{needs}
 use Rattle.text.proofs.Decimals.{isMag-at}
 use Rattle.text.proofs.is_mag.Statement.{statement}
 use Rattle.text.proofs.is_mag.Tie as tie
-use Rattle.text.proofs.is_mag.Reads as reads
-use Rattle.text.proofs.is_mag.Lts as lts
-use Rattle.text.proofs.all_digits.Reads as all-digits-reads
-use Rattle.text.proofs.byte.Reads as byte-reads
 
 byte-requires : tie.Need-byte-requires
 byte-requires c κs = search needs

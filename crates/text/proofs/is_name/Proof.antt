@@ -1,9 +1,8 @@
 use Prim.Native.Nat.{_-_, _≤_}
-use mathlib.Core.Path.{_≡_, refl, sym, ap, _∙_}
+use mathlib.Core.Path.{_≡_, sym, _∙_}
 use borrow.Author.Tests.{not-true, not-false}
 use borrow.Author.Needs.{needs}
 use native.Mathlib.Omega.{arith}
-use lib.ListN.{length}
 use lib.Seq.{slice}
 use Rattle.text.specs.Items.{nameByte}
 use Rattle.base.specs.Lists.{allb}
@@ -11,9 +10,6 @@ use Rattle.text.proofs.Items.{isName-none, isName-long, isName-all}
 use Rattle.text.proofs.Parts.{all-none, all-more, all-fails}
 use Rattle.text.proofs.is_name.Statement.{statement}
 use Rattle.text.proofs.is_name.Tie as tie
-use Rattle.text.proofs.is_name.Reads as reads
-use Rattle.text.proofs.is_name.Lts as lts
-use Rattle.text.proofs.is_name_byte.Reads as is-name-byte-reads
 
 abbrev Inv-loop : tie.InvT-loop
 Inv-loop book at end i₀ i = (at ≤ i) × (i ≤ end) × (allb nameByte (slice at end book) ≡ allb nameByte (slice i end book))

@@ -2,8 +2,6 @@ use mathlib.Core.Path.{refl}
 use Rattle.text.specs.Items.{nameByte}
 use Rattle.text.proofs.is_name_byte.Statement.{statement}
 use Rattle.text.proofs.is_name_byte.Tie as tie
-use Rattle.text.proofs.is_name_byte.Reads as reads
-use Rattle.text.proofs.is_name_byte.Lts as lts
 
 returns : tie.Need-returns
 unfolding nameByte

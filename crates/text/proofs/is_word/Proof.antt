@@ -1,5 +1,5 @@
 use Prim.Native.Nat.{ℕ, _-_, _≤_}
-use mathlib.Core.Path.{_≡_, refl, sym, ap, _∙_}
+use mathlib.Core.Path.{_≡_, refl, sym, _∙_}
 use mathlib.Core.List.{List}
 use borrow.Author.Needs.{needs}
 use native.Mathlib.Omega.{arith}
@@ -9,8 +9,6 @@ use Rattle.text.proofs.Parts.{eql-lengths, slice-at, eql-step, eql-diff
 use Rattle.base.specs.Bytes.{eql}
 use Rattle.text.proofs.is_word.Statement.{statement}
 use Rattle.text.proofs.is_word.Tie as tie
-use Rattle.text.proofs.is_word.Reads as reads
-use Rattle.text.proofs.is_word.Lts as lts
 
 abbrev Inv-loop : tie.InvT-loop
 Inv-loop book at end word j₀ j = (j ≤ length word) × (eql (slice at end book) word ≡ eql (drop j (slice at end book)) (drop j word))

@@ -1,15 +1,11 @@
 use Prim.Native.Nat.{_-_}
 use mathlib.Core.Path.{_≡_, refl, sym, _∙_}
 use borrow.Author.Needs.{needs}
-use native.Mathlib.Omega.{arith}
 use lib.ListN.{length}
 use Rattle.text.specs.Items.{itemEnd}
 use Rattle.text.proofs.Items.{itemEnd-out, itemEnd-edge, itemEnd-step}
 use Rattle.text.proofs.item_end.Statement.{statement}
 use Rattle.text.proofs.item_end.Tie as tie
-use Rattle.text.proofs.item_end.Reads as reads
-use Rattle.text.proofs.item_end.Lts as lts
-use Rattle.text.proofs.is_edge.Reads as is-edge-reads
 
 abbrev Inv-loop : tie.InvT-loop
 Inv-loop book at i₀ i = itemEnd book at ≡ itemEnd book i

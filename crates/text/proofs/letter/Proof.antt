@@ -3,8 +3,6 @@ use mathlib.Core.Path.{sym}
 use Rattle.text.proofs.Pool.{padded-in, padded-out}
 use Rattle.text.proofs.letter.Statement.{statement}
 use Rattle.text.proofs.letter.Tie as tie
-use Rattle.text.proofs.letter.Reads as reads
-use Rattle.text.proofs.letter.Lts as lts
 
 sub-if1 : tie.Need-sub-if1
 sub-if1 c = search needs

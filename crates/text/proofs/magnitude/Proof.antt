@@ -4,10 +4,10 @@ use mathlib.Core.Bool.{true}
 use borrow.Author.Needs.{needs}
 use borrow.Author.Tests.{not-true, not-false}
 use native.Mathlib.Omega.{arith}
-use lib.ListN.{length, getD}
+use lib.ListN.{getD}
 use lib.Seq.{slice}
 use Rattle.base.specs.Lists.{allb}
-use Rattle.text.specs.Decimals.{digit, isMag, valueFrom, magOf}
+use Rattle.text.specs.Decimals.{digit, isMag, valueFrom}
 use Rattle.text.proofs.Decimals.{digits-first, value-step, value-none, value-over, mag-digits, mag-not, mag-over, mag-is}
 use Rattle.text.proofs.magnitude.Statement.{statement}
 use Rattle.text.proofs.magnitude.Tie as tie

@@ -1,14 +1,9 @@
 use borrow.Author.Needs.{needs}
-use mathlib.Core.Path.{_≡_, refl, sym, ap, _∙_}
+use mathlib.Core.Path.{sym, _∙_}
 use native.Mathlib.Omega.{arith}
 use Rattle.text.proofs.Decimals.{number-none, number-minus, number-plain}
 use Rattle.text.proofs.number_at.Statement.{statement}
 use Rattle.text.proofs.number_at.Tie as tie
-use Rattle.text.proofs.number_at.Reads as reads
-use Rattle.text.proofs.number_at.Lts as lts
-use Rattle.text.proofs.byte.Reads as byte-reads
-use Rattle.text.proofs.negative.Reads as negative-reads
-use Rattle.text.proofs.positive.Reads as positive-reads
 
 returns : tie.Need-returns
 returns c =

@@ -1,24 +1,21 @@
-use Prim.Native.Nat.{ℕ, _+_, _-_, _*_, _≤_, _<_}
-use mathlib.Core.Path.{_≡_, refl, sym, ap, _∙_}
+use Prim.Native.Nat.{ℕ, _-_, _≤_}
+use mathlib.Core.Path.{_≡_, refl, _∙_}
 use mathlib.Core.List.{List}
 use borrow.Author.Needs.{needs}
 use native.Mathlib.Omega.{arith}
-use lib.ListN.{length, getD, length-set}
+use lib.ListN.{length, length-set}
 use lib.Seq.{slice, length-slice, paste, paste-zero, paste-suc}
 use native.Mathlib.Numerals.{add-one}
 use Rattle.text.specs.Pool.{padded}
 use Rattle.text.proofs.Pool.{padded-length, store-done}
 use Rattle.text.proofs.put_name.Statement.{statement}
 use Rattle.text.proofs.put_name.Tie as tie
-use Rattle.text.proofs.put_name.Reads as reads
-use Rattle.text.proofs.put_name.Lts as lts
-use Rattle.text.proofs.letter.Reads as letter-reads
 
 abbrev Inv-loop : tie.InvT-loop
-Inv-loop names₀ place book at end j₀ names j = (j ≤ 32) × (names ≡ paste names₀ place (padded (slice at end book)) j) × (length names ≡ length names₀)
+Inv-loop names₀ place book at end i₀ names i = (i ≤ 32) × (names ≡ paste names₀ place (padded (slice at end book)) i) × (length names ≡ length names₀)
 
 abbrev μ-loop : tie.MeasureT-loop
-μ-loop names₀ place book at end j₀ names j = 32 - j
+μ-loop names₀ place book at end i₀ names i = 32 - i
 
 loop-holds : tie.Need-loop-holds Inv-loop μ-loop
 loop-holds c =
@@ -34,8 +31,8 @@ add-names c = search needs
 slice-write-names : tie.Need-slice-write-names Inv-loop μ-loop
 slice-write-names c = search needs
 
-add-j : tie.Need-add-j Inv-loop μ-loop
-add-j c = search needs
+add-i : tie.Need-add-i Inv-loop μ-loop
+add-i c = search needs
 
 loop-less : tie.Need-loop-less Inv-loop μ-loop
 loop-less c = search needs
@@ -44,10 +41,10 @@ loop-again : tie.Need-loop-again Inv-loop μ-loop
 loop-again c =
     let l = c .before .before in
     let s = l .before .before .before in
-    let j : ℕ = l .loop .j in
+    let i : ℕ = l .loop .i in
     let p : List ℕ = padded (slice (s .args .at) (s .args .end) (s .args .book .now)) in
     let lp = padded-length (slice (s .args .at) (s .args .end) (s .args .book .now)) (rw (length-slice (s .args .at) (s .args .end) (s .args .book .now) (s .pre .1)) (omega arith)) in
-    (omega arith, rw (l .loop .inv .1, c .letter .ensures, add-one j) (paste-suc (s .args .names .now) (s .args .place) p j 0 (omega arith) (omega arith)), simp length-set (l .loop .inv .2))
+    (omega arith, rw (l .loop .inv .1, c .letter .ensures, add-one i) (paste-suc (s .args .names .now) (s .args .place) p i 0 (omega arith) (omega arith)), simp length-set (l .loop .inv .2))
 
 same-length : tie.Need-same-length Inv-loop μ-loop
 same-length c = search needs
@@ -58,7 +55,7 @@ returns c =
     let s = l .before .before .before in
     let p : List ℕ = padded (slice (s .args .at) (s .args .end) (s .args .book .now)) in
     let lp = padded-length (slice (s .args .at) (s .args .end) (s .args .book .now)) (rw (length-slice (s .args .at) (s .args .end) (s .args .book .now) (s .pre .1)) (omega arith)) in
-    let e : l .loop .j ≡ length p = omega arith in
+    let e : l .loop .i ≡ length p = omega arith in
     l .loop .inv .1 ∙ rw e (store-done (s .args .names .now) p (s .args .place))
 
 pub put-name-spec : {M : Type 1} → statement M
@@ -71,7 +68,7 @@ put-name-spec =
     letter-requires
     add-names
     slice-write-names
-    add-j
+    add-i
     loop-less
     loop-again
     same-length

@@ -1,20 +1,16 @@
-use Prim.Native.Nat.{ℕ, _+_, _-_, _*_, _≤_, _<_}
-use mathlib.Core.Path.{_≡_, refl, sym, ap, _∙_}
+use Prim.Native.Nat.{ℕ, _+_, _-_, _≤_}
+use mathlib.Core.Path.{_≡_, refl, sym, _∙_}
 use mathlib.Core.List.{List}
 use borrow.Author.Needs.{needs}
 use native.Mathlib.Omega.{arith}
-use lib.ListN.{drop, length, getD, length-set}
-use lib.Seq.{slice, length-slice, paste, paste-zero, paste-suc}
-use native.Mathlib.Numerals.{add-one}
+use lib.ListN.{drop}
+use lib.Seq.{slice, length-slice}
 use Rattle.text.specs.Pool.{padded}
 use Rattle.base.specs.Bytes.{eql}
 use Rattle.text.proofs.Parts.{slice-at, eql-step, eql-differ, eql-done}
 use Rattle.text.proofs.Pool.{padded-length}
 use Rattle.text.proofs.same_name.Statement.{statement}
 use Rattle.text.proofs.same_name.Tie as tie
-use Rattle.text.proofs.same_name.Reads as reads
-use Rattle.text.proofs.same_name.Lts as lts
-use Rattle.text.proofs.letter.Reads as letter-reads
 
 abbrev Inv-loop : tie.InvT-loop
 Inv-loop names place book at end j₀ j =
