@@ -259,7 +259,7 @@ module _ (s : List ℕ) (above : Book) where
     arg-head (list p) [] = inl refl
     arg-head (list p) (x ∷ a) = inr (nameOf above p x ++ spaced (map (nameOf above p) a), refl)
 
-    args-edge : (ks : List Slot) (xs : Args ks) (mid nx : ℕ) → Span s mid nx (writeArgs above ks xs) → getD s nx 0 ≡ 41 → Edge s mid
+    pub args-edge : (ks : List Slot) (xs : Args ks) (mid nx : ℕ) → Span s mid nx (writeArgs above ks xs) → getD s nx 0 ≡ 41 → Edge s mid
     unfolding edge
     args-edge [] xs mid nx q c = edge-of s mid 41 (ap (λ (n : ℕ). getD s n 0) (span-none q) ∙ c) refl
     args-edge (k ∷ ks) xs mid nx q c = first (arg-head k (xs .0)) (λ q. args-edge ks (xs .1) mid nx q c)

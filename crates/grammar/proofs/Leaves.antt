@@ -10,7 +10,7 @@ use lib.Dec.{eqb, ltb, leb}
 use lib.ListN.{length, getD}
 use lib.Seq.{slice}
 use lib.IntN.{ℤ}
-use borrow.Author.Tests.{eqb-true, eqb-false, eq-eqb, ne-eqb, ltb-true, lt-ltb, not-true}
+use borrow.Author.Tests.{eqb-true, eqb-false, eq-eqb, ne-eqb, ltb-true, lt-ltb, le-leb, leb-true, not-true}
 use Rattle.base.specs.Lists.{anyb, allb}
 use Rattle.base.specs.Bytes.{bytes, eql}
 use Rattle.base.proofs.Bools.{and-left, and-right, and-both, never-both, bool-cases}
@@ -172,8 +172,8 @@ module _ (s : List ℕ) (above : Book) where
   pub low-exact : Exact s (Edge s) (lowAt s above) decimal (λ n. leb n 1024 ≡ true)
   unfolding lowAt
   low-exact = item-exact s (λ w e. bounded s above (boundOf w) e) decimal (λ n. leb n 1024 ≡ true)
-      (λ w e n nx q. let u = bound-at (boundOf w) e n nx q in let v = bound-value w n .0 (u .0) in (v .0, u .1, v .1))
-      (λ n d e. ap (λ (r : Bound). bounded s above r e) (bound-value (decimal n) n .1 (refl, d)))
+      (λ w e n nx q. let u = bound-at (boundOf w) e n nx q in let v = bound-value w n .0 (u .0) in (v .0, u .1, le-leb n 1024 (v .1)))
+      (λ n d e. ap (λ (r : Bound). bounded s above r e) (bound-value (decimal n) n .1 (refl, leb-true n 1024 d)))
       (λ n d. decimal-plain n)
 
   high-at : (w : List ℕ) (e : ℕ) (u : Upper) (nx : ℕ) → cond (eql w (bytes "*")) (got unbounded e) (andThen (bounded s above (boundOf w) e) (λ n next. got (atMost n) next)) ≡ got u nx → (w ≡ writeUpper u) × (e ≡ nx) × (upperOk u ≡ true)
@@ -185,12 +185,12 @@ module _ (s : List ℕ) (above : Book) where
         let b = bound-at (boundOf w) e n m r in
         let v = bound-value w n .0 (b .0) in
         let i : atMost n ≡ u = got-value g in
-        (v .0 ∙ ap writeUpper i, b .1 ∙ got-next g, ap upperOk (sym i) ∙ v .1))
+        (v .0 ∙ ap writeUpper i, b .1 ∙ got-next g, ap upperOk (sym i) ∙ le-leb n 1024 (v .1)))
       (one-of (eql w (bytes "*")) (got unbounded e) (andThen (bounded s above (boundOf w) e) (λ n next. got (atMost n) next)) q)
 
   high-gives : (u : Upper) → upperOk u ≡ true → (e : ℕ) → cond (eql (writeUpper u) (bytes "*")) (got unbounded e) (andThen (bounded s above (boundOf (writeUpper u)) e) (λ n next. got (atMost n) next)) ≡ got u e
   unfolding writeUpper upperOk eql
-  high-gives (atMost n) d e = ap₂ (λ (b : Bool) (r : Bound). cond b (got unbounded e) (andThen (bounded s above r e) (λ n next. got (atMost n) next))) (no-star n) (bound-value (decimal n) n .1 (refl, d))
+  high-gives (atMost n) d e = ap₂ (λ (b : Bool) (r : Bound). cond b (got unbounded e) (andThen (bounded s above r e) (λ n next. got (atMost n) next))) (no-star n) (bound-value (decimal n) n .1 (refl, leb-true n 1024 d))
   high-gives unbounded d e = refl
 
   pub high-exact : Exact s (Edge s) (highAt s above) writeUpper (λ u. upperOk u ≡ true)

@@ -1,3 +1,4 @@
 pub mod Exact
 pub mod Leaves
 pub mod Args
+pub mod Families
