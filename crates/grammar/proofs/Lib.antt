@@ -2,3 +2,4 @@ pub mod Exact
 pub mod Leaves
 pub mod Args
 pub mod Families
+pub mod Rows
