@@ -150,7 +150,7 @@ shrink form a n f = record { forms = omega (arith, f .forms); paths = omega (ari
 shrink target a n f = f
 shrink (list p) a n f = record { forms = f .forms; paths = f .paths; items = omega (arith, f .items) }
 
-shrink-all : (ks : List Slot) (xs : Args ks) (n : Begun) → Fit (afterAll ks xs n) → Fit n
+pub shrink-all : (ks : List Slot) (xs : Args ks) (n : Begun) → Fit (afterAll ks xs n) → Fit n
 shrink-all [] xs n f = f
 shrink-all (k ∷ ks) xs n f = shrink k (xs .0) n (shrink-all ks (xs .1) (after k (xs .0) n) f)
 

@@ -3,3 +3,4 @@ pub mod Leaves
 pub mod Args
 pub mod Families
 pub mod Rows
+pub mod Nesting
