@@ -4,3 +4,4 @@ pub mod Args
 pub mod Families
 pub mod Rows
 pub mod Nesting
+pub mod Lines
