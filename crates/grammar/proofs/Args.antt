@@ -205,9 +205,9 @@ module _ (s : List ℕ) (above : Book) where
     end-sound n f at h x nx e = ⊎-elim
         (λ t. subst (λ (x : End). Span s at nx (writeEnd above x) × Good above d n end x) (got-value (t .1)) (is-self n f at h nx (eql-true (slice at (itemEnd s at) s) (bytes "id") (t .0)) (got-next (t .1))))
         (λ t.
-          let (y, m, r, g) = thens (R .pathR n at) (λ e next. got (along e) next) (t .1) in
-          let u = X .pathE n f .sound at h y m r in
-          subst (λ (x : End). Span s at nx (writeEnd above x) × Good above d n end x) (got-value g) (is-path n at m nx y (u .0) (u .1) (got-next g)))
+        let (y, m, r, g) = thens (R .pathR n at) (λ e next. got (along e) next) (t .1) in
+        let u = X .pathE n f .sound at h y m r in
+        subst (λ (x : End). Span s at nx (writeEnd above x) × Good above d n end x) (got-value g) (is-path n at m nx y (u .0) (u .1) (got-next g)))
         (one-of (eql (slice at (itemEnd s at) s) (bytes "id")) (got self (itemEnd s at)) (andThen (R .pathR n at) (λ e next. got (along e) next)) e)
 
     end-complete : (n : Begun) → Fit n → (at nx : ℕ) (x : End) → Span s at nx (writeEnd above x) → Good above d n end x → Edge s nx → endAt s above R n at ≡ got x nx

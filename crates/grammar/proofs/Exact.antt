@@ -70,51 +70,51 @@ module _ {A : Type 0} (s : List ℕ) (f : List ℕ → ℕ → Read A) (W : A �
     (solid : (x : A) → P x → allb plain (W x) ≡ true) where
   pub item-exact : Exact s (Edge s) (λ at. f (slice at (itemEnd s at) s) (itemEnd s at)) W P
   item-exact =
-      record
-      { sound = λ at h x nx e.
-          let o = only (slice at (itemEnd s at) s) (itemEnd s at) x nx e in
-          (subst (λ (n : ℕ). Span s at n (W x)) (o .1) (subst (λ (w : List ℕ). Span s at (itemEnd s at) w) (o .0) (item-span s at h)), o .2)
-      ; complete = λ at nx x p q e.
-          let d = ends-of s nx e in
-          ap₂ f (word-item (W x) p (solid x q) d) (word-ends (W x) p (solid x q) d) ∙ gives x q nx
+      record {
+        sound = λ at h x nx e.
+            let o = only (slice at (itemEnd s at) s) (itemEnd s at) x nx e in
+            (subst (λ (n : ℕ). Span s at n (W x)) (o .1) (subst (λ (w : List ℕ). Span s at (itemEnd s at) w) (o .0) (item-span s at h)), o .2);
+        complete = λ at nx x p q e.
+            let d = ends-of s nx e in
+            ap₂ f (word-item (W x) p (solid x q) d) (word-ends (W x) p (solid x q) d) ∙ gives x q nx;
       }
 
 -- a space before it
 pub space-exact : {A : Type 0} {s : List ℕ} {E : ℕ → Type 0} {R : ℕ → Read A} {W : A → List ℕ} {P : A → Type 0} → Exact s E R W P
     → Exact s E (λ at. cond (eqb (getD s at 0) 32) (R (at + 1)) (refused 2)) (λ x. 32 ∷ W x) P
 space-exact {s = s} {R = R} {W = W} X =
-    record
-    { sound = λ at h x nx e.
-        let p = passes (eqb (getD s at 0) 32) 2 (R (at + 1)) e in
-        let sp = span-byte s at 31 (eqb-true (getD s at 0) 32 (p .0)) in
-        let r = X .sound (at + 1) (sp .within) x nx (p .1) in
-        (span-join sp (r .0), r .1)
-    ; complete = λ at nx x p q e.
-        let h = span-head p in
-        ap (λ (b : Bool). cond b (R (at + 1)) (refused 2)) (eq-eqb (getD s at 0) 32 (h .1)) ∙ X .complete (at + 1) nx x (h .2) q e
+    record {
+      sound = λ at h x nx e.
+          let p = passes (eqb (getD s at 0) 32) 2 (R (at + 1)) e in
+          let sp = span-byte s at 31 (eqb-true (getD s at 0) 32 (p .0)) in
+          let r = X .sound (at + 1) (sp .within) x nx (p .1) in
+          (span-join sp (r .0), r .1);
+      complete = λ at nx x p q e.
+          let h = span-head p in
+          ap (λ (b : Bool). cond b (R (at + 1)) (refused 2)) (eq-eqb (getD s at 0) 32 (h .1)) ∙ X .complete (at + 1) nx x (h .2) q e;
     }
 
 -- the same with another condition on what is read
 pub exact-as : {A : Type 0} {s : List ℕ} {E : ℕ → Type 0} {R : ℕ → Read A} {W : A → List ℕ} {P : A → Type 0} (Q : A → Type 0) → ((x : A) → P x → Q x) → ((x : A) → Q x → P x) → Exact s E R W P → Exact s E R W Q
 exact-as Q to back X =
-    record
-    { sound = λ at h x nx e. let r = X .sound at h x nx e in (r .0, to x (r .1))
-    ; complete = λ at nx x p q e. X .complete at nx x p (back x q) e
+    record {
+      sound = λ at h x nx e. let r = X .sound at h x nx e in (r .0, to x (r .1));
+      complete = λ at nx x p q e. X .complete at nx x p (back x q) e;
     }
 
 -- a test more of what was read
 pub check-exact : {A : Type 0} {s : List ℕ} {E : ℕ → Type 0} {R : ℕ → Read A} {W : A → List ℕ} {P : A → Type 0} (t : A → Bool) (k : ℕ) → Exact s E R W P
     → Exact s E (λ at. andThen (R at) (λ x nx. cond (t x) (got x nx) (refused k))) W (λ x. P x × (t x ≡ true))
 check-exact {s = s} {R = R} {W = W} {P = P} t k X =
-    record
-    { sound = λ at h x nx e.
-        let (y, m, r, f) = thens (R at) (λ x nx. cond (t x) (got x nx) (refused k)) e in
-        let p = passes (t y) k (got y m) f in
-        let i : y ≡ x = got-value (p .1) in
-        let j : m ≡ nx = got-next (p .1) in
-        let u = X .sound at h x nx (r ∙ p .1) in
-        (u .0, (u .1, ap t (sym i) ∙ p .0))
-    ; complete = λ at nx x p q e. ap (λ (r : Read _). andThen r (λ x nx. cond (t x) (got x nx) (refused k))) (X .complete at nx x p (q .0) e) ∙ ap (λ (b : Bool). cond b (got x nx) (refused k)) (q .1)
+    record {
+      sound = λ at h x nx e.
+          let (y, m, r, f) = thens (R at) (λ x nx. cond (t x) (got x nx) (refused k)) e in
+          let p = passes (t y) k (got y m) f in
+          let i : y ≡ x = got-value (p .1) in
+          let j : m ≡ nx = got-next (p .1) in
+          let u = X .sound at h x nx (r ∙ p .1) in
+          (u .0, (u .1, ap t (sym i) ∙ p .0));
+      complete = λ at nx x p q e. ap (λ (r : Read _). andThen r (λ x nx. cond (t x) (got x nx) (refused k))) (X .complete at nx x p (q .0) e) ∙ ap (λ (b : Bool). cond b (got x nx) (refused k)) (q .1);
     }
 
 -- what was read under another name
@@ -122,14 +122,14 @@ pub map-exact : {A B : Type 0} {s : List ℕ} {E : ℕ → Type 0} {R : ℕ → 
     → ((x : A) → U (f x) ≡ W x) → ((x : A) → P x → Q (f x)) → ((y : B) → Q y → (x : A) × (y ≡ f x) × P x) → Exact s E R W P
     → Exact s E (λ at. andThen (R at) (λ x nx. got (f x) nx)) U Q
 map-exact {s = s} {R = R} {W = W} {P = P} f U Q same to back X =
-    record
-    { sound = λ at h y nx e.
-        let (x, m, r, g) = thens (R at) (λ x nx. got (f x) nx) e in
-        let i : f x ≡ y = got-value g in
-        let j : m ≡ nx = got-next g in
-        let u = X .sound at h x m r in
-        (subst (λ (n : ℕ). Span s at n (U y)) j (subst (λ (w : List ℕ). Span s at m w) (sym (same x) ∙ ap U i) (u .0)), subst Q i (to x (u .1)))
-    ; complete = λ at nx y p q e.
-        let (x, i, u) = back y q in
-        ap (λ (r : Read _). andThen r (λ x nx. got (f x) nx)) (X .complete at nx x (subst (λ (w : List ℕ). Span s at nx w) (ap U i ∙ same x) p) u e) ∙ ap (λ (z : _). got z nx) (sym i)
+    record {
+      sound = λ at h y nx e.
+          let (x, m, r, g) = thens (R at) (λ x nx. got (f x) nx) e in
+          let i : f x ≡ y = got-value g in
+          let j : m ≡ nx = got-next g in
+          let u = X .sound at h x m r in
+          (subst (λ (n : ℕ). Span s at n (U y)) j (subst (λ (w : List ℕ). Span s at m w) (sym (same x) ∙ ap U i) (u .0)), subst Q i (to x (u .1)));
+      complete = λ at nx y p q e.
+          let (x, i, u) = back y q in
+          ap (λ (r : Read _). andThen r (λ x nx. got (f x) nx)) (X .complete at nx x (subst (λ (w : List ℕ). Span s at nx w) (ap U i ∙ same x) p) u e) ∙ ap (λ (z : _). got z nx) (sym i);
     }

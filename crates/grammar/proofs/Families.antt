@@ -76,15 +76,15 @@ module _ (s : List ℕ) (above : Book) (N : Pools above) {A : Type 0} (F : Famil
       let sp = span-byte s at 39 o in
       let it = item-span s (at + 1) (sp .within) in
       let (xs, m, ro, sq, al) = body-sound (getD (F .codes) k (F .other)) (p .0) (q .0) (itemEnd s (at + 1)) (it .within) x nx (q .1) in
-      record
-      { code = getD (F .codes) k (F .other)
-      ; args = xs
-      ; made = m
-      ; shallow = p .0
-      ; begins = q .0
-      ; roomy = ro
-      ; span = span-join sp (span-join (subst (λ (w : List ℕ). Span s (at + 1) (itemEnd s (at + 1)) w) (word-of (slice (at + 1) (itemEnd s (at + 1)) s) k i) it) sq)
-      ; good = al
+      record {
+        code = getD (F .codes) k (F .other);
+        args = xs;
+        made = m;
+        shallow = p .0;
+        begins = q .0;
+        roomy = ro;
+        span = span-join sp (span-join (subst (λ (w : List ℕ). Span s (at + 1) (itemEnd s (at + 1)) w) (word-of (slice (at + 1) (itemEnd s (at + 1)) s) k i) it) sq);
+        good = al;
       }
 
   pub bracket-sound : (bare : Read A) (at : ℕ) → at ≤ length s → (x : A) (nx : ℕ) → bracketAt s above F R deep full room bare n at ≡ got x nx → (bare ≡ got x nx) ⊎ Opened x at nx

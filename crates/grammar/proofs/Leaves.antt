@@ -97,13 +97,13 @@ module _ (s : List ℕ) (above : Book) where
     unfolding usedAt defined nameOf
     used-exact p = item-exact s (λ w e. cond (wellNamed p w) (known s above (indexOf (names p above) w) e) (refused 2)) (nameOf above p) (λ k. defined above p k ≡ true)
         (λ w e k nx q.
-          let t = passes (wellNamed p w) 2 (known s above (indexOf (names p above) w) e) q in
-          let u = known-at (indexOf (names p above) w) e k nx (t .1) in
-          let f = index-at (names p above) w k .0 (u .0) in
-          (sym (f .1), u .1, lt-ltb k (length (names p above)) (f .0)))
+        let t = passes (wellNamed p w) 2 (known s above (indexOf (names p above) w) e) q in
+        let u = known-at (indexOf (names p above) w) e k nx (t .1) in
+        let f = index-at (names p above) w k .0 (u .0) in
+        (sym (f .1), u .1, lt-ltb k (length (names p above)) (f .0)))
         (λ k d e.
-          let l : k < length (names p above) = ltb-true k (length (names p above)) d in
-          ap₂ (λ (b : Bool) (r : Found). cond b (known s above r e) (refused 2)) (N .named p k l) (index-at (names p above) (nameOf above p k) k .1 (l, refl, λ j h q. N .distinct p j k h l q)))
+        let l : k < length (names p above) = ltb-true k (length (names p above)) d in
+        ap₂ (λ (b : Bool) (r : Found). cond b (known s above r e) (refused 2)) (N .named p k l) (index-at (names p above) (nameOf above p k) k .1 (l, refl, λ j h q. N .distinct p j k h l q)))
         (λ k d. named-plain p (nameOf above p k) (N .named p k (ltb-true k (length (names p above)) d)))
 
   -- ---- a new name
@@ -111,15 +111,15 @@ module _ (s : List ℕ) (above : Book) where
   unfolding newAt newName
   new-exact p = item-exact s (λ w e. cond (wellNamed p w) (unknown s above (indexOf (names p above) w) (cond (hasRoom above p) (got w e) (refused 7))) (refused 2)) (λ n. n) (λ n. (newName above p n && hasRoom above p) ≡ true)
       (λ w e n nx q.
-        let t = passes (wellNamed p w) 2 (unknown s above (indexOf (names p above) w) (cond (hasRoom above p) (got w e) (refused 7))) q in
-        let u = unknown-at (indexOf (names p above) w) (cond (hasRoom above p) (got w e) (refused 7)) n nx (t .1) in
-        let v = passes (hasRoom above p) 7 (got w e) (u .1) in
-        let i : w ≡ n = got-value (v .1) in
-        (i, got-next (v .1), subst (λ (m : Name). (newName above p m && hasRoom above p) ≡ true) i (and-both (newName above p w) (hasRoom above p) (and-both (wellNamed p w) (not (anyb (eql w) (names p above))) (t .0) (ap not (nothing-fresh (names p above) w (index-nothing (names p above) w .0 (u .0))))) (v .0))))
+      let t = passes (wellNamed p w) 2 (unknown s above (indexOf (names p above) w) (cond (hasRoom above p) (got w e) (refused 7))) q in
+      let u = unknown-at (indexOf (names p above) w) (cond (hasRoom above p) (got w e) (refused 7)) n nx (t .1) in
+      let v = passes (hasRoom above p) 7 (got w e) (u .1) in
+      let i : w ≡ n = got-value (v .1) in
+      (i, got-next (v .1), subst (λ (m : Name). (newName above p m && hasRoom above p) ≡ true) i (and-both (newName above p w) (hasRoom above p) (and-both (wellNamed p w) (not (anyb (eql w) (names p above))) (t .0) (ap not (nothing-fresh (names p above) w (index-nothing (names p above) w .0 (u .0))))) (v .0))))
       (λ n d e.
-        let a = and-left (newName above p n) (hasRoom above p) d in
-        ap₂ (λ (b : Bool) (r : Found). cond b (unknown s above r (cond (hasRoom above p) (got n e) (refused 7))) (refused 2)) (and-left (wellNamed p n) (not (anyb (eql n) (names p above))) a) (index-nothing (names p above) n .1 (fresh-nothing (names p above) n (not-true (anyb (eql n) (names p above)) (and-right (wellNamed p n) (not (anyb (eql n) (names p above))) a))))
-        ∙ ap (λ (b : Bool). cond b (got n e) (refused 7)) (and-right (newName above p n) (hasRoom above p) d))
+      let a = and-left (newName above p n) (hasRoom above p) d in
+      ap₂ (λ (b : Bool) (r : Found). cond b (unknown s above r (cond (hasRoom above p) (got n e) (refused 7))) (refused 2)) (and-left (wellNamed p n) (not (anyb (eql n) (names p above))) a) (index-nothing (names p above) n .1 (fresh-nothing (names p above) n (not-true (anyb (eql n) (names p above)) (and-right (wellNamed p n) (not (anyb (eql n) (names p above))) a))))
+      ∙ ap (λ (b : Bool). cond b (got n e) (refused 7)) (and-right (newName above p n) (hasRoom above p) d))
       (λ n d. named-plain p n (and-left (wellNamed p n) (not (anyb (eql n) (names p above))) (and-left (newName above p n) (hasRoom above p) d)))
 
   -- ---- a subject, a literal's datatype
@@ -181,11 +181,11 @@ module _ (s : List ℕ) (above : Book) where
   high-at w e u nx q = ⊎-elim
       (λ t. let i : unbounded ≡ u = got-value (t .1) in (eql-true w (bytes "*") (t .0) ∙ ap writeUpper i, got-next (t .1), ap upperOk (sym i)))
       (λ t.
-        let (n, m, r, g) = thens (bounded s above (boundOf w) e) (λ n next. got (atMost n) next) (t .1) in
-        let b = bound-at (boundOf w) e n m r in
-        let v = bound-value w n .0 (b .0) in
-        let i : atMost n ≡ u = got-value g in
-        (v .0 ∙ ap writeUpper i, b .1 ∙ got-next g, ap upperOk (sym i) ∙ le-leb n 1024 (v .1)))
+      let (n, m, r, g) = thens (bounded s above (boundOf w) e) (λ n next. got (atMost n) next) (t .1) in
+      let b = bound-at (boundOf w) e n m r in
+      let v = bound-value w n .0 (b .0) in
+      let i : atMost n ≡ u = got-value g in
+      (v .0 ∙ ap writeUpper i, b .1 ∙ got-next g, ap upperOk (sym i) ∙ le-leb n 1024 (v .1)))
       (one-of (eql w (bytes "*")) (got unbounded e) (andThen (bounded s above (boundOf w) e) (λ n next. got (atMost n) next)) q)
 
   high-gives : (u : Upper) → upperOk u ≡ true → (e : ℕ) → cond (eql (writeUpper u) (bytes "*")) (got unbounded e) (andThen (bounded s above (boundOf (writeUpper u)) e) (λ n next. got (atMost n) next)) ≡ got u e
@@ -208,23 +208,23 @@ module _ (s : List ℕ) (above : Book) where
     list-sound zero at h ks nx e = ⊎-elim
         (λ t. let (k, m, r, g) = thens (usedAt s above p (at + 1)) (λ k next. refused 7) (t .1) in absurd (never-refused g))
         (λ t.
-          let i : [] ≡ ks = got-value (t .1) in
-          subst (λ (ks : List ℕ). Span s at nx (spaced (map (nameOf above p) ks)) × Listed 0 ks) i (subst (λ (n : ℕ). Span s at n []) (got-next (t .1)) (span-nothing s at h), (refl, omega arith)))
+        let i : [] ≡ ks = got-value (t .1) in
+        subst (λ (ks : List ℕ). Span s at nx (spaced (map (nameOf above p) ks)) × Listed 0 ks) i (subst (λ (n : ℕ). Span s at n []) (got-next (t .1)) (span-nothing s at h), (refl, omega arith)))
         (one-of (eqb (getD s at 0) 32) (andThen (usedAt s above p (at + 1)) (λ k next. refused 7)) (got [] at) e)
     list-sound (suc room) at h ks nx e = ⊎-elim
         (λ t.
-          let sp = span-byte s at 31 (eqb-true (getD s at 0) 32 (t .0)) in
-          let (k, m, r, g) = thens (usedAt s above p (at + 1)) (λ k next. andThen (listAt s above p room next) (λ ks last. got (k ∷ ks) last)) (t .1) in
-          let u = used-exact N p .sound (at + 1) (sp .within) k m r in
-          let (js, l, r′, g′) = thens (listAt s above p room m) (λ ks last. got (k ∷ ks) last) g in
-          let v = list-sound room m (u .0 .within) js l r′ in
-          let i : k ∷ js ≡ ks = got-value g′ in
-          let len = v .1 .1 in
-          subst (λ (ks : List ℕ). Span s at nx (spaced (map (nameOf above p) ks)) × Listed (suc room) ks) i
-          (subst (λ (n : ℕ). Span s at n (spaced (map (nameOf above p) (k ∷ js)))) (got-next g′) (span-join sp (span-join (u .0) (v .0))), (and-both (defined above p k) (allb (defined above p) js) (u .1) (v .1 .0), omega arith)))
+        let sp = span-byte s at 31 (eqb-true (getD s at 0) 32 (t .0)) in
+        let (k, m, r, g) = thens (usedAt s above p (at + 1)) (λ k next. andThen (listAt s above p room next) (λ ks last. got (k ∷ ks) last)) (t .1) in
+        let u = used-exact N p .sound (at + 1) (sp .within) k m r in
+        let (js, l, r′, g′) = thens (listAt s above p room m) (λ ks last. got (k ∷ ks) last) g in
+        let v = list-sound room m (u .0 .within) js l r′ in
+        let i : k ∷ js ≡ ks = got-value g′ in
+        let len = v .1 .1 in
+        subst (λ (ks : List ℕ). Span s at nx (spaced (map (nameOf above p) ks)) × Listed (suc room) ks) i
+        (subst (λ (n : ℕ). Span s at n (spaced (map (nameOf above p) (k ∷ js)))) (got-next g′) (span-join sp (span-join (u .0) (v .0))), (and-both (defined above p k) (allb (defined above p) js) (u .1) (v .1 .0), omega arith)))
         (λ t.
-          let i : [] ≡ ks = got-value (t .1) in
-          subst (λ (ks : List ℕ). Span s at nx (spaced (map (nameOf above p) ks)) × Listed (suc room) ks) i (subst (λ (n : ℕ). Span s at n []) (got-next (t .1)) (span-nothing s at h), (refl, omega arith)))
+        let i : [] ≡ ks = got-value (t .1) in
+        subst (λ (ks : List ℕ). Span s at nx (spaced (map (nameOf above p) ks)) × Listed (suc room) ks) i (subst (λ (n : ℕ). Span s at n []) (got-next (t .1)) (span-nothing s at h), (refl, omega arith)))
         (one-of (eqb (getD s at 0) 32) (andThen (usedAt s above p (at + 1)) (λ k next. andThen (listAt s above p room next) (λ ks last. got (k ∷ ks) last))) (got [] at) e)
 
     list-edge : (ks : List ℕ) (mid nx : ℕ) → Span s mid nx (spaced (map (nameOf above p) ks)) → getD s nx 0 ≡ 41 → Edge s mid

@@ -5,3 +5,4 @@ pub mod Families
 pub mod Rows
 pub mod Nesting
 pub mod Lines
+pub mod Books

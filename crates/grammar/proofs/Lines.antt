@@ -129,10 +129,10 @@ module _ (above : Book) where
   fits-from s shapeL xs f e =
       let φ = xs .1 .0 in
       let p = and-right (leb (formsIn above + formEntries (xs .1 .0)) 112) (leb (pathsIn above + shapePaths (xs .1 .0)) 128 && leb (itemsIn above + listItems (xs .1 .0)) 128) e in
-      record
-      { forms = leb-true (formsIn above + formEntries (xs .1 .0)) 112 (and-left (leb (formsIn above + formEntries (xs .1 .0)) 112) (leb (pathsIn above + shapePaths (xs .1 .0)) 128 && leb (itemsIn above + listItems (xs .1 .0)) 128) e)
-      ; paths = leb-true (pathsIn above + shapePaths (xs .1 .0)) 128 (and-left (leb (pathsIn above + shapePaths (xs .1 .0)) 128) (leb (itemsIn above + listItems (xs .1 .0)) 128) p)
-      ; items = leb-true (itemsIn above + listItems (xs .1 .0)) 128 (and-right (leb (pathsIn above + shapePaths (xs .1 .0)) 128) (leb (itemsIn above + listItems (xs .1 .0)) 128) p)
+      record {
+        forms = leb-true (formsIn above + formEntries (xs .1 .0)) 112 (and-left (leb (formsIn above + formEntries (xs .1 .0)) 112) (leb (pathsIn above + shapePaths (xs .1 .0)) 128 && leb (itemsIn above + listItems (xs .1 .0)) 128) e);
+        paths = leb-true (pathsIn above + shapePaths (xs .1 .0)) 128 (and-left (leb (pathsIn above + shapePaths (xs .1 .0)) 128) (leb (itemsIn above + listItems (xs .1 .0)) 128) p);
+        items = leb-true (itemsIn above + listItems (xs .1 .0)) 128 (and-right (leb (pathsIn above + shapePaths (xs .1 .0)) 128) (leb (itemsIn above + listItems (xs .1 .0)) 128) p);
       }
   fits-from s ruleL xs f e = f
 
@@ -173,12 +173,13 @@ module _ (s : List ℕ) (above : Book) (N : Pools above) (f : Fit (begunAbove s 
       let xs = O .args in
       let dd = O .good .1 in
       let dr = line-depth above (O .code) (O .args) in
-      subst (λ (l : Line). Span s at nx (writeLine above l) × (validLine above l ≡ true)) (O .made)
-      ( subst (λ (w : List ℕ). Span s at nx w) (sym (line-text above (O .code) (O .args))) (O .span)
-      , valid-tests above (lineFamily .build (O .code) (O .args)) (argsOk above (lineFamily .slots (O .code)) (O .args) && (lineRoom s above (O .code) && lineFits above (O .code) (O .args))) (line-ok above s (O .code) (O .args))
-        ∙ and-both (argsOk above (lineFamily .slots (O .code)) (O .args) && (lineRoom s above (O .code) && lineFits above (O .code) (O .args))) (leb (lineDepth (lineFamily .build (O .code) (O .args))) 32)
-        (and-both (argsOk above (lineFamily .slots (O .code)) (O .args)) (lineRoom s above (O .code) && lineFits above (O .code) (O .args)) (O .good .0) (and-both (lineRoom s above (O .code)) (lineFits above (O .code) (O .args)) (O .roomy) (from-fits above s (O .code) (O .args) (O .good .2))))
-        (le-leb (lineDepth (lineFamily .build (O .code) (O .args))) 32 (omega arith)) )
+      subst (λ (l : Line). Span s at nx (writeLine above l) × (validLine above l ≡ true)) (O .made) (
+        subst (λ (w : List ℕ). Span s at nx w) (sym (line-text above (O .code) (O .args))) (O .span),
+        valid-tests above (lineFamily .build (O .code) (O .args)) (argsOk above (lineFamily .slots (O .code)) (O .args) && (lineRoom s above (O .code) && lineFits above (O .code) (O .args))) (line-ok above s (O .code) (O .args))
+            ∙ and-both (argsOk above (lineFamily .slots (O .code)) (O .args) && (lineRoom s above (O .code) && lineFits above (O .code) (O .args))) (leb (lineDepth (lineFamily .build (O .code) (O .args))) 32)
+            (and-both (argsOk above (lineFamily .slots (O .code)) (O .args)) (lineRoom s above (O .code) && lineFits above (O .code) (O .args)) (O .good .0) (and-both (lineRoom s above (O .code)) (lineFits above (O .code) (O .args)) (O .roomy) (from-fits above s (O .code) (O .args) (O .good .2))))
+            (le-leb (lineDepth (lineFamily .build (O .code) (O .args))) 32 (omega arith)),
+      )
 
   pub line-sound : (at : ℕ) → at ≤ length s → (l : Line) (nx : ℕ) → lineAt s above at ≡ got l nx → Span s at nx (writeLine above l ++ (10 ∷ [])) × (validLine above l ≡ true)
   unfolding lineAt

@@ -66,12 +66,12 @@ module _ (s : List ℕ) (above : Book) (N : Pools above) (k : Slot) (F : Family 
 
   pub family-exact : Bare → Exact s (Edge s) reader W (Good above d n k)
   family-exact B =
-      record
-      { sound = λ at h x nx e. ⊎-elim (λ b. B .bare-sound at h x nx b) (opened-good x at nx) (bracket-sound s above N F placed R d′ deep full (λ c. true) (begun n) X opens (bare at) at h x nx e)
-      ; complete = λ at nx x p q e. ⊎-elim
-          (λ f. let u = f at nx p q e in bracket-bare s above N F placed R d′ deep full (λ c. true) (begun n) X opens (bare at) at (u .0) ∙ u .1)
-          (λ v. let (c, xs, i) = v in subst (λ (x : Arg k). Span s at nx (W x) → Good above d n k x → reader at ≡ got x nx) i (built c xs at nx) p q)
-          (B .view x)
+      record {
+        sound = λ at h x nx e. ⊎-elim (λ b. B .bare-sound at h x nx b) (opened-good x at nx) (bracket-sound s above N F placed R d′ deep full (λ c. true) (begun n) X opens (bare at) at h x nx e);
+        complete = λ at nx x p q e. ⊎-elim
+            (λ f. let u = f at nx p q e in bracket-bare s above N F placed R d′ deep full (λ c. true) (begun n) X opens (bare at) at (u .0) ∙ u .1)
+            (λ v. let (c, xs, i) = v in subst (λ (x : Arg k). Span s at nx (W x) → Good above d n k x → reader at ≡ got x nx) i (built c xs at nx) p q)
+            (B .view x);
       }
 
 -- ---- what is bare
@@ -102,10 +102,11 @@ module _ (s : List ℕ) (above : Book) (N : Pools above) (d : ℕ) (n : Begun) w
   unfolding linkAt writePath pathOk after pathEntries
   link-complete p at nx q g e =
       let l = g .2 .paths in
-      let w = link-name p (g .0) in
-      ( word-start (nameOf above links p) at nx q (w .0) (w .1)
-      , ap (λ (r : Read ℕ). andThen r (λ p next. cond (leb 128 (n .paths)) (refused 7) (got (predicate p) next))) (used-exact s above N links .complete at nx p q (g .0) e)
-        ∙ ap (λ (b : Bool). cond b (refused 7) (got (predicate p) nx)) (lt-leb 128 (n .paths) (omega arith)) )
+      let w = link-name p (g .0) in (
+        word-start (nameOf above links p) at nx q (w .0) (w .1),
+        ap (λ (r : Read ℕ). andThen r (λ p next. cond (leb 128 (n .paths)) (refused 7) (got (predicate p) next))) (used-exact s above N links .complete at nx p q (g .0) e)
+            ∙ ap (λ (b : Bool). cond b (refused 7) (got (predicate p) nx)) (lt-leb 128 (n .paths) (omega arith)),
+      )
 
   true-sound : Fit n → (at : ℕ) → at ≤ length s → (x : Shape) (nx : ℕ) → trueAt s above (leb 112 (n .forms)) at ≡ got x nx → Span s at nx (writeShape above x) × Good above d n form x
   unfolding trueAt writeShape shapeOk shapeDepth after formEntries shapePaths listItems
@@ -119,10 +120,11 @@ module _ (s : List ℕ) (above : Book) (N : Pools above) (d : ℕ) (n : Begun) w
   true-complete : (at nx : ℕ) → Span s at nx (writeShape above top) → Good above d n form top → Edge s nx → (getD s at 0 ≡ 40 → ⊥) × (trueAt s above (leb 112 (n .forms)) at ≡ got top nx)
   unfolding trueAt writeShape after formEntries allb edge
   true-complete at nx p g e =
-      let l = g .2 .forms in
-      ( word-start (bytes "true") at nx p refl (omega arith)
-      , ap₂ (λ (w : List ℕ) (j : ℕ). cond (eql w (bytes "true")) (cond (leb 112 (n .forms)) (refused 7) (got top j)) (refused 2)) (word-item (bytes "true") p refl (ends-of s nx e)) (word-ends (bytes "true") p refl (ends-of s nx e))
-        ∙ ap₂ (λ (a b : Bool). cond a (cond b (refused 7) (got top nx)) (refused 2)) (eql-refl (bytes "true")) (lt-leb 112 (n .forms) (omega arith)) )
+      let l = g .2 .forms in (
+        word-start (bytes "true") at nx p refl (omega arith),
+        ap₂ (λ (w : List ℕ) (j : ℕ). cond (eql w (bytes "true")) (cond (leb 112 (n .forms)) (refused 7) (got top j)) (refused 2)) (word-item (bytes "true") p refl (ends-of s nx e)) (word-ends (bytes "true") p refl (ends-of s nx e))
+            ∙ ap₂ (λ (a b : Bool). cond a (cond b (refused 7) (got top nx)) (refused 2)) (eql-refl (bytes "true")) (lt-leb 112 (n .forms) (omega arith)),
+      )
 
 -- ---- what is a bracket
 abbrev Made : (k : Slot) (F : Family (Arg k)) → Arg k → Type 0
@@ -183,18 +185,18 @@ module _ (s : List ℕ) (above : Book) (N : Pools above) where
   step : (R : Readers) (d d′ : ℕ) (deep : Bool) → (deep ≡ true → d ≡ 0) → (deep ≡ false → d ≡ suc d′) → (deep ≡ false → Exacts s above R d′) → Exacts s above (within s above deep R) d
   unfolding within
   step R d d′ deep none one X =
-      record
-      { pathE = λ n f. family-exact s above N path pathFamily path-placed (writePath above) pathBegun (path-rows above) R d d′ deep (leb 128 (n .paths)) n (linkAt s above (leb 128 (n .paths))) none one X
-          (λ e. record { forms = f .forms; paths = let l = leb-false 128 (n .paths) e in omega arith; items = f .items })
-          (λ g. lt-leb 128 (n .paths) (let l = g .paths in omega arith))
-          (record { bare-sound = link-sound s above N d n f; view = λ x. path-view d n x (path-made x) })
-      ; formE = λ n f. family-exact s above N form formFamily form-placed (writeShape above) formBegun (form-rows above) R d d′ deep (leb 112 (n .forms)) n (trueAt s above (leb 112 (n .forms))) none one X
-          (λ e. record { forms = let l = leb-false 112 (n .forms) e in omega arith; paths = f .paths; items = f .items })
-          (λ g. lt-leb 112 (n .forms) (let l = g .forms in omega arith))
-          (record { bare-sound = true-sound s above N d n f; view = λ x. form-view d n x (form-made x) })
-      ; targetE = λ n f. family-exact s above N target targetFamily target-placed (writeTarget above) (λ n. n) (target-rows above) R d d′ deep false n (λ at. refused 2) none one X
-          (λ e. f) (λ g. refl)
-          (record { bare-sound = λ at h x nx e. absurd (never-refused e); view = λ x. inr (target-made x) })
+      record {
+        pathE = λ n f. family-exact s above N path pathFamily path-placed (writePath above) pathBegun (path-rows above) R d d′ deep (leb 128 (n .paths)) n (linkAt s above (leb 128 (n .paths))) none one X
+            (λ e. record { forms = f .forms; paths = let l = leb-false 128 (n .paths) e in omega arith; items = f .items })
+            (λ g. lt-leb 128 (n .paths) (let l = g .paths in omega arith))
+            (record { bare-sound = link-sound s above N d n f; view = λ x. path-view d n x (path-made x) });
+        formE = λ n f. family-exact s above N form formFamily form-placed (writeShape above) formBegun (form-rows above) R d d′ deep (leb 112 (n .forms)) n (trueAt s above (leb 112 (n .forms))) none one X
+            (λ e. record { forms = let l = leb-false 112 (n .forms) e in omega arith; paths = f .paths; items = f .items })
+            (λ g. lt-leb 112 (n .forms) (let l = g .forms in omega arith))
+            (record { bare-sound = true-sound s above N d n f; view = λ x. form-view d n x (form-made x) });
+        targetE = λ n f. family-exact s above N target targetFamily target-placed (writeTarget above) (λ n. n) (target-rows above) R d d′ deep false n (λ at. refused 2) none one X
+            (λ e. f) (λ g. refl)
+            (record { bare-sound = λ at h x nx e. absurd (never-refused e); view = λ x. inr (target-made x) });
       }
 
   pub readers-exact : (left : ℕ) → Exacts s above (readersAt s above left) left

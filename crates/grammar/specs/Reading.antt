@@ -181,10 +181,10 @@ module _ (s : List ℕ) (above : Book) where
   -- the readers with one bracket more, where R reads within it; deep: no bracket more
   unfoldable pub within : Bool → Readers → Readers
   within deep R =
-      record
-      { pathR = λ n at. bracketAt pathFamily R deep (leb maxPaths (n .paths)) (λ c. true) (linkAt (leb maxPaths (n .paths)) at) (pathBegun n) at
-      ; formR = λ n at. bracketAt formFamily R deep (leb maxForms (n .forms)) (λ c. true) (trueAt (leb maxForms (n .forms)) at) (formBegun n) at
-      ; targetR = λ n at. bracketAt targetFamily R deep false (λ c. true) (refused 2) n at
+      record {
+        pathR = λ n at. bracketAt pathFamily R deep (leb maxPaths (n .paths)) (λ c. true) (linkAt (leb maxPaths (n .paths)) at) (pathBegun n) at;
+        formR = λ n at. bracketAt formFamily R deep (leb maxForms (n .forms)) (λ c. true) (trueAt (leb maxForms (n .forms)) at) (formBegun n) at;
+        targetR = λ n at. bracketAt targetFamily R deep false (λ c. true) (refused 2) n at;
       }
 
   abbrev pub noReaders : Readers
@@ -222,13 +222,18 @@ pub data Outcome : Type 0 where
   accepted : Book → Outcome
   turnedDown : ℕ → ℕ → Outcome
 
+-- a line was read, and what follows it; or the refusal at that line
+abbrev pub follow : ℕ → Read Line → (Line → ℕ → Outcome) → Outcome
+follow line (got l next) k = k l next
+follow line (refused r) k = turnedDown r line
+
 module _ (s : List ℕ) where
   -- the lines from a position on, after the book above, of which there are line; at most fuel of them
   unfoldable pub linesFrom : ℕ → ℕ → ℕ → Book → Outcome
   linesFrom zero at line above = accepted above
   linesFrom (suc fuel) at line above =
       cond (ltb at (length s))
-      (elim (lineAt s above at) [ got l next ↦ linesFrom fuel next (line + 1) (above ++ (l ∷ [])) | refused r ↦ turnedDown r (line + 1) ])
+      (follow (line + 1) (lineAt s above at) (λ l next. linesFrom fuel next (line + 1) (above ++ (l ∷ []))))
       (accepted above)
 
 -- each line has at least a byte, so a text has no more lines than bytes

@@ -144,13 +144,13 @@ formOf onelangC a = uniqueLang (a .0)
 
 abbrev pub formFamily : Family Shape
 formFamily =
-    record
-    { Code = FormCode
-    ; codes = isC ∷ shapeC ∷ andC ∷ orC ∷ notC ∷ kindC ∷ datatypeC ∷ langC ∷ fromC ∷ aboveC ∷ toC ∷ belowC ∷ countC ∷ allC ∷ equalC ∷ apartC ∷ closedC ∷ lessC ∷ lesseqC ∷ onelangC ∷ []
-    ; other = isC
-    ; word = formWord
-    ; slots = formSlots
-    ; build = formOf
+    record {
+      Code = FormCode;
+      codes = isC ∷ shapeC ∷ andC ∷ orC ∷ notC ∷ kindC ∷ datatypeC ∷ langC ∷ fromC ∷ aboveC ∷ toC ∷ belowC ∷ countC ∷ allC ∷ equalC ∷ apartC ∷ closedC ∷ lessC ∷ lesseqC ∷ onelangC ∷ [];
+      other = isC;
+      word = formWord;
+      slots = formSlots;
+      build = formOf;
     }
 
 -- ---- TARGET
@@ -223,11 +223,11 @@ lineOf ruleL a = rule (record { shape = a .0; target = a .1 .0 })
 
 abbrev pub lineFamily : Family Line
 lineFamily =
-    record
-    { Code = LineCode
-    ; codes = linkL ∷ typeL ∷ langL ∷ thingL ∷ blankL ∷ numberL ∷ textL ∷ wordsL ∷ factL ∷ shapeL ∷ ruleL ∷ []
-    ; other = linkL
-    ; word = lineWord
-    ; slots = lineSlots
-    ; build = lineOf
+    record {
+      Code = LineCode;
+      codes = linkL ∷ typeL ∷ langL ∷ thingL ∷ blankL ∷ numberL ∷ textL ∷ wordsL ∷ factL ∷ shapeL ∷ ruleL ∷ [];
+      other = linkL;
+      word = lineWord;
+      slots = lineSlots;
+      build = lineOf;
     }
