@@ -1,0 +1,107 @@
+-- Lists by number: what a function gives for each number, what a list that grew still has, and columns read back.
+use Prim.Native.Nat.{ℕ, zero, suc, _+_, _-_, _≤_, _<_}
+use mathlib.Core.List.{List, [], _∷_, _++_, map, append-nil, append-assoc}
+use mathlib.Core.Bool.{Bool, true, false, _&&_}
+use mathlib.Core.Path.{_≡_, refl, sym, ap, ap₂, _∙_, subst}
+use native.Mathlib.Nat.{zero-add}
+use native.Mathlib.Omega.{arith}
+use lib.Dec.{eqb, ltb, leb}
+use lib.ListN.{length, getD, length-append, List·getD-append, List·getD-eq-default}
+use lib.Seq.{ext-getD, getD-append-add, getD-append-seam}
+use borrow.Author.Tests.{eqb-true, ltb-true, ltb-false}
+use Rattle.base.specs.Lists.{allb, valuesFrom, values}
+use Rattle.base.specs.Columns.{Column, pad, flat, offset, column}
+use Rattle.base.proofs.Bools.{bool-cases, and-left, and-right, and-both}
+use Rattle.base.proofs.Lists.{length-valuesFrom, at-valuesFrom, allb-append}
+use Rattle.base.proofs.Columns.{at-flat, at-pad, length-pad}
+
+-- a place below n or not
+pub below-or : (P : Type 0) (i n : ℕ) → (i < n → P) → (n ≤ i → P) → P
+below-or P i n f g = bool-cases (λ b. ltb i n ≡ b → P) (ltb i n) (λ _ e. f (ltb-true i n e)) (λ _ e. g (ltb-false i n e)) refl
+
+pub at-map : {A B : Type 0} (f : A → B) (xs : List A) (i : ℕ) (d : A) (e : B) → i < length xs → getD (map f xs) i e ≡ f (getD xs i d)
+at-map f [] i d e l = absurd (omega arith)
+at-map f (x ∷ xs) zero d e l = refl
+at-map f (x ∷ xs) (suc i) d e l = at-map f xs i d e (omega arith)
+
+-- a weaker test of every element
+pub allb-weaker : {A : Type 0} (p q : A → Bool) (xs : List A) → ((x : A) → p x ≡ true → q x ≡ true) → allb p xs ≡ true → allb q xs ≡ true
+unfolding allb
+allb-weaker p q [] h e = refl
+allb-weaker p q (x ∷ xs) h e = and-both (q x) (allb q xs) (h x (and-left (p x) (allb p xs) e)) (allb-weaker p q xs h (and-right (p x) (allb p xs) e))
+
+-- f gives the items of xs by their numbers
+abbrev pub Gives : {A : Type 0} → (ℕ → A) → List A → Type 0
+Gives {A} f xs = (i : ℕ) (d : A) → i < length xs → f i ≡ getD xs i d
+
+module _ {A : Type 0} (f : ℕ → A) where
+  pub gives-front : (xs ys : List A) → Gives f (xs ++ ys) → Gives f xs
+  gives-front xs ys h i d l = h i d (omega (arith, length-append xs ys)) ∙ List·getD-append xs ys d i l
+
+  pub gives-back : (xs ys : List A) → Gives f (xs ++ ys) → (j : ℕ) (d : A) → j < length ys → f (length xs + j) ≡ getD ys j d
+  gives-back xs ys h j d l = h (length xs + j) d (omega (arith, length-append xs ys)) ∙ getD-append-add xs ys j d
+
+  pub gives-end : (xs : List A) (x : A) → Gives f (xs ++ (x ∷ [])) → f (length xs) ≡ x
+  gives-end xs x h = h (length xs) x (omega (arith, length-append xs (x ∷ []))) ∙ getD-append-seam xs x [] x
+
+  -- as many values of f from number i on
+  pub valuesFrom-is : (i : ℕ) (xs : List A) → ((j : ℕ) (d : A) → j < length xs → f (i + j) ≡ getD xs j d) → valuesFrom f i (length xs) ≡ xs
+  unfolding valuesFrom
+  valuesFrom-is i [] h = refl
+  valuesFrom-is i (x ∷ xs) h =
+      ext-getD x (valuesFrom f i (length (x ∷ xs))) (x ∷ xs) (length-valuesFrom f i (length (x ∷ xs))) (λ j l.
+      let l′ : j < length (x ∷ xs) = omega (arith, length-valuesFrom f i (length (x ∷ xs))) in
+      at-valuesFrom f i (length (x ∷ xs)) j x l′ ∙ h j x l′)
+
+  pub values-is : (n : ℕ) (xs : List A) → n ≡ length xs → Gives f xs → values f n ≡ xs
+  values-is n xs e h = ap (values f) e ∙ valuesFrom-is 0 xs (λ j d l. ap f (zero-add j) ∙ h j d l)
+
+-- ys goes on where xs ends
+abbrev pub Extends : {A : Type 0} → List A → List A → Type 0
+Extends {A} xs ys = (t : List A) × (ys ≡ xs ++ t)
+
+module _ {A : Type 0} where
+  pub extends-refl : (xs : List A) → Extends xs xs
+  extends-refl xs = ([], sym (append-nil xs))
+
+  pub extends-more : (xs t : List A) → Extends xs (xs ++ t)
+  extends-more xs t = (t, refl)
+
+  pub extends-trans : (xs ys zs : List A) → Extends xs ys → Extends ys zs → Extends xs zs
+  extends-trans xs ys zs (t, e) (u, q) = (t ++ u, q ∙ ap (λ (l : List A). l ++ u) e ∙ append-assoc xs t u)
+
+  pub extends-length : (xs ys : List A) → Extends xs ys → length xs ≤ length ys
+  extends-length xs ys (t, e) = omega (arith, ap length e, length-append xs t)
+
+  pub gives-before : (f : ℕ → A) (xs ys : List A) → Extends xs ys → Gives f ys → Gives f xs
+  gives-before f xs ys (t, e) h = gives-front f xs t (subst (Gives f) e h)
+
+-- p holds of the items of xs with their numbers
+abbrev pub Each : {A : Type 0} → (ℕ → A → Bool) → List A → Type 0
+Each {A} p xs = (i : ℕ) (d : A) → i < length xs → p i (getD xs i d) ≡ true
+
+pub each-none : {A : Type 0} (p : ℕ → A → Bool) → Each p []
+each-none p i d l = absurd (omega arith)
+
+pub each-snoc : {A : Type 0} (p : ℕ → A → Bool) (xs : List A) (x : A) → Each p xs → p (length xs) x ≡ true → Each p (xs ++ (x ∷ []))
+each-snoc {A} p xs x h e i d l =
+    below-or (p i (getD (xs ++ (x ∷ [])) i d) ≡ true) i (length xs)
+    (λ k. ap (p i) (List·getD-append xs (x ∷ []) d i k) ∙ h i d k)
+    (λ k. let q : i ≡ length xs = omega (arith, length-append xs (x ∷ [])) in
+    ap (λ (j : ℕ). p j (getD (xs ++ (x ∷ [])) j d)) q ∙ ap (p (length xs)) (getD-append-seam xs x [] d) ∙ e)
+
+-- ---- columns
+module _ {A : Type 0} (d : A) where
+  -- a place that no item takes has the default
+  pub at-unused : (cs : List (Column A)) (k i : ℕ) → i < column cs k .width → length (column cs k .items) ≤ i → getD (flat d cs) (offset cs k + i) d ≡ d
+  at-unused cs k i l u = at-flat d cs k i l ∙ List·getD-eq-default (column cs k .items) d u
+
+  -- a column of rows: place i has the field of row i
+  pub at-column : {X : Type 0} (cs : List (Column A)) (k : ℕ) (f : X → A) (xs : List X) → column cs k .items ≡ map f xs → length xs ≤ column cs k .width → (i : ℕ) (x : X) → i < length xs → getD (flat d cs) (offset cs k + i) d ≡ f (getD xs i x)
+  at-column cs k f xs e w i x l = at-flat d cs k i (omega arith) ∙ ap (λ (l : List A). getD l i d) e ∙ at-map f xs i x d l
+
+  -- past the end too
+  at-pad-any : (w : ℕ) (xs : List A) (i : ℕ) → length xs ≤ w → getD (pad d w xs) i d ≡ getD xs i d
+  at-pad-any w xs i h =
+      below-or (getD (pad d w xs) i d ≡ getD xs i d) i w (at-pad d w xs i)
+      (λ k. List·getD-eq-default (pad d w xs) d (subst (λ (n : ℕ). n ≤ i) (sym (length-pad d w xs)) k) ∙ sym (List·getD-eq-default xs d (omega arith)))
