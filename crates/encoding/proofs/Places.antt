@@ -24,15 +24,38 @@ at-map f [] i d e l = absurd (omega arith)
 at-map f (x ∷ xs) zero d e l = refl
 at-map f (x ∷ xs) (suc i) d e l = at-map f xs i d e (omega arith)
 
+pub any-default : {A : Type 0} (xs : List A) (i : ℕ) (d e : A) → i < length xs → getD xs i d ≡ getD xs i e
+any-default [] i d e l = absurd (omega arith)
+any-default (x ∷ xs) zero d e l = refl
+any-default (x ∷ xs) (suc i) d e l = any-default xs i d e (omega arith)
+
 -- a weaker test of every element
 pub allb-weaker : {A : Type 0} (p q : A → Bool) (xs : List A) → ((x : A) → p x ≡ true → q x ≡ true) → allb p xs ≡ true → allb q xs ≡ true
 unfolding allb
 allb-weaker p q [] h e = refl
 allb-weaker p q (x ∷ xs) h e = and-both (q x) (allb q xs) (h x (and-left (p x) (allb p xs) e)) (allb-weaker p q xs h (and-right (p x) (allb p xs) e))
 
--- f gives the items of xs by their numbers
+-- P holds of each item of xs with its number
+abbrev pub ByNumber : {A : Type 0} → (ℕ → A → Type 0) → List A → Type 0
+ByNumber {A} P xs = (i : ℕ) (d : A) → i < length xs → P i (getD xs i d)
+
+pub by-number-none : {A : Type 0} (P : ℕ → A → Type 0) → ByNumber P []
+by-number-none P i d l = absurd (omega arith)
+
+-- one item more
+pub by-number-snoc : {A : Type 0} (P : ℕ → A → Type 0) (xs : List A) (x : A) → ByNumber P xs → P (length xs) x → ByNumber P (xs ++ (x ∷ []))
+by-number-snoc {A} P xs x h e i d l =
+    below-or (P i (getD (xs ++ (x ∷ [])) i d)) i (length xs)
+    (λ k. subst (P i) (sym (List·getD-append xs (x ∷ []) d i k)) (h i d k))
+    (λ k. let q : i ≡ length xs = omega (arith, length-append xs (x ∷ [])) in
+    subst (λ (j : ℕ). P j (getD (xs ++ (x ∷ [])) j d)) (sym q) (subst (P (length xs)) (sym (getD-append-seam xs x [] d)) e))
+
+-- f gives the items of xs by their numbers; p holds of each with its number
 abbrev pub Gives : {A : Type 0} → (ℕ → A) → List A → Type 0
-Gives {A} f xs = (i : ℕ) (d : A) → i < length xs → f i ≡ getD xs i d
+Gives f = ByNumber (λ i x. f i ≡ x)
+
+abbrev pub Each : {A : Type 0} → (ℕ → A → Bool) → List A → Type 0
+Each p = ByNumber (λ i x. p i x ≡ true)
 
 module _ {A : Type 0} (f : ℕ → A) where
   pub gives-front : (xs ys : List A) → Gives f (xs ++ ys) → Gives f xs
@@ -76,20 +99,6 @@ module _ {A : Type 0} where
   pub gives-before : (f : ℕ → A) (xs ys : List A) → Extends xs ys → Gives f ys → Gives f xs
   gives-before f xs ys (t, e) h = gives-front f xs t (subst (Gives f) e h)
 
--- p holds of the items of xs with their numbers
-abbrev pub Each : {A : Type 0} → (ℕ → A → Bool) → List A → Type 0
-Each {A} p xs = (i : ℕ) (d : A) → i < length xs → p i (getD xs i d) ≡ true
-
-pub each-none : {A : Type 0} (p : ℕ → A → Bool) → Each p []
-each-none p i d l = absurd (omega arith)
-
-pub each-snoc : {A : Type 0} (p : ℕ → A → Bool) (xs : List A) (x : A) → Each p xs → p (length xs) x ≡ true → Each p (xs ++ (x ∷ []))
-each-snoc {A} p xs x h e i d l =
-    below-or (p i (getD (xs ++ (x ∷ [])) i d) ≡ true) i (length xs)
-    (λ k. ap (p i) (List·getD-append xs (x ∷ []) d i k) ∙ h i d k)
-    (λ k. let q : i ≡ length xs = omega (arith, length-append xs (x ∷ [])) in
-    ap (λ (j : ℕ). p j (getD (xs ++ (x ∷ [])) j d)) q ∙ ap (p (length xs)) (getD-append-seam xs x [] d) ∙ e)
-
 -- ---- columns
 module _ {A : Type 0} (d : A) where
   -- a place that no item takes has the default
@@ -99,6 +108,9 @@ module _ {A : Type 0} (d : A) where
   -- a column of rows: place i has the field of row i
   pub at-column : {X : Type 0} (cs : List (Column A)) (k : ℕ) (f : X → A) (xs : List X) → column cs k .items ≡ map f xs → length xs ≤ column cs k .width → (i : ℕ) (x : X) → i < length xs → getD (flat d cs) (offset cs k + i) d ≡ f (getD xs i x)
   at-column cs k f xs e w i x l = at-flat d cs k i (omega arith) ∙ ap (λ (l : List A). getD l i d) e ∙ at-map f xs i x d l
+
+  pub at-items : (cs : List (Column A)) (k : ℕ) (xs : List A) → column cs k .items ≡ xs → length xs ≤ column cs k .width → Gives (λ i. getD (flat d cs) (offset cs k + i) d) xs
+  at-items cs k xs e w i x l = at-flat d cs k i (omega arith) ∙ ap (λ (l : List A). getD l i d) e ∙ any-default xs i d x l
 
   -- past the end too
   at-pad-any : (w : ℕ) (xs : List A) (i : ℕ) → length xs ≤ w → getD (pad d w xs) i d ≡ getD xs i d
