@@ -44,16 +44,24 @@ module _ (b : Book) (ok : admissible b ≡ true) where
   unfolding capacity
   terms-within = omega (arith, terms-counted b, names-within nodes b ok)
 
+  pub kind-at : (v : ℕ) (d : Term) → v < length (collect newTerms b) → kindAt (encodeCells b) v ≡ nodeRow (getD (collect newTerms b) v d) .kind
+  unfolding encodeCells contentOf
+  kind-at = at-column 0 (cellColumns (contentOf b)) 1 (λ t. nodeRow t .kind) (collect newTerms b) refl terms-within
+
+  pub type-at : (v : ℕ) (d : Term) → v < length (collect newTerms b) → typeAt (encodeCells b) v ≡ nodeRow (getD (collect newTerms b) v d) .type
+  unfolding encodeCells contentOf
+  type-at = at-column 0 (cellColumns (contentOf b)) 2 (λ t. nodeRow t .type) (collect newTerms b) refl terms-within
+
+  pub lang-at : (v : ℕ) (d : Term) → v < length (collect newTerms b) → langAt (encodeCells b) v ≡ nodeRow (getD (collect newTerms b) v d) .lang
+  unfolding encodeCells contentOf
+  lang-at = at-column 0 (cellColumns (contentOf b)) 3 (λ t. nodeRow t .lang) (collect newTerms b) refl terms-within
+
+  pub number-at : (v : ℕ) (d : Term) → v < length (collect newTerms b) → numberAt (encodeValues b) v ≡ nodeRow (getD (collect newTerms b) v d) .value
+  unfolding encodeValues contentOf
+  number-at v d l = ap (λ (j : ℕ). getD (encodeValues b) j (pos 0)) (sym (zero-add v)) ∙ at-column (pos 0) (valueColumns (contentOf b)) 0 (λ t. nodeRow t .value) (collect newTerms b) refl terms-within v d l
+
   pub term-read : (v : ℕ) (d : Term) → v < length (collect newTerms b) → termOf (kindAt (encodeCells b) v) (typeAt (encodeCells b) v) (langAt (encodeCells b) v) (numberAt (encodeValues b) v) ≡ getD (collect newTerms b) v d
-  unfolding encodeCells encodeValues contentOf
-  term-read v d l =
-      let cs = cellColumns (contentOf b) in
-      let ts = collect newTerms b in
-      let kind = at-column 0 cs 1 (λ t. nodeRow t .kind) ts refl terms-within v d l in
-      let type = at-column 0 cs 2 (λ t. nodeRow t .type) ts refl terms-within v d l in
-      let lang = at-column 0 cs 3 (λ t. nodeRow t .lang) ts refl terms-within v d l in
-      let value = ap (λ (j : ℕ). getD (encodeValues b) j (pos 0)) (sym (zero-add v)) ∙ at-column (pos 0) (valueColumns (contentOf b)) 0 (λ t. nodeRow t .value) ts refl terms-within v d l in
-      rw (kind, type, lang, value) (term-back (getD ts v d))
+  term-read v d l = rw (kind-at v d l, type-at v d l, lang-at v d l, number-at v d l) (term-back (getD (collect newTerms b) v d))
 
   -- a number past the last node stands for no term, on both sides
   pub term-at : (v : ℕ) → termAt (encodeCells b) (encodeValues b) v ≡ getD (collect newTerms b) v iri
@@ -90,16 +98,23 @@ module _ (b : Book) (ok : admissible b ≡ true) where
       λ j. record { nodes = n j; term = λ v. term-at v j; triples = triples-read j }
 
   -- ---- the rules
+  pub rule-shape-at : (i : ℕ) (d : Rule) → i < length (rules b) → ruleShapeAt (encodeCells b) i ≡ getD (rules b) i d .shape
+  unfolding encodeCells contentOf
+  rule-shape-at = at-column 0 (cellColumns (contentOf b)) 17 (λ r. r .shape) (rules b) refl (rules-within b ok)
+
+  pub rule-target-at : (i : ℕ) (d : Rule) → i < length (rules b) → ruleTargetAt (encodeCells b) i ≡ targetCode (getD (rules b) i d .target)
+  unfolding encodeCells contentOf
+  rule-target-at = at-column 0 (cellColumns (contentOf b)) 18 (λ r. targetCode (r .target)) (rules b) refl (rules-within b ok)
+
+  pub rule-operand-at : (i : ℕ) (d : Rule) → i < length (rules b) → ruleOperandAt (encodeCells b) i ≡ targetOperand (getD (rules b) i d .target)
+  unfolding encodeCells contentOf
+  rule-operand-at = at-column 0 (cellColumns (contentOf b)) 19 (λ r. targetOperand (r .target)) (rules b) refl (rules-within b ok)
+
   pub rule-at : (i : ℕ) (d : Rule) → i < length (rules b) → ruleAt (encodeCells b) i ≡ getD (rules b) i d
-  unfolding ruleAt encodeCells contentOf
+  unfolding ruleAt
   rule-at i d l =
-      let cs = cellColumns (contentOf b) in
-      let rs = rules b in
-      let shape = at-column 0 cs 17 (λ r. r .shape) rs refl (rules-within b ok) i d l in
-      let code = at-column 0 cs 18 (λ r. targetCode (r .target)) rs refl (rules-within b ok) i d l in
-      let operand = at-column 0 cs 19 (λ r. targetOperand (r .target)) rs refl (rules-within b ok) i d l in
-      let target = ap₂ targetOf code operand ∙ target-back (getD rs i d .target) in
-      λ j. record { shape = shape j; target = target j }
+      let target = ap₂ targetOf (rule-target-at i d l) (rule-operand-at i d l) ∙ target-back (getD (rules b) i d .target) in
+      λ j. record { shape = rule-shape-at i d l j; target = target j }
 
   pub rules-read : rulesAt (encodeCells b) ≡ rules b
   unfolding rulesAt

@@ -5,3 +5,4 @@ pub mod Graph
 pub mod Paths
 pub mod Shapes
 pub mod Schema
+pub mod WellFormed

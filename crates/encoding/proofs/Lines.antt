@@ -18,7 +18,7 @@ use Rattle.model.specs.Rules.{Target, targetNode, subjectsOf, objectsOf, target
 use Rattle.model.specs.Books.{Book, Line, link, type, lang, node, fact, shape, rule, Name, Pool, nodes, links, types, langs, shapes, poolNumber, builtIn, joins, newNames, newTerms, newTriples, newShapes, newRules, collect, names, rules}
 use Rattle.model.specs.Sizes.{formEntries, shapePaths, listItems, sumOver, formsIn, pathsIn, itemsIn}
 use Rattle.model.specs.Valid.{inRange, capacity, isResource, defined, hasRoom, termOk, factOk, shapeOk, targetOk, entriesFit, lineOk, admissibleFrom, admissible}
-use Rattle.encoding.proofs.Places.{allb-weaker}
+use Rattle.encoding.proofs.Places.{allb-weaker, Extends}
 
 -- ---- what more lines add
 pub collect-append : {A : Type 0} (f : Line → List A) (a b : Book) → collect f (a ++ b) ≡ collect f a ++ collect f b
@@ -34,54 +34,62 @@ pub names-snoc : (p : Pool) (a : Book) (l : Line) → names p (a ++ (l ∷ [])) 
 unfolding names
 names-snoc p a l = ap (λ (r : List Name). builtIn p ++ r) (collect-snoc (newNames p) a l) ∙ sym (append-assoc (builtIn p) (collect (newNames p) a) (newNames p l))
 
+-- the lines above have no more names than the book
+pub names-before : (p : Pool) (a b : Book) → Extends a b → length (names p a) ≤ length (names p b)
+unfolding names
+names-before p a b (c, e) = omega (arith, ap (λ (x : Book). length (names p x)) e, ap length (collect-append (newNames p) a c), length-append (collect (newNames p) a) (collect (newNames p) c), length-append (builtIn p) (collect (newNames p) a), length-append (builtIn p) (collect (newNames p) (a ++ c)))
+
 -- a name that is defined stays so
 pub defined-more : (a : Book) (l : Line) (p : Pool) (k : ℕ) → defined a p k ≡ true → defined (a ++ (l ∷ [])) p k ≡ true
 unfolding defined
 defined-more a l p k e = lt-ltb k (length (names p (a ++ (l ∷ [])))) (omega (arith, ltb-true k (length (names p a)) e, ap length (names-snoc p a l), length-append (names p a) (newNames p l)))
 
--- ---- induction over the lines of an admissible book
-module _ (P : Book → Type 0) (start : P []) (step : (a : Book) (l : Line) → P a → lineOk a l ≡ true → P (a ++ (l ∷ []))) where
-  from-above : (a b : Book) → P a → admissibleFrom a b ≡ true → P (a ++ b)
+-- ---- induction over the lines of an admissible book, each with the lines above it
+module _ (P : Book → Type 0) (start : P []) (b : Book) (step : (a : Book) (l : Line) → Extends a b → P a → lineOk a l ≡ true → P (a ++ (l ∷ []))) where
+  from-above : (a c : Book) → b ≡ a ++ c → P a → admissibleFrom a c ≡ true → P (a ++ c)
   unfolding admissibleFrom
-  from-above a [] p e = subst P (sym (append-nil a)) p
-  from-above a (l ∷ b) p e = subst P (append-assoc a (l ∷ []) b) (from-above (a ++ (l ∷ [])) b (step a l p (and-left (lineOk a l) (admissibleFrom (a ++ (l ∷ [])) b) e)) (and-right (lineOk a l) (admissibleFrom (a ++ (l ∷ [])) b) e))
+  from-above a [] q p e = subst P (sym (append-nil a)) p
+  from-above a (l ∷ c) q p e =
+      let m = a ++ (l ∷ []) in
+      subst P (append-assoc a (l ∷ []) c)
+      (from-above m c (q ∙ sym (append-assoc a (l ∷ []) c)) (step a l (l ∷ c, q) p (and-left (lineOk a l) (admissibleFrom m c) e)) (and-right (lineOk a l) (admissibleFrom m c) e))
 
-  pub line-by-line : (b : Book) → admissible b ≡ true → P b
+  pub line-by-line : admissible b ≡ true → P b
   unfolding admissible
-  line-by-line b e = from-above [] b start e
+  line-by-line e = from-above [] b refl start e
 
 -- what a line finds right, and more lines leave right, is right in the whole book
 pub all-right : {A : Type 0} (f : Line → List A) (ok : Book → A → Bool) → ((a : Book) (l : Line) → lineOk a l ≡ true → allb (ok a) (f l) ≡ true) → ((a : Book) (l : Line) (x : A) → ok a x ≡ true → ok (a ++ (l ∷ [])) x ≡ true) → (b : Book) → admissible b ≡ true → allb (ok b) (collect f b) ≡ true
 unfolding collect allb
-all-right f ok line more = line-by-line (λ b. allb (ok b) (collect f b) ≡ true) refl (λ a l h e.
+all-right f ok line more b = line-by-line (λ b. allb (ok b) (collect f b) ≡ true) refl b (λ a l _ h e.
     let c = a ++ (l ∷ []) in
     ap (allb (ok c)) (collect-snoc f a l) ∙ allb-append (ok c) (collect f a) (f l)
     ∙ and-both (allb (ok c) (collect f a)) (allb (ok c) (f l)) (allb-weaker (ok a) (ok c) (collect f a) (more a l) h) (allb-weaker (ok a) (ok c) (f l) (more a l) (line a l e)))
 
 -- induction over the shapes, each with the lines above it
-module _ (Q : List Shape → Type 0) (start : Q []) (step : (a : Book) (φ : Shape) → Q (collect newShapes a) → shapeOk a φ ≡ true → entriesFit a φ ≡ true → Q (collect newShapes a ++ (φ ∷ []))) where
-  shape-step : (a : Book) (l : Line) → Q (collect newShapes a) → lineOk a l ≡ true → Q (collect newShapes a ++ newShapes l)
+module _ (Q : List Shape → Type 0) (start : Q []) (b : Book) (step : (a : Book) (φ : Shape) → Extends a b → Q (collect newShapes a) → shapeOk a φ ≡ true → entriesFit a φ ≡ true → Q (collect newShapes a ++ (φ ∷ []))) where
+  shape-step : (a : Book) (l : Line) → Extends a b → Q (collect newShapes a) → lineOk a l ≡ true → Q (collect newShapes a ++ newShapes l)
   unfolding newShapes lineOk
-  shape-step a (link n) q e = subst Q (sym (append-nil (collect newShapes a))) q
-  shape-step a (type n) q e = subst Q (sym (append-nil (collect newShapes a))) q
-  shape-step a (lang n) q e = subst Q (sym (append-nil (collect newShapes a))) q
-  shape-step a (node n t) q e = subst Q (sym (append-nil (collect newShapes a))) q
-  shape-step a (fact t) q e = subst Q (sym (append-nil (collect newShapes a))) q
-  shape-step a (shape n φ) q e =
+  shape-step a (link n) x q e = subst Q (sym (append-nil (collect newShapes a))) q
+  shape-step a (type n) x q e = subst Q (sym (append-nil (collect newShapes a))) q
+  shape-step a (lang n) x q e = subst Q (sym (append-nil (collect newShapes a))) q
+  shape-step a (node n t) x q e = subst Q (sym (append-nil (collect newShapes a))) q
+  shape-step a (fact t) x q e = subst Q (sym (append-nil (collect newShapes a))) q
+  shape-step a (shape n φ) x q e =
       let r : (shapeOk a φ && entriesFit a φ) ≡ true = and-right (hasRoom a shapes) (shapeOk a φ && entriesFit a φ) e in
-      step a φ q (and-left (shapeOk a φ) (entriesFit a φ) r) (and-right (shapeOk a φ) (entriesFit a φ) r)
-  shape-step a (rule r) q e = subst Q (sym (append-nil (collect newShapes a))) q
+      step a φ x q (and-left (shapeOk a φ) (entriesFit a φ) r) (and-right (shapeOk a φ) (entriesFit a φ) r)
+  shape-step a (rule r) x q e = subst Q (sym (append-nil (collect newShapes a))) q
 
-  pub shape-by-shape : (b : Book) → admissible b ≡ true → Q (collect newShapes b)
+  pub shape-by-shape : admissible b ≡ true → Q (collect newShapes b)
   unfolding collect
-  shape-by-shape = line-by-line (λ b. Q (collect newShapes b)) start (λ a l q e. subst Q (sym (collect-snoc newShapes a l)) (shape-step a l q e))
+  shape-by-shape = line-by-line (λ b. Q (collect newShapes b)) start b (λ a l x q e. subst Q (sym (collect-snoc newShapes a l)) (shape-step a l x q e))
 
 -- ---- the limits
 -- a list that no line makes longer than m
 module _ {A : Type 0} (f : Line → List A) (m : ℕ) (fits : (a : Book) (l : Line) → length (collect f a) ≤ m → lineOk a l ≡ true → length (collect f a) + length (f l) ≤ m) where
   pub within : (b : Book) → admissible b ≡ true → length (collect f b) ≤ m
   unfolding collect
-  within = line-by-line (λ b. length (collect f b) ≤ m) (omega arith) (λ a l h e. omega (arith, fits a l h e, ap length (collect-snoc f a l), length-append (collect f a) (f l)))
+  within b = line-by-line (λ b. length (collect f b) ≤ m) (omega arith) b (λ a l _ h e. omega (arith, fits a l h e, ap length (collect-snoc f a l), length-append (collect f a) (f l)))
 
 fact-room : (a : Book) (l : Line) → length (collect newTriples a) ≤ maxFacts → lineOk a l ≡ true → length (collect newTriples a) + length (newTriples l) ≤ maxFacts
 unfolding newTriples lineOk
@@ -151,7 +159,7 @@ built-in-within langs = omega arith
 built-in-within shapes = omega arith
 
 pub names-within : (p : Pool) (b : Book) → admissible b ≡ true → length (names p b) ≤ capacity p
-names-within p = line-by-line (λ b. length (names p b) ≤ capacity p) (built-in-within p) (λ a l h e. omega (arith, name-room p a h l e, ap length (names-snoc p a l), length-append (names p a) (newNames p l)))
+names-within p b = line-by-line (λ b. length (names p b) ≤ capacity p) (built-in-within p) b (λ a l _ h e. omega (arith, name-room p a h l e, ap length (names-snoc p a l), length-append (names p a) (newNames p l)))
 
 pub sum-append : (f : Shape → ℕ) (xs ys : List Shape) → sumOver f (xs ++ ys) ≡ sumOver f xs + sumOver f ys
 unfolding sumOver
@@ -162,7 +170,7 @@ sum-append f (x ∷ xs) ys = omega (arith, sum-append f xs ys)
 module _ (f : Shape → ℕ) (m : ℕ) (fits : (a : Book) (φ : Shape) → entriesFit a φ ≡ true → sumOver f (collect newShapes a) + f φ ≤ m) where
   pub entries-within : (b : Book) → admissible b ≡ true → sumOver f (collect newShapes b) ≤ m
   unfolding sumOver
-  entries-within = shape-by-shape (λ φs. sumOver f φs ≤ m) (omega arith) (λ a φ _ _ e. omega (arith, fits a φ e, sum-append f (collect newShapes a) (φ ∷ [])))
+  entries-within b = shape-by-shape (λ φs. sumOver f φs ≤ m) (omega arith) b (λ a φ _ _ _ e. omega (arith, fits a φ e, sum-append f (collect newShapes a) (φ ∷ [])))
 
 pub forms-within : (b : Book) → admissible b ≡ true → formsIn b ≤ maxForms
 unfolding formsIn entriesFit

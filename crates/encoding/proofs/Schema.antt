@@ -18,11 +18,11 @@ use Rattle.tables.specs.Decode.{pathEntryAt, entryAt, shapeAt, schemaAt}
 use Rattle.encoding.specs.Rows.{pathRow, formRow}
 use Rattle.encoding.specs.Flatten.{last, Entries, addShape, addShapes, rootsOf, noEntries}
 use Rattle.encoding.specs.Encode.{cellColumns, valueColumns, entriesOf, contentOf, encodeCells, encodeValues}
-use Rattle.encoding.proofs.Places.{Gives, gives-front, gives-end, by-number-none, by-number-snoc, at-column, at-items, values-is}
+use Rattle.encoding.proofs.Places.{Extends, Gives, gives-front, gives-end, by-number-none, by-number-snoc, at-column, at-items, values-is}
 use Rattle.encoding.proofs.Lines.{shape-by-shape, names-within, forms-within, paths-within, items-within}
 use Rattle.encoding.proofs.Counts.{shapes-size, entries-size, names-counted, paths-counted, items-counted, shapes-counted}
 use Rattle.encoding.proofs.Paths.{path-back}
-use Rattle.encoding.proofs.Shapes.{form-back, form-last, grows-shape, Held, held-before, shape-read}
+use Rattle.encoding.proofs.Shapes.{form-back, form-last, grows-shape, Held, held-before, Low, shape-read}
 
 -- ---- the shapes of a book, each expanded by those before it, after H
 unfoldable pub expandAll : List Shape → List Shape → List Shape
@@ -46,17 +46,17 @@ expand-length [] H = omega arith
 expand-length (φ ∷ φs) H = omega (arith, expand-length φs (H ++ (expand H φ ∷ [])), length-append H (expand H φ ∷ []))
 
 -- ---- one shape more, at the end
-expand-snoc : (φs H : List Shape) (φ : Shape) → expandAll H (φs ++ (φ ∷ [])) ≡ expandAll H φs ++ (expand (expandAll H φs) φ ∷ [])
+pub expand-snoc : (φs H : List Shape) (φ : Shape) → expandAll H (φs ++ (φ ∷ [])) ≡ expandAll H φs ++ (expand (expandAll H φs) φ ∷ [])
 unfolding expandAll
 expand-snoc [] H φ = refl
 expand-snoc (ψ ∷ φs) H φ = expand-snoc φs (H ++ (expand H ψ ∷ [])) φ
 
-entries-snoc : (φs : List Shape) (es : Entries) (φ : Shape) → addShapes (φs ++ (φ ∷ [])) es ≡ addShape φ (addShapes φs es)
+pub entries-snoc : (φs : List Shape) (es : Entries) (φ : Shape) → addShapes (φs ++ (φ ∷ [])) es ≡ addShape φ (addShapes φs es)
 unfolding addShapes
 entries-snoc [] es φ = refl
 entries-snoc (ψ ∷ φs) es φ = entries-snoc φs (addShape ψ es) φ
 
-roots-snoc : (φs : List Shape) (es : Entries) (φ : Shape) → rootsOf (φs ++ (φ ∷ [])) es ≡ rootsOf φs es ++ (last (addShape φ (addShapes φs es) .forms) ∷ [])
+pub roots-snoc : (φs : List Shape) (es : Entries) (φ : Shape) → rootsOf (φs ++ (φ ∷ [])) es ≡ rootsOf φs es ++ (last (addShape φ (addShapes φs es) .forms) ∷ [])
 unfolding rootsOf addShapes
 roots-snoc [] es φ = refl
 roots-snoc (ψ ∷ φs) es φ = ap (λ (l : List ℕ). last (addShape ψ es .forms) ∷ l) (roots-snoc φs (addShape ψ es) φ)
@@ -79,34 +79,49 @@ pub shape-defined : (a : Book) (s : ℕ) → defined a shapes s ≡ true → s <
 unfolding defined
 shape-defined a s d = omega (arith, ltb-true s (length (names shapes a)) d, shapes-counted a)
 
-module _ (cs : List ℕ) where
-  pub low-roots : (a : Book) → Gives (rootAt cs) (rootsOf (collect newShapes a) noEntries) → (s : ℕ) → defined a shapes s ≡ true → rootAt cs s < length (addShapes (collect newShapes a) noEntries .forms)
-  low-roots a r s d =
-      let φs = collect newShapes a in
-      let l : s < length φs = shape-defined a s d in
-      omega (arith, r s 0 (omega (arith, roots-length φs noEntries)), roots-low φs noEntries s l)
+pub low-roots : (cs : List ℕ) (a : Book) → Gives (rootAt cs) (rootsOf (collect newShapes a) noEntries) → Low cs a (addShapes (collect newShapes a) noEntries)
+low-roots cs a r s d =
+    let φs = collect newShapes a in
+    let l : s < length φs = shape-defined a s d in
+    omega (arith, r s 0 (omega (arith, roots-length φs noEntries)), roots-low φs noEntries s l)
 
-  module _ (vs : List ℤ) (few : pathCount cs ≤ maxPaths) where
-    abbrev ReadBack : List Shape → Type 0
-    ReadBack φs = Held cs vs (addShapes φs noEntries) → Gives (rootAt cs) (rootsOf φs noEntries) → Gives (λ s. shapeAt cs vs (rootAt cs s)) (expandAll [] φs)
+module _ (cs : List ℕ) (vs : List ℤ) where
+  -- the tables hold the entries and roots of these shapes and of one more, after them
+  pub record Next (φs : List Shape) (φ : Shape) : Type 0 where
+    pub entries : Held cs vs (addShape φ (addShapes φs noEntries))
+    pub roots : Gives (rootAt cs) (rootsOf φs noEntries)
+    pub root : rootAt cs (length φs) ≡ last (addShape φ (addShapes φs noEntries) .forms)
 
-    shape-more : (a : Book) (φ : Shape) → ReadBack (collect newShapes a) → shapeOk a φ ≡ true → entriesFit a φ ≡ true → ReadBack (collect newShapes a ++ (φ ∷ []))
-    shape-more a φ q ok fit h r =
+  -- induction over the shapes of a book whose entries and roots the tables hold
+  module _ (Q : List Shape → Type 0) (start : Q []) (b : Book) (step : (a : Book) (φ : Shape) → Extends a b → Next (collect newShapes a) φ → Q (collect newShapes a) → shapeOk a φ ≡ true → Q (collect newShapes a ++ (φ ∷ []))) where
+    pub held-shapes : admissible b ≡ true → Held cs vs (addShapes (collect newShapes b) noEntries) → Gives (rootAt cs) (rootsOf (collect newShapes b) noEntries) → Q (collect newShapes b)
+    held-shapes = shape-by-shape (λ φs. Held cs vs (addShapes φs noEntries) → Gives (rootAt cs) (rootsOf φs noEntries) → Q φs) (λ h r. start) b (λ a φ x q ok fit h r.
         let φs = collect newShapes a in
-        let H = expandAll [] φs in
         let es = addShapes φs noEntries in
         let root = last (addShape φ es .forms) in
         let h′ : Held cs vs (addShape φ es) = subst (Held cs vs) (entries-snoc φs noEntries φ) h in
         let r′ : Gives (rootAt cs) (rootsOf φs noEntries ++ (root ∷ [])) = subst (Gives (rootAt cs)) (roots-snoc φs noEntries φ) r in
         let r₀ : Gives (rootAt cs) (rootsOf φs noEntries) = gives-front (rootAt cs) (rootsOf φs noEntries) (root ∷ []) r′ in
-        let before : Gives (λ s. shapeAt cs vs (rootAt cs s)) H = q (held-before (grows-shape φ es) h′) r₀ in
-        let here = shape-read cs vs few H a (λ s d. before s top (omega (arith, shape-defined a s d, expand-length φs []))) φ es (low-roots a r₀) h′ ok in
-        let at : rootAt cs (length H) ≡ root = ap (rootAt cs) (let z : length H ≡ length (rootsOf φs noEntries) = omega (arith, expand-length φs [], roots-length φs noEntries) in z) ∙ gives-end (rootAt cs) (rootsOf φs noEntries) root r′ in
-        subst (Gives (λ s. shapeAt cs vs (rootAt cs s))) (sym (expand-snoc φs [] φ)) (by-number-snoc (λ s x. shapeAt cs vs (rootAt cs s) ≡ x) H (expand H φ) before (ap (shapeAt cs vs) at ∙ here))
+        let at : rootAt cs (length φs) ≡ root = ap (rootAt cs) (sym (roots-length φs noEntries)) ∙ gives-end (rootAt cs) (rootsOf φs noEntries) root r′ in
+        step a φ x (record { entries = h′; roots = r₀; root = at }) (q (held-before (grows-shape φ es) h′) r₀) ok)
 
-    pub shapes-read : (b : Book) → admissible b ≡ true → ReadBack (collect newShapes b)
+  -- each shape, read from where it begins
+  abbrev ReadBack : List Shape → Type 0
+  ReadBack φs = Gives (λ s. shapeAt cs vs (rootAt cs s)) (expandAll [] φs)
+
+  module _ (few : pathCount cs ≤ maxPaths) where
+    shape-more : (a : Book) (φ : Shape) → Next (collect newShapes a) φ → ReadBack (collect newShapes a) → shapeOk a φ ≡ true → ReadBack (collect newShapes a ++ (φ ∷ []))
+    shape-more a φ n before ok =
+        let φs = collect newShapes a in
+        let H = expandAll [] φs in
+        let here = shape-read cs vs few H a (λ s d. before s top (omega (arith, shape-defined a s d, expand-length φs []))) φ (addShapes φs noEntries) (low-roots cs a (n .roots)) (n .entries) ok in
+        let at : rootAt cs (length H) ≡ rootAt cs (length φs) = ap (rootAt cs) (let z : length H ≡ length φs = omega (arith, expand-length φs []) in z) in
+        subst (Gives (λ s. shapeAt cs vs (rootAt cs s))) (sym (expand-snoc φs [] φ))
+        (by-number-snoc (λ s x. shapeAt cs vs (rootAt cs s) ≡ x) H (expand H φ) before (ap (shapeAt cs vs) (at ∙ n .root) ∙ here))
+
+    pub shapes-read : (b : Book) → admissible b ≡ true → Held cs vs (addShapes (collect newShapes b) noEntries) → Gives (rootAt cs) (rootsOf (collect newShapes b) noEntries) → ReadBack (collect newShapes b)
     unfolding expandAll
-    shapes-read = shape-by-shape ReadBack (λ h r. by-number-none (λ s x. shapeAt cs vs (rootAt cs s) ≡ x)) shape-more
+    shapes-read b = held-shapes ReadBack (by-number-none (λ s x. shapeAt cs vs (rootAt cs s) ≡ x)) b (λ a φ _ n q ok. shape-more a φ n q ok)
 
 -- ---- the tables of a book hold its entries
 module _ (b : Book) (ok : admissible b ≡ true) where
