@@ -8,7 +8,6 @@ use native.Mathlib.Omega.{arith}
 use lib.ListN.{length, getD, length-append}
 use lib.IntN.{ℤ, pos}
 use Rattle.base.proofs.Columns.{at-flat, length-flat}
-use Rattle.text.specs.Pool.{poolOf}
 use Rattle.model.specs.Paths.{Path, predicate, inverse, sequence, alternative, End, self, along}
 use Rattle.model.specs.Shapes.{Test, nodeKind, datatype, languageIn, minInclusive, minExclusive, maxInclusive, maxExclusive, Shape, top, hasShape, hasValue, conj, disj, neg, test, count, forAll, equals, disjoint, closed, lessThan, lessThanEq, uniqueLang}
 use Rattle.model.specs.Books.{Book, Line, link, type, lang, node, fact, shape, rule, Pool, nodes, links, types, langs, shapes, poolNumber, builtIn, joins, newNames, newTerms, newTriples, newShapes, collect, names, rules}
@@ -17,7 +16,7 @@ use Rattle.tables.specs.Layout.{cellCount, valueCount, nameCount, factCount, pa
 use Rattle.tables.specs.Entries.{PathEntry, inv, seq, alt, Entry}
 use Rattle.tables.specs.Entries as E
 use Rattle.encoding.specs.Flatten.{last, addPath, Entries, withPath, withEnd, endNumber, kindCode, upperNumber, addTest, addShape, addShapes, noEntries}
-use Rattle.encoding.specs.Encode.{Content, cellColumns, valueColumns, entriesOf, countsOf, contentOf, encodeCells, encodeValues, encodeNames, col}
+use Rattle.encoding.specs.Encode.{Content, cellColumns, valueColumns, entriesOf, countsOf, contentOf, encodeCells, encodeValues, nameColumns, encodeNames}
 
 -- ---- the tables' lengths
 pub cells-length : (b : Book) → length (encodeCells b) ≡ cellCount
@@ -30,7 +29,7 @@ values-length b = length-flat (pos 0) (valueColumns (contentOf b))
 
 pub names-length : (b : Book) → length (encodeNames b) ≡ nameCount
 unfolding encodeNames
-names-length b = length-flat 0 (col 32768 (poolOf (names nodes b)) ∷ col 8192 (poolOf (names links b)) ∷ col 1024 (poolOf (names types b)) ∷ col 1024 (poolOf (names langs b)) ∷ col 2048 (poolOf (names shapes b)) ∷ [])
+names-length b = length-flat 0 (nameColumns b)
 
 -- ---- how many entries are added
 pub path-size : (e : Path) (es : List PathEntry) → length (addPath e es) ≡ length es + pathEntries e

@@ -6,3 +6,4 @@ pub mod Paths
 pub mod Shapes
 pub mod Schema
 pub mod WellFormed
+pub mod Names

@@ -6,8 +6,8 @@ use mathlib.Core.Path.{_≡_, refl, sym, ap, ap₂, _∙_, subst}
 use native.Mathlib.Nat.{zero-add}
 use native.Mathlib.Omega.{arith}
 use lib.Dec.{eqb, ltb, leb}
-use lib.ListN.{length, getD, length-append, List·getD-append, List·getD-eq-default}
-use lib.Seq.{ext-getD, getD-append-add, getD-append-seam}
+use lib.ListN.{length, getD, take, length-append, List·getD-append, List·getD-eq-default}
+use lib.Seq.{ext-getD, slice, length-slice, getD-take, getD-drop, getD-append-add, getD-append-seam}
 use borrow.Author.Tests.{eqb-true, ltb-true, ltb-false}
 use Rattle.base.specs.Lists.{allb, valuesFrom, values}
 use Rattle.base.specs.Columns.{Column, pad, flat, offset, column}
@@ -78,6 +78,14 @@ module _ {A : Type 0} (f : ℕ → A) where
 
   pub values-is : (n : ℕ) (xs : List A) → n ≡ length xs → Gives f xs → values f n ≡ xs
   values-is n xs e h = ap (values f) e ∙ valuesFrom-is 0 xs (λ j d l. ap f (zero-add j) ∙ h j d l)
+
+-- a part of a list, by its places
+pub slice-is : {A : Type 0} (d : A) (l w : List A) (f : ℕ) → f + length w ≤ length l → ((j : ℕ) → j < length w → getD l (f + j) d ≡ getD w j d) → slice f (f + length w) l ≡ w
+slice-is d l w f h e =
+    let t = f + length w in
+    ext-getD d (slice f t l) w (omega (arith, length-slice f t l h)) (λ j k.
+    let k′ : j < length w = omega (arith, length-slice f t l h) in
+    getD-drop f (take t l) j d ∙ getD-take t l (f + j) d (omega arith) ∙ e j k′)
 
 -- ys goes on where xs ends
 abbrev pub Extends : {A : Type 0} → List A → List A → Type 0

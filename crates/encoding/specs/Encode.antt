@@ -90,5 +90,14 @@ unfoldable pub encodeValues : Book → List ℤ
 encodeValues b = flat (pos 0) (valueColumns (contentOf b))
 
 -- a name at its pool number
+abbrev pub nameColumns : Book → List (Column ℕ)
+nameColumns b =
+    col 32768 (poolOf (names nodes b))
+    ∷ col 8192 (poolOf (names links b))
+    ∷ col 1024 (poolOf (names types b))
+    ∷ col 1024 (poolOf (names langs b))
+    ∷ col 2048 (poolOf (names shapes b))
+    ∷ []
+
 unfoldable pub encodeNames : Book → List ℕ
-encodeNames b = flat 0 (col 32768 (poolOf (names nodes b)) ∷ col 8192 (poolOf (names links b)) ∷ col 1024 (poolOf (names types b)) ∷ col 1024 (poolOf (names langs b)) ∷ col 2048 (poolOf (names shapes b)) ∷ [])
+encodeNames b = flat 0 (nameColumns b)
