@@ -7,3 +7,5 @@ pub mod Shapes
 pub mod Schema
 pub mod WellFormed
 pub mod Names
+pub mod Unused
+pub mod Empty

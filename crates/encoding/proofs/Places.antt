@@ -3,10 +3,10 @@ use Prim.Native.Nat.{ℕ, zero, suc, _+_, _-_, _≤_, _<_}
 use mathlib.Core.List.{List, [], _∷_, _++_, map, append-nil, append-assoc}
 use mathlib.Core.Bool.{Bool, true, false, _&&_}
 use mathlib.Core.Path.{_≡_, refl, sym, ap, ap₂, _∙_, subst}
-use native.Mathlib.Nat.{zero-add}
+use native.Mathlib.Nat.{zero-add, add-assoc}
 use native.Mathlib.Omega.{arith}
 use lib.Dec.{eqb, ltb, leb}
-use lib.ListN.{length, getD, take, length-append, List·getD-append, List·getD-eq-default}
+use lib.ListN.{length, getD, take, drop, length-append, List·getD-append, List·getD-eq-default}
 use lib.Seq.{ext-getD, slice, length-slice, getD-take, getD-drop, getD-append-add, getD-append-seam}
 use borrow.Author.Tests.{eqb-true, ltb-true, ltb-false}
 use Rattle.base.specs.Lists.{allb, valuesFrom, values}
@@ -120,8 +120,33 @@ module _ {A : Type 0} (d : A) where
   pub at-items : (cs : List (Column A)) (k : ℕ) (xs : List A) → column cs k .items ≡ xs → length xs ≤ column cs k .width → Gives (λ i. getD (flat d cs) (offset cs k + i) d) xs
   at-items cs k xs e w i x l = at-flat d cs k i (omega arith) ∙ ap (λ (l : List A). getD l i d) e ∙ any-default xs i d x l
 
-  -- past the end too
-  at-pad-any : (w : ℕ) (xs : List A) (i : ℕ) → length xs ≤ w → getD (pad d w xs) i d ≡ getD xs i d
-  at-pad-any w xs i h =
-      below-or (getD (pad d w xs) i d ≡ getD xs i d) i w (at-pad d w xs i)
-      (λ k. List·getD-eq-default (pad d w xs) d (subst (λ (n : ℕ). n ≤ i) (sym (length-pad d w xs)) k) ∙ sym (List·getD-eq-default xs d (omega arith)))
+  -- from column k on
+  pub at-rest : (cs : List (Column A)) (k i : ℕ) → getD (flat d cs) (offset cs k + i) d ≡ getD (flat d (drop k cs)) i d
+  unfolding flat
+  at-rest [] zero i = refl
+  at-rest [] (suc k) i = refl
+  at-rest (c ∷ cs) zero i = ap (λ (j : ℕ). getD (flat d (c ∷ cs)) j d) (zero-add i)
+  at-rest (c ∷ cs) (suc k) i =
+      let xs = pad d (c .width) (c .items) in
+      ap (λ (j : ℕ). getD (xs ++ flat d cs) j d) (add-assoc (c .width) (offset cs k) i ∙ ap (λ (j : ℕ). j + (offset cs k + i)) (sym (length-pad d (c .width) (c .items))))
+      ∙ getD-append-add xs (flat d cs) (offset cs k + i) d
+      ∙ at-rest cs k i
+
+  -- where all that follows the first column is the default, its items are all there is
+  pub at-first : (c : Column A) (cs : List (Column A)) → length (c .items) ≤ c .width → ((i : ℕ) → getD (flat d cs) i d ≡ d) → (i : ℕ) → getD (flat d (c ∷ cs)) i d ≡ getD (c .items) i d
+  unfolding flat
+  at-first c cs w h i =
+      let xs = pad d (c .width) (c .items) in
+      let n : length xs ≡ c .width = length-pad d (c .width) (c .items) in
+      below-or (getD (xs ++ flat d cs) i d ≡ getD (c .items) i d) i (c .width)
+      (λ l. List·getD-append xs (flat d cs) d i (omega arith) ∙ at-pad d (c .width) (c .items) i l)
+      (λ l. let e : i ≡ length xs + (i - length xs) = omega arith in
+      ap (λ (j : ℕ). getD (xs ++ flat d cs) j d) e ∙ getD-append-add xs (flat d cs) (i - length xs) d ∙ h (i - length xs) ∙ sym (List·getD-eq-default (c .items) d (omega arith)))
+
+  -- columns without items
+  pub at-blank : (cs : List (Column A)) → allb (λ c. eqb (length (c .items)) 0) cs ≡ true → (i : ℕ) → getD (flat d cs) i d ≡ d
+  unfolding flat allb
+  at-blank [] h i = refl
+  at-blank (c ∷ cs) h i =
+      let z : length (c .items) ≡ 0 = eqb-true (length (c .items)) 0 (and-left _ _ h) in
+      at-first c cs (omega arith) (at-blank cs (and-right (eqb (length (c .items)) 0) (allb (λ c. eqb (length (c .items)) 0) cs) h)) i ∙ List·getD-eq-default (c .items) d (omega arith)
