@@ -1,12 +1,11 @@
 -- How long the tables are, how many entries shapes take, and the ten counts.
-use Prim.Native.Nat.{ℕ, zero, suc, _+_, _-_, _≤_, _<_}
+use Prim.Native.Nat.{ℕ, _+_, _<_}
 use mathlib.Core.List.{List, [], _∷_, _++_}
-use mathlib.Core.Bool.{Bool, true, false}
-use mathlib.Core.Path.{_≡_, refl, sym, ap, ap₂, _∙_, subst}
+use mathlib.Core.Path.{_≡_, refl, sym, ap, _∙_}
 use native.Mathlib.Nat.{zero-add}
 use native.Mathlib.Omega.{arith}
 use lib.ListN.{length, getD, length-append}
-use lib.IntN.{ℤ, pos}
+use lib.IntN.{pos}
 use Rattle.base.proofs.Columns.{at-flat, length-flat}
 use Rattle.model.specs.Paths.{Path, predicate, inverse, sequence, alternative, End, self, along}
 use Rattle.model.specs.Shapes.{Test, nodeKind, datatype, languageIn, minInclusive, minExclusive, maxInclusive, maxExclusive, Shape, top, hasShape, hasValue, conj, disj, neg, test, count, forAll, equals, disjoint, closed, lessThan, lessThanEq, uniqueLang}
@@ -16,7 +15,7 @@ use Rattle.tables.specs.Layout.{cellCount, valueCount, nameCount, factCount, pa
 use Rattle.tables.specs.Entries.{PathEntry, inv, seq, alt, Entry}
 use Rattle.tables.specs.Entries as E
 use Rattle.encoding.specs.Flatten.{last, addPath, Entries, withPath, withEnd, endNumber, kindCode, upperNumber, addTest, addShape, addShapes, noEntries}
-use Rattle.encoding.specs.Encode.{Content, cellColumns, valueColumns, entriesOf, countsOf, contentOf, encodeCells, encodeValues, nameColumns, encodeNames}
+use Rattle.encoding.specs.Encode.{cellColumns, valueColumns, entriesOf, countsOf, contentOf, encodeCells, encodeValues, nameColumns, encodeNames}
 
 -- ---- the tables' lengths
 pub cells-length : (b : Book) → length (encodeCells b) ≡ cellCount

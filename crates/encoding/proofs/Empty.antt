@@ -1,19 +1,19 @@
 -- The tables of the empty book, at every place: one link `a`, one type `langstring`, and zeros.
-use Prim.Native.Nat.{ℕ, zero, suc, _+_, _-_, _*_, _≤_, _<_}
-use mathlib.Core.List.{List, [], _∷_, _++_, append-nil}
-use mathlib.Core.Bool.{Bool, true, false}
+use Prim.Native.Nat.{ℕ, zero, suc, _+_, _<_}
+use mathlib.Core.List.{List, [], _∷_, append-nil}
+use mathlib.Core.Bool.{true}
 use mathlib.Core.Path.{_≡_, refl, sym, ap, _∙_}
 use native.Mathlib.Nat.{zero-add}
 use native.Mathlib.Omega.{arith}
 use lib.Dec.{eqb}
-use lib.ListN.{length, getD, drop}
-use lib.IntN.{ℤ, pos}
+use lib.ListN.{getD, drop}
+use lib.IntN.{pos}
 use borrow.Author.Tests.{eqb-true}
 use Rattle.base.specs.Bytes.{bytes}
 use Rattle.base.specs.Lists.{allb}
 use Rattle.base.proofs.Bools.{and-left, and-right}
 use Rattle.text.specs.Pool.{padded, poolOf}
-use Rattle.model.specs.Books.{Book, nodes, links, types, langs, shapes, builtIn, collect, names, rules}
+use Rattle.model.specs.Books.{nodes, links, types, builtIn, collect, names, rules}
 use Rattle.model.specs.Valid.{capacity}
 use Rattle.tables.specs.Layout.{linkNames, typeNames}
 use Rattle.encoding.specs.Flatten.{addShapes, rootsOf}
@@ -25,7 +25,7 @@ zeros-at : (xs : List ℕ) → allb (λ x. eqb x 0) xs ≡ true → (i : ℕ) �
 unfolding allb
 zeros-at [] h i = refl
 zeros-at (x ∷ xs) h zero = eqb-true x 0 (and-left _ _ h)
-zeros-at (x ∷ xs) h (suc i) = zeros-at xs (and-right (eqb x 0) (allb (λ x. eqb x 0) xs) h) i
+zeros-at (x ∷ xs) h (suc i) = zeros-at xs (and-right (eqb x 0) _ h) i
 
 counts-empty : (i : ℕ) → getD (countsOf []) i 0 ≡ getD (0 ∷ 1 ∷ 1 ∷ []) i 0
 unfolding countsOf entriesOf collect names builtIn rules addShapes allb

@@ -1,22 +1,20 @@
 -- The graph and the rules, read back from the tables of a book.
-use Prim.Native.Nat.{ℕ, zero, suc, _+_, _-_, _≤_, _<_}
-use mathlib.Core.List.{List, [], _∷_, _++_, map}
-use mathlib.Core.Bool.{Bool, true, false, cond}
-use mathlib.Core.Path.{_≡_, refl, sym, ap, ap₂, _∙_, subst, fun-ext}
+use Prim.Native.Nat.{ℕ, _≤_, _<_}
+use mathlib.Core.Bool.{Bool, true, cond}
+use mathlib.Core.Path.{_≡_, refl, sym, ap, ap₂, _∙_}
 use native.Mathlib.Nat.{zero-add}
 use native.Mathlib.Omega.{arith}
 use lib.Dec.{ltb}
 use lib.ListN.{length, getD, List·getD-eq-default}
-use lib.IntN.{ℤ, pos}
+use lib.IntN.{pos}
 use borrow.Author.Tests.{lt-ltb, le-ltb}
-use Rattle.base.specs.Columns.{column}
-use Rattle.model.specs.Graph.{Term, iri, blankNode, numeric, plain, tagged, Triple, Graph}
+use Rattle.model.specs.Graph.{Term, iri, blankNode, numeric, plain, tagged, Triple}
 use Rattle.model.specs.Rules.{Target, targetNode, subjectsOf, objectsOf, targetClass, Rule}
-use Rattle.model.specs.Books.{Book, nodes, newTerms, newTriples, collect, names, rules, graphOf}
+use Rattle.model.specs.Books.{Book, nodes, newTerms, newTriples, collect, rules, graphOf}
 use Rattle.model.specs.Valid.{capacity, admissible}
-use Rattle.tables.specs.Layout.{nodeCount, factCount, ruleCount, kindAt, typeAt, langAt, numberAt, subjectAt, predicateAt, objectAt, ruleShapeAt, ruleTargetAt, ruleOperandAt}
+use Rattle.tables.specs.Layout.{nodeCount, factCount, ruleCount, kindAt, typeAt, langAt, numberAt, ruleShapeAt, ruleTargetAt, ruleOperandAt}
 use Rattle.tables.specs.Decode.{termOf, termAt, tripleAt, triplesAt, graphAt, targetOf, ruleAt, rulesAt}
-use Rattle.encoding.specs.Rows.{NodeRow, nodeRow, targetCode, targetOperand}
+use Rattle.encoding.specs.Rows.{nodeRow, targetCode, targetOperand}
 use Rattle.encoding.specs.Encode.{cellColumns, valueColumns, contentOf, encodeCells, encodeValues}
 use Rattle.encoding.proofs.Places.{below-or, at-column, values-is}
 use Rattle.encoding.proofs.Lines.{facts-within, rules-within, names-within}

@@ -1,23 +1,21 @@
 -- Books line by line: what the lines of an admissible book add is right, and within the limits, where the book ends.
-use Prim.Native.Nat.{ℕ, zero, suc, _+_, _≤_, _<_}
+use Prim.Native.Nat.{ℕ, _+_, _≤_, _<_}
 use mathlib.Core.List.{List, [], _∷_, _++_, append-nil, append-assoc}
-use mathlib.Core.Bool.{Bool, true, false, cond, _&&_}
-use mathlib.Core.Path.{_≡_, refl, sym, ap, ap₂, _∙_, subst}
+use mathlib.Core.Bool.{Bool, true, cond, _&&_}
+use mathlib.Core.Path.{_≡_, refl, sym, ap, _∙_, subst}
 use native.Mathlib.Nat.{zero-add}
 use native.Mathlib.Omega.{arith}
-use lib.Dec.{eqb, ltb, leb}
+use lib.Dec.{eqb, leb}
 use lib.ListN.{length, getD, length-append}
 use borrow.Author.Tests.{eqb-true, ltb-true, lt-ltb, leb-true}
 use Rattle.base.specs.Lists.{allb}
 use Rattle.base.proofs.Bools.{bool-cases, and-left, and-right, and-both}
 use Rattle.base.proofs.Lists.{allb-append}
 use Rattle.model.specs.Limits.{maxRules, maxFacts, maxForms, maxPaths, maxItems}
-use Rattle.model.specs.Graph.{Term, iri, blankNode, numeric, plain, tagged, Triple, langString}
 use Rattle.model.specs.Shapes.{Shape}
-use Rattle.model.specs.Rules.{Target, targetNode, subjectsOf, objectsOf, targetClass, Rule}
-use Rattle.model.specs.Books.{Book, Line, link, type, lang, node, fact, shape, rule, Name, Pool, nodes, links, types, langs, shapes, poolNumber, builtIn, joins, newNames, newTerms, newTriples, newShapes, newRules, collect, names, rules}
+use Rattle.model.specs.Books.{Book, Line, link, type, lang, node, fact, shape, rule, Name, Pool, nodes, links, types, langs, shapes, poolNumber, builtIn, joins, newNames, newTriples, newShapes, newRules, collect, names, rules}
 use Rattle.model.specs.Sizes.{formEntries, shapePaths, listItems, sumOver, formsIn, pathsIn, itemsIn}
-use Rattle.model.specs.Valid.{inRange, capacity, isResource, defined, hasRoom, termOk, factOk, shapeOk, targetOk, entriesFit, lineOk, admissibleFrom, admissible}
+use Rattle.model.specs.Valid.{capacity, defined, hasRoom, factOk, shapeOk, targetOk, entriesFit, lineOk, admissibleFrom, admissible}
 use Rattle.encoding.proofs.Places.{allb-weaker, Extends}
 
 -- ---- what more lines add
@@ -52,7 +50,7 @@ module _ (P : Book → Type 0) (start : P []) (b : Book) (step : (a : Book) (l :
   from-above a (l ∷ c) q p e =
       let m = a ++ (l ∷ []) in
       subst P (append-assoc a (l ∷ []) c)
-      (from-above m c (q ∙ sym (append-assoc a (l ∷ []) c)) (step a l (l ∷ c, q) p (and-left (lineOk a l) (admissibleFrom m c) e)) (and-right (lineOk a l) (admissibleFrom m c) e))
+      (from-above m c (q ∙ sym (append-assoc a (l ∷ []) c)) (step a l (l ∷ c, q) p (and-left _ _ e)) (and-right (lineOk a l) _ e))
 
   pub line-by-line : admissible b ≡ true → P b
   unfolding admissible
@@ -64,7 +62,7 @@ unfolding collect allb
 all-right f ok line more b = line-by-line (λ b. allb (ok b) (collect f b) ≡ true) refl b (λ a l _ h e.
     let c = a ++ (l ∷ []) in
     ap (allb (ok c)) (collect-snoc f a l) ∙ allb-append (ok c) (collect f a) (f l)
-    ∙ and-both (allb (ok c) (collect f a)) (allb (ok c) (f l)) (allb-weaker (ok a) (ok c) (collect f a) (more a l) h) (allb-weaker (ok a) (ok c) (f l) (more a l) (line a l e)))
+    ∙ and-both _ _ (allb-weaker (ok a) (ok c) (collect f a) (more a l) h) (allb-weaker (ok a) (ok c) (f l) (more a l) (line a l e)))
 
 -- induction over the shapes, each with the lines above it
 module _ (Q : List Shape → Type 0) (start : Q []) (b : Book) (step : (a : Book) (φ : Shape) → Extends a b → Q (collect newShapes a) → shapeOk a φ ≡ true → entriesFit a φ ≡ true → Q (collect newShapes a ++ (φ ∷ []))) where
@@ -76,8 +74,8 @@ module _ (Q : List Shape → Type 0) (start : Q []) (b : Book) (step : (a : Book
   shape-step a (node n t) x q e = subst Q (sym (append-nil (collect newShapes a))) q
   shape-step a (fact t) x q e = subst Q (sym (append-nil (collect newShapes a))) q
   shape-step a (shape n φ) x q e =
-      let r : (shapeOk a φ && entriesFit a φ) ≡ true = and-right (hasRoom a shapes) (shapeOk a φ && entriesFit a φ) e in
-      step a φ x q (and-left (shapeOk a φ) (entriesFit a φ) r) (and-right (shapeOk a φ) (entriesFit a φ) r)
+      let r : (shapeOk a φ && entriesFit a φ) ≡ true = and-right (hasRoom a shapes) _ e in
+      step a φ x q (and-left _ _ r) (and-right (shapeOk a φ) _ r)
   shape-step a (rule r) x q e = subst Q (sym (append-nil (collect newShapes a))) q
 
   pub shape-by-shape : admissible b ≡ true → Q (collect newShapes b)
@@ -97,7 +95,7 @@ fact-room a (link n) h e = omega arith
 fact-room a (type n) h e = omega arith
 fact-room a (lang n) h e = omega arith
 fact-room a (node n t) h e = omega arith
-fact-room a (fact t) h e = omega (arith, ltb-true (length (collect newTriples a)) maxFacts (and-right (factOk a t) (ltb (length (collect newTriples a)) maxFacts) e))
+fact-room a (fact t) h e = omega (arith, ltb-true (length (collect newTriples a)) maxFacts (and-right (factOk a t) _ e))
 fact-room a (shape n φ) h e = omega arith
 fact-room a (rule r) h e = omega arith
 
@@ -112,7 +110,7 @@ rule-room a (lang n) h e = omega arith
 rule-room a (node n t) h e = omega arith
 rule-room a (fact t) h e = omega arith
 rule-room a (shape n φ) h e = omega arith
-rule-room a (rule r) h e = omega (arith, ltb-true (length (rules a)) maxRules (and-right (defined a shapes (r .shape) && targetOk a (r .target)) (ltb (length (rules a)) maxRules) e))
+rule-room a (rule r) h e = omega (arith, ltb-true (length (rules a)) maxRules (and-right (defined a shapes (r .shape) && targetOk a (r .target)) _ e))
 
 pub rules-within : (b : Book) → admissible b ≡ true → length (rules b) ≤ maxRules
 unfolding rules
@@ -145,9 +143,9 @@ module _ (p : Pool) (a : Book) (h : length (names p a) ≤ capacity p) where
   name-room (link n) e = joined links n e
   name-room (type n) e = joined types n e
   name-room (lang n) e = joined langs n e
-  name-room (node n t) e = joined nodes n (and-left (hasRoom a nodes) (termOk a t) e)
+  name-room (node n t) e = joined nodes n (and-left _ _ e)
   name-room (fact t) e = omega arith
-  name-room (shape n φ) e = joined shapes n (and-left (hasRoom a shapes) (shapeOk a φ && entriesFit a φ) e)
+  name-room (shape n φ) e = joined shapes n (and-left _ _ e)
   name-room (rule r) e = omega arith
 
 built-in-within : (p : Pool) → length (names p []) ≤ capacity p
@@ -174,12 +172,12 @@ module _ (f : Shape → ℕ) (m : ℕ) (fits : (a : Book) (φ : Shape) → entri
 
 pub forms-within : (b : Book) → admissible b ≡ true → formsIn b ≤ maxForms
 unfolding formsIn entriesFit
-forms-within = entries-within formEntries maxForms (λ a φ e. leb-true (formsIn a + formEntries φ) maxForms (and-left (leb (formsIn a + formEntries φ) maxForms) (leb (pathsIn a + shapePaths φ) maxPaths && leb (itemsIn a + listItems φ) maxItems) e))
+forms-within = entries-within formEntries maxForms (λ a φ e. leb-true (formsIn a + formEntries φ) maxForms (and-left _ _ e))
 
 pub paths-within : (b : Book) → admissible b ≡ true → pathsIn b ≤ maxPaths
 unfolding pathsIn entriesFit
-paths-within = entries-within shapePaths maxPaths (λ a φ e. leb-true (pathsIn a + shapePaths φ) maxPaths (and-left (leb (pathsIn a + shapePaths φ) maxPaths) (leb (itemsIn a + listItems φ) maxItems) (and-right (leb (formsIn a + formEntries φ) maxForms) (leb (pathsIn a + shapePaths φ) maxPaths && leb (itemsIn a + listItems φ) maxItems) e)))
+paths-within = entries-within shapePaths maxPaths (λ a φ e. leb-true (pathsIn a + shapePaths φ) maxPaths (and-left _ _ (and-right (leb (formsIn a + formEntries φ) maxForms) _ e)))
 
 pub items-within : (b : Book) → admissible b ≡ true → itemsIn b ≤ maxItems
 unfolding itemsIn entriesFit
-items-within = entries-within listItems maxItems (λ a φ e. leb-true (itemsIn a + listItems φ) maxItems (and-right (leb (pathsIn a + shapePaths φ) maxPaths) (leb (itemsIn a + listItems φ) maxItems) (and-right (leb (formsIn a + formEntries φ) maxForms) (leb (pathsIn a + shapePaths φ) maxPaths && leb (itemsIn a + listItems φ) maxItems) e)))
+items-within = entries-within listItems maxItems (λ a φ e. leb-true (itemsIn a + listItems φ) maxItems (and-right (leb (pathsIn a + shapePaths φ) maxPaths) _ (and-right (leb (formsIn a + formEntries φ) maxForms) _ e)))

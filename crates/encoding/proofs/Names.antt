@@ -1,8 +1,8 @@
 -- The names of a book in their table: each at its pool number, in 32 bytes, and zeros elsewhere.
 use Prim.Native.Nat.{ℕ, zero, suc, _+_, _-_, _*_, _≤_, _<_}
-use mathlib.Core.List.{List, [], _∷_, _++_, append-nil}
-use mathlib.Core.Bool.{Bool, true, false}
-use mathlib.Core.Path.{_≡_, refl, sym, ap, ap₂, _∙_, subst}
+use mathlib.Core.List.{List, [], _∷_, _++_}
+use mathlib.Core.Bool.{Bool, true}
+use mathlib.Core.Path.{_≡_, refl, sym, ap, _∙_, subst}
 use native.Mathlib.Nat.{add-assoc}
 use native.Mathlib.Omega.{arith}
 use lib.Dec.{leb}
@@ -57,7 +57,7 @@ padded-at w i =
 pub pool-length : (ws : List Name) → short ws ≡ true → length (poolOf ws) ≡ length ws * 32
 unfolding poolOf allb
 pool-length [] h = refl
-pool-length (w ∷ ws) h = omega (arith, length-append (padded w) (poolOf ws), padded-length w (omega (arith, leb-true (length w) maxName (and-left _ _ h))), pool-length ws (and-right (leb (length w) maxName) (short ws) h))
+pool-length (w ∷ ws) h = omega (arith, length-append (padded w) (poolOf ws), padded-length w (omega (arith, leb-true (length w) maxName (and-left _ _ h))), pool-length ws (and-right (leb (length w) maxName) _ h))
 
 -- byte i of number k; a number past the last has none
 pub pool-at : (ws : List Name) → short ws ≡ true → (k i : ℕ) → i < 32 → getD (poolOf ws) (k * 32 + i) 0 ≡ getD (getD ws k []) i 0
@@ -70,7 +70,7 @@ pool-at (w ∷ ws) h zero i l =
 pool-at (w ∷ ws) h (suc k) i l =
     let n = padded-length w (omega (arith, leb-true (length w) maxName (and-left _ _ h))) in
     let e : suc k * 32 + i ≡ length (padded w) + (k * 32 + i) = omega arith in
-    ap (λ (j : ℕ). getD (padded w ++ poolOf ws) j 0) e ∙ getD-append-add (padded w) (poolOf ws) (k * 32 + i) 0 ∙ pool-at ws (and-right (leb (length w) maxName) (short ws) h) k i l
+    ap (λ (j : ℕ). getD (padded w ++ poolOf ws) j 0) e ∙ getD-append-add (padded w) (poolOf ws) (k * 32 + i) 0 ∙ pool-at ws (and-right (leb (length w) maxName) _ h) k i l
 
 -- ---- the table
 pub pool-place : (b : Book) (p : Pool) (i : ℕ) → i < capacity p * 32 → getD (encodeNames b) (poolBase p + i) 0 ≡ getD (poolOf (names p b)) i 0

@@ -1,22 +1,21 @@
 -- Paths as entries: entries that are there stay, and the last entry of a path, read back, is that path.
-use Prim.Native.Nat.{ℕ, zero, suc, _+_, _-_, _≤_, _<_}
+use Prim.Native.Nat.{ℕ, _≤_, _<_}
 use mathlib.Core.List.{List, [], _∷_, _++_}
-use mathlib.Core.Bool.{Bool, true, false, cond}
-use mathlib.Core.Path.{_≡_, refl, sym, ap, ap₂, _∙_, subst}
+use mathlib.Core.Bool.{Bool, cond}
+use mathlib.Core.Path.{_≡_, refl, ap, ap₂, _∙_}
 use native.Mathlib.Omega.{arith}
-use lib.Dec.{eqb}
-use lib.ListN.{length, getD, length-append}
+use lib.ListN.{length, length-append}
 use borrow.Author.Tests.{ne-eqb}
-use Rattle.base.specs.Numbered.{below, numbered}
+use Rattle.base.specs.Numbered.{below}
 use Rattle.base.proofs.Numbered.{at-number, below-number}
 use Rattle.model.specs.Limits.{maxPaths}
 use Rattle.model.specs.Paths.{Path, predicate, inverse, sequence, alternative, End, self, along}
 use Rattle.tables.specs.Layout.{noNumber}
 use Rattle.tables.specs.Entries.{PathEntry, link, inv, seq, alt, pathEntryOf}
 use Rattle.tables.specs.Decode.{pathOf, pathEntryAt, pathAt, endAt}
-use Rattle.encoding.specs.Rows.{PathRow, pathRow}
+use Rattle.encoding.specs.Rows.{pathRow}
 use Rattle.encoding.specs.Flatten.{last, addPath, Entries, withEnd, endNumber}
-use Rattle.encoding.proofs.Places.{Gives, gives-front, gives-end, gives-before, Extends, extends-refl, extends-more, extends-trans}
+use Rattle.encoding.proofs.Places.{Gives, gives-front, gives-end, gives-before, Extends, extends-more, extends-trans, extends-length}
 use Rattle.encoding.proofs.Counts.{path-size, path-entries}
 
 -- an entry's row read back
@@ -66,15 +65,13 @@ module _ (cs : List ℕ) where
   unfolding pathAt
   lower-at n k l = below-number (predicate 0) (λ e at. pathOf (pathEntryAt cs e) at) n k l
 
-  -- the two parts of the entry after them
-  both-parts : (d e : Path) (es : List PathEntry) (x : PathEntry) → Gives (pathEntryAt cs) (addPath e (addPath d es) ++ (x ∷ [])) → (Gives (pathEntryAt cs) (addPath d es) → pathAt cs (last (addPath d es)) ≡ d) → (Gives (pathEntryAt cs) (addPath e (addPath d es)) → pathAt cs (last (addPath e (addPath d es))) ≡ e) → (lower (length (addPath e (addPath d es))) (last (addPath d es)) ≡ d) × (lower (length (addPath e (addPath d es))) (last (addPath e (addPath d es))) ≡ e)
-  both-parts d e es x h p q =
-      let ds = addPath d es in
-      let fs = addPath e ds in
-      let g : Gives (pathEntryAt cs) fs = gives-front (pathEntryAt cs) fs (x ∷ []) h in (
-        lower-at (length fs) (last ds) (omega (arith, path-last d es, path-size e ds)) ∙ p (gives-before (pathEntryAt cs) ds fs (path-extends e ds) g),
-        lower-at (length fs) (last fs) (path-last e ds) ∙ q g,
-      )
+  -- an entry of two parts, the last of ds and the last of fs
+  two-parts : (f : Path → Path → Path) (g : ℕ → ℕ → PathEntry) → ((m n : ℕ) (at : ℕ → Path) → pathOf (g m n) at ≡ f (at m) (at n)) → (d e : Path) (ds fs : List PathEntry) → last ds < length ds → last fs < length fs → Extends ds fs → Gives (pathEntryAt cs) (fs ++ (g (last ds) (last fs) ∷ [])) → (Gives (pathEntryAt cs) ds → pathAt cs (last ds) ≡ d) → (Gives (pathEntryAt cs) fs → pathAt cs (last fs) ≡ e) → pathAt cs (last (fs ++ (g (last ds) (last fs) ∷ []))) ≡ f d e
+  two-parts f g of d e ds fs k l x h p q =
+      let y = g (last ds) (last fs) in
+      let hf : Gives (pathEntryAt cs) fs = gives-front (pathEntryAt cs) fs (y ∷ []) h in
+      path-end fs y h ∙ of (last ds) (last fs) (lower (length fs))
+      ∙ ap₂ f (lower-at (length fs) (last ds) (omega (arith, extends-length ds fs x)) ∙ p (gives-before (pathEntryAt cs) ds fs x hf)) (lower-at (length fs) (last fs) l ∙ q hf)
 
   -- the last entry of a path is the path
   pub path-read : (e : Path) (es : List PathEntry) → Gives (pathEntryAt cs) (addPath e es) → pathAt cs (last (addPath e es)) ≡ e
@@ -83,18 +80,8 @@ module _ (cs : List ℕ) where
   path-read (inverse d) es h =
       let ds = addPath d es in
       path-end ds (inv (last ds)) h ∙ ap inverse (lower-at (length ds) (last ds) (path-last d es) ∙ path-read d es (gives-front (pathEntryAt cs) ds (inv (last ds) ∷ []) h))
-  path-read (sequence d e) es h =
-      let ds = addPath d es in
-      let fs = addPath e ds in
-      let x = seq (last ds) (last fs) in
-      let (p, q) = both-parts d e es x h (path-read d es) (path-read e ds) in
-      path-end fs x h ∙ ap₂ sequence p q
-  path-read (alternative d e) es h =
-      let ds = addPath d es in
-      let fs = addPath e ds in
-      let x = alt (last ds) (last fs) in
-      let (p, q) = both-parts d e es x h (path-read d es) (path-read e ds) in
-      path-end fs x h ∙ ap₂ alternative p q
+  path-read (sequence d e) es h = let ds = addPath d es in two-parts sequence seq (λ m n at. refl) d e ds (addPath e ds) (path-last d es) (path-last e ds) (path-extends e ds) h (path-read d es) (path-read e ds)
+  path-read (alternative d e) es h = let ds = addPath d es in two-parts alternative alt (λ m n at. refl) d e ds (addPath e ds) (path-last d es) (path-last e ds) (path-extends e ds) h (path-read d es) (path-read e ds)
 
   -- END by its number, where the path entries are few
   pub end-read : (f : End) (es : Entries) → Gives (pathEntryAt cs) (withEnd f es .paths) → length (withEnd f es .paths) ≤ maxPaths → endAt cs (endNumber f (withEnd f es)) ≡ f

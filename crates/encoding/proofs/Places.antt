@@ -1,18 +1,18 @@
 -- Lists by number: what a function gives for each number, what a list that grew still has, and columns read back.
 use Prim.Native.Nat.{ℕ, zero, suc, _+_, _-_, _≤_, _<_}
 use mathlib.Core.List.{List, [], _∷_, _++_, map, append-nil, append-assoc}
-use mathlib.Core.Bool.{Bool, true, false, _&&_}
-use mathlib.Core.Path.{_≡_, refl, sym, ap, ap₂, _∙_, subst}
+use mathlib.Core.Bool.{Bool, true}
+use mathlib.Core.Path.{_≡_, refl, sym, ap, _∙_, subst}
 use native.Mathlib.Nat.{zero-add, add-assoc}
 use native.Mathlib.Omega.{arith}
-use lib.Dec.{eqb, ltb, leb}
+use lib.Dec.{eqb, ltb}
 use lib.ListN.{length, getD, take, drop, length-append, List·getD-append, List·getD-eq-default}
 use lib.Seq.{ext-getD, slice, length-slice, getD-take, getD-drop, getD-append-add, getD-append-seam}
 use borrow.Author.Tests.{eqb-true, ltb-true, ltb-false}
 use Rattle.base.specs.Lists.{allb, valuesFrom, values}
 use Rattle.base.specs.Columns.{Column, pad, flat, offset, column}
 use Rattle.base.proofs.Bools.{bool-cases, and-left, and-right, and-both}
-use Rattle.base.proofs.Lists.{length-valuesFrom, at-valuesFrom, allb-append}
+use Rattle.base.proofs.Lists.{length-valuesFrom, at-valuesFrom}
 use Rattle.base.proofs.Columns.{at-flat, at-pad, length-pad}
 
 -- a place below n or not
@@ -33,7 +33,7 @@ any-default (x ∷ xs) (suc i) d e l = any-default xs i d e (omega arith)
 pub allb-weaker : {A : Type 0} (p q : A → Bool) (xs : List A) → ((x : A) → p x ≡ true → q x ≡ true) → allb p xs ≡ true → allb q xs ≡ true
 unfolding allb
 allb-weaker p q [] h e = refl
-allb-weaker p q (x ∷ xs) h e = and-both (q x) (allb q xs) (h x (and-left (p x) (allb p xs) e)) (allb-weaker p q xs h (and-right (p x) (allb p xs) e))
+allb-weaker p q (x ∷ xs) h e = and-both _ _ (h x (and-left _ _ e)) (allb-weaker p q xs h (and-right (p x) _ e))
 
 -- P holds of each item of xs with its number
 abbrev pub ByNumber : {A : Type 0} → (ℕ → A → Type 0) → List A → Type 0
@@ -149,4 +149,4 @@ module _ {A : Type 0} (d : A) where
   at-blank [] h i = refl
   at-blank (c ∷ cs) h i =
       let z : length (c .items) ≡ 0 = eqb-true (length (c .items)) 0 (and-left _ _ h) in
-      at-first c cs (omega arith) (at-blank cs (and-right (eqb (length (c .items)) 0) (allb (λ c. eqb (length (c .items)) 0) cs) h)) i ∙ List·getD-eq-default (c .items) d (omega arith)
+      at-first c cs (omega arith) (at-blank cs (and-right (eqb (length (c .items)) 0) _ h)) i ∙ List·getD-eq-default (c .items) d (omega arith)

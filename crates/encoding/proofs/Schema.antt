@@ -1,19 +1,18 @@
 -- The schema of a book, read back from its tables: each shape at its number, with shape names expanded.
-use Prim.Native.Nat.{ℕ, zero, suc, _+_, _-_, _≤_, _<_}
-use mathlib.Core.List.{List, [], _∷_, _++_, map, append-nil, append-assoc}
-use mathlib.Core.Bool.{Bool, true, false}
-use mathlib.Core.Path.{_≡_, refl, sym, ap, ap₂, _∙_, subst}
+use Prim.Native.Nat.{ℕ, zero, suc, _+_, _≤_, _<_}
+use mathlib.Core.List.{List, [], _∷_, _++_, append-nil}
+use mathlib.Core.Bool.{true}
+use mathlib.Core.Path.{_≡_, refl, sym, ap, _∙_, subst}
 use native.Mathlib.Omega.{arith}
 use lib.ListN.{length, getD, length-append}
 use lib.IntN.{ℤ, pos}
 use borrow.Author.Tests.{ltb-true}
-use Rattle.model.specs.Limits.{maxPaths, maxForms, maxItems, maxShapes}
+use Rattle.model.specs.Limits.{maxPaths, maxForms}
 use Rattle.model.specs.Shapes.{Shape, top, expand}
-use Rattle.model.specs.Books.{Book, Line, link, type, lang, node, fact, shape, rule, shapes, newShapes, collect, names, schemaFrom, schema}
-use Rattle.model.specs.Sizes.{formsIn, pathsIn, itemsIn}
-use Rattle.model.specs.Valid.{capacity, defined, shapeOk, entriesFit, admissible}
+use Rattle.model.specs.Books.{Book, link, type, lang, node, fact, shape, rule, shapes, newShapes, collect, names, schemaFrom, schema}
+use Rattle.model.specs.Valid.{capacity, defined, shapeOk, admissible}
 use Rattle.tables.specs.Layout.{pathCount, shapeCount, formCodeAt, formFirstAt, formSecondAt, formThirdAt, formFourthAt, limitAt, itemAt, rootAt}
-use Rattle.tables.specs.Entries.{PathEntry, pathEntryOf, Entry, entryOf}
+use Rattle.tables.specs.Entries.{Entry, entryOf}
 use Rattle.tables.specs.Decode.{pathEntryAt, entryAt, shapeAt, schemaAt}
 use Rattle.encoding.specs.Rows.{pathRow, formRow}
 use Rattle.encoding.specs.Flatten.{last, Entries, addShape, addShapes, rootsOf, noEntries}

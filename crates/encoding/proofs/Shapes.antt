@@ -1,30 +1,29 @@
 -- Shapes as entries: entries that are there stay, and the last entry of a shape, read back, is that shape with the shape
 -- names in it expanded.
-use Prim.Native.Nat.{ℕ, zero, suc, _+_, _-_, _≤_, _<_}
+use Prim.Native.Nat.{ℕ, _≤_, _<_}
 use mathlib.Core.List.{List, [], _∷_, _++_}
-use mathlib.Core.Bool.{Bool, true, false, cond, _&&_}
-use mathlib.Core.Path.{_≡_, refl, sym, ap, ap₂, _∙_, subst}
+use mathlib.Core.Bool.{Bool, true, cond, _&&_}
+use mathlib.Core.Path.{_≡_, refl, ap, ap₂, _∙_}
 use native.Mathlib.Omega.{arith}
-use lib.Dec.{eqb, leb}
-use lib.ListN.{length, getD, length-append}
-use lib.IntN.{ℤ, pos}
+use lib.Dec.{leb}
+use lib.ListN.{length}
+use lib.IntN.{ℤ}
 use borrow.Author.Tests.{ne-eqb, leb-true}
-use Rattle.base.specs.Lists.{valuesFrom}
-use Rattle.base.specs.Numbered.{below, numbered}
+use Rattle.base.specs.Numbered.{below}
 use Rattle.base.proofs.Bools.{and-left, and-right}
 use Rattle.base.proofs.Numbered.{at-number, below-number}
 use Rattle.model.specs.Limits.{maxPaths, maxCount}
 use Rattle.model.specs.Paths.{Path, End, self, along}
 use Rattle.model.specs.Shapes.{Kind, anIri, aBlank, aLiteral, Test, nodeKind, datatype, languageIn, minInclusive, minExclusive, maxInclusive, maxExclusive, Upper, atMost, unbounded, Shape, top, hasShape, hasValue, conj, disj, neg, test, count, forAll, equals, disjoint, closed, lessThan, lessThanEq, uniqueLang, def, expand}
-use Rattle.model.specs.Books.{Book, shapes, links}
-use Rattle.model.specs.Valid.{defined, upperOk, pathOk, endOk, testOk, shapeOk}
+use Rattle.model.specs.Books.{Book, shapes}
+use Rattle.model.specs.Valid.{defined, upperOk, pathOk, shapeOk}
 use Rattle.tables.specs.Layout.{noNumber, pathCount, itemCount, itemAt, rootAt}
-use Rattle.tables.specs.Entries.{PathEntry, Entry, entryOf}
+use Rattle.tables.specs.Entries.{Entry, entryOf}
 use Rattle.tables.specs.Decode.{pathEntryAt, pathAt, endAt, kindOf, upperOf, itemsAt, shapeOf, entryAt, shapeAt}
-use Rattle.encoding.specs.Rows.{FormRow, plainRow, valueRow, formRow}
-use Rattle.encoding.specs.Flatten.{last, addPath, Entries, addForm, withPath, withItems, withEnd, endNumber, kindCode, upperNumber, addTest, addShape, addShapes, noEntries}
-use Rattle.encoding.proofs.Places.{Gives, gives-front, gives-back, gives-end, gives-before, valuesFrom-is, Extends, extends-refl, extends-more, extends-trans, extends-length}
-use Rattle.encoding.proofs.Counts.{path-size, path-entries, shape-size, form-entries}
+use Rattle.encoding.specs.Rows.{plainRow, valueRow, formRow}
+use Rattle.encoding.specs.Flatten.{last, addPath, Entries, addForm, withPath, withItems, withEnd, endNumber, kindCode, upperNumber, addTest, addShape}
+use Rattle.encoding.proofs.Places.{Gives, gives-back, gives-end, gives-before, valuesFrom-is, Extends, extends-refl, extends-more, extends-trans, extends-length}
+use Rattle.encoding.proofs.Counts.{shape-size, form-entries}
 use Rattle.encoding.proofs.Paths.{path-extends, last-snoc, path-read, end-read}
 
 -- an entry's row read back
@@ -212,30 +211,23 @@ module _ (cs : List ℕ) (vs : List ℤ) (few : pathCount cs ≤ maxPaths) where
     part : (φ : Shape) (es fs : Entries) → Grows (addShape φ es) fs → shapeAt cs vs (last (addShape φ es .forms)) ≡ expand H φ → lower (length (fs .forms)) (last (addShape φ es .forms)) ≡ expand H φ
     part φ es fs g e = lower-at (length (fs .forms)) (last (addShape φ es .forms)) (omega (arith, form-last φ es, extends-length (addShape φ es .forms) (fs .forms) (g .forms))) ∙ e
 
-    both-parts : (φ ψ : Shape) (es : Entries) (x : Entry) → Held cs vs (addForm x (addShape ψ (addShape φ es))) → (Held cs vs (addShape φ es) → shapeAt cs vs (last (addShape φ es .forms)) ≡ expand H φ) → (Held cs vs (addShape ψ (addShape φ es)) → shapeAt cs vs (last (addShape ψ (addShape φ es) .forms)) ≡ expand H ψ) → (lower (length (addShape ψ (addShape φ es) .forms)) (last (addShape φ es .forms)) ≡ expand H φ) × (lower (length (addShape ψ (addShape φ es) .forms)) (last (addShape ψ (addShape φ es) .forms)) ≡ expand H ψ)
-    both-parts φ ψ es x h p q =
+    -- an entry of two parts
+    two-parts : (f : Shape → Shape → Shape) (g : ℕ → ℕ → Entry) → ((m n : ℕ) (at : ℕ → Shape) → shapeOf cs (g m n) at ≡ f (at m) (at n)) → (φ ψ : Shape) (es : Entries) → (let fs = addShape φ es in let gs = addShape ψ fs in let x = g (last (fs .forms)) (last (gs .forms)) in Held cs vs (addForm x gs) → (Held cs vs fs → shapeAt cs vs (last (fs .forms)) ≡ expand H φ) → (Held cs vs gs → shapeAt cs vs (last (gs .forms)) ≡ expand H ψ) → shapeAt cs vs (last (gs .forms ++ (x ∷ []))) ≡ f (expand H φ) (expand H ψ))
+    two-parts f g of φ ψ es h p q =
         let fs = addShape φ es in
         let gs = addShape ψ fs in
-        let g : Held cs vs gs = held-before (grows-form x gs) h in
-        (part φ es gs (grows-shape ψ fs) (p (held-before (grows-shape ψ fs) g)), part ψ fs gs (grows-refl gs) (q g))
+        let x = g (last (fs .forms)) (last (gs .forms)) in
+        let hg : Held cs vs gs = held-before (grows-form x gs) h in
+        form-end gs x h ∙ of (last (fs .forms)) (last (gs .forms)) (lower (length (gs .forms)))
+        ∙ ap₂ f (part φ es gs (grows-shape ψ fs) (p (held-before (grows-shape ψ fs) hg))) (part ψ fs gs (grows-refl gs) (q hg))
 
     pub shape-read : (φ : Shape) (es : Entries) → Low cs a es → Held cs vs (addShape φ es) → shapeOk a φ ≡ true → shapeAt cs vs (last (addShape φ es .forms)) ≡ expand H φ
     unfolding addShape shapeOf expand shapeOk
     shape-read top es low h ok = form-end es Entry.top h
     shape-read (hasShape s) es low h ok = form-end es (Entry.shape s) h ∙ lower-at (length (es .forms)) (rootAt cs s) (low s ok) ∙ known s ok
     shape-read (hasValue c) es low h ok = form-end es (Entry.is c) h
-    shape-read (conj φ ψ) es low h ok =
-        let fs = addShape φ es in
-        let gs = addShape ψ fs in
-        let x = Entry.conj (last (fs .forms)) (last (gs .forms)) in
-        let (p, q) = both-parts φ ψ es x h (λ k. shape-read φ es low k (and-left (shapeOk a φ) (shapeOk a ψ) ok)) (λ k. shape-read ψ fs (low-shape cs a φ es low) k (and-right (shapeOk a φ) (shapeOk a ψ) ok)) in
-        form-end gs x h ∙ ap₂ conj p q
-    shape-read (disj φ ψ) es low h ok =
-        let fs = addShape φ es in
-        let gs = addShape ψ fs in
-        let x = Entry.disj (last (fs .forms)) (last (gs .forms)) in
-        let (p, q) = both-parts φ ψ es x h (λ k. shape-read φ es low k (and-left (shapeOk a φ) (shapeOk a ψ) ok)) (λ k. shape-read ψ fs (low-shape cs a φ es low) k (and-right (shapeOk a φ) (shapeOk a ψ) ok)) in
-        form-end gs x h ∙ ap₂ disj p q
+    shape-read (conj φ ψ) es low h ok = two-parts conj Entry.conj (λ m n at. refl) φ ψ es h (λ k. shape-read φ es low k (and-left _ _ ok)) (λ k. shape-read ψ (addShape φ es) (low-shape cs a φ es low) k (and-right (shapeOk a φ) _ ok))
+    shape-read (disj φ ψ) es low h ok = two-parts disj Entry.disj (λ m n at. refl) φ ψ es h (λ k. shape-read φ es low k (and-left _ _ ok)) (λ k. shape-read ψ (addShape φ es) (low-shape cs a φ es low) k (and-right (shapeOk a φ) _ ok))
     shape-read (neg φ) es low h ok =
         let fs = addShape φ es in
         let x = Entry.neg (last (fs .forms)) in
@@ -246,18 +238,18 @@ module _ (cs : List ℕ) (vs : List ℤ) (few : pathCount cs ≤ maxPaths) where
         let fs = addShape ψ ps in
         let x = Entry.count (last (ps .paths)) (last (fs .forms)) lo (upperNumber hi) in
         let g : Held cs vs fs = held-before (grows-form x fs) h in
-        let bounds : (leb lo maxCount && upperOk hi) ≡ true = and-left (leb lo maxCount && upperOk hi) (pathOk a e && shapeOk a ψ) ok in
-        let parts : (pathOk a e && shapeOk a ψ) ≡ true = and-right (leb lo maxCount && upperOk hi) (pathOk a e && shapeOk a ψ) ok in
-        let upper = upper-back hi (and-right (leb lo maxCount) (upperOk hi) bounds) in
+        let bounds : (leb lo maxCount && upperOk hi) ≡ true = and-left _ _ ok in
+        let parts : (pathOk a e && shapeOk a ψ) ≡ true = and-right (leb lo maxCount && upperOk hi) _ ok in
+        let upper = upper-back hi (and-right (leb lo maxCount) _ bounds) in
         let path = path-of e es fs (grows-shape ψ ps) g in
-        let child = part ψ ps fs (grows-refl fs) (shape-read ψ ps low g (and-right (pathOk a e) (shapeOk a ψ) parts)) in
+        let child = part ψ ps fs (grows-refl fs) (shape-read ψ ps low g (and-right (pathOk a e) _ parts)) in
         form-end fs x h ∙ ap₂ (λ (u : Upper) (d : Path). count lo u d (lower (length (fs .forms)) (last (fs .forms)))) upper path ∙ ap (count lo hi e) child
     shape-read (forAll e ψ) es low h ok =
         let ps = withPath e es in
         let fs = addShape ψ ps in
         let x = Entry.all (last (ps .paths)) (last (fs .forms)) in
         let g : Held cs vs fs = held-before (grows-form x fs) h in
-        form-end fs x h ∙ ap₂ forAll (path-of e es fs (grows-shape ψ ps) g) (part ψ ps fs (grows-refl fs) (shape-read ψ ps low g (and-right (pathOk a e) (shapeOk a ψ) ok)))
+        form-end fs x h ∙ ap₂ forAll (path-of e es fs (grows-shape ψ ps) g) (part ψ ps fs (grows-refl fs) (shape-read ψ ps low g (and-right (pathOk a e) _ ok)))
     shape-read (equals f p) es low h ok = form-end (withEnd f es) (Entry.equal (endNumber f (withEnd f es)) p) h ∙ ap (λ (f : End). equals f p) (end-of f es (Entry.equal (endNumber f (withEnd f es)) p) h)
     shape-read (disjoint f p) es low h ok = form-end (withEnd f es) (Entry.apart (endNumber f (withEnd f es)) p) h ∙ ap (λ (f : End). disjoint f p) (end-of f es (Entry.apart (endNumber f (withEnd f es)) p) h)
     shape-read (closed qs) es low h ok =

@@ -1,14 +1,12 @@
 -- Every place of the tables is a place of a column, and what no item takes is zero.
 use Prim.Native.Nat.{ℕ, zero, suc, _+_, _-_, _≤_, _<_}
-use mathlib.Core.List.{List, [], _∷_, _++_}
-use mathlib.Core.Path.{_≡_, refl, sym, ap, _∙_}
+use mathlib.Core.List.{List, [], _∷_}
+use mathlib.Core.Path.{_≡_}
 use native.Mathlib.Omega.{arith}
 use lib.ListN.{length, getD}
-use lib.IntN.{ℤ, pos}
-use Rattle.base.specs.Columns.{Column, flat, offset, column}
-use Rattle.text.specs.Pool.{poolOf}
-use Rattle.model.specs.Books.{Book, Pool, names}
-use Rattle.model.specs.Valid.{capacity}
+use lib.IntN.{pos}
+use Rattle.base.specs.Columns.{Column, offset, column}
+use Rattle.model.specs.Books.{Book}
 use Rattle.encoding.specs.Encode.{cellColumns, valueColumns, nameColumns, contentOf, encodeCells, encodeValues, encodeNames}
 use Rattle.encoding.proofs.Places.{below-or, at-unused}
 

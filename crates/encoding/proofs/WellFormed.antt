@@ -1,8 +1,8 @@
 -- The tables of an admissible book are well formed.
-use Prim.Native.Nat.{ℕ, zero, suc, _+_, _-_, _≤_, _<_}
+use Prim.Native.Nat.{ℕ, _+_, _≤_, _<_}
 use mathlib.Core.List.{List, [], _∷_, _++_}
 use mathlib.Core.Bool.{Bool, true, false, not, _&&_, _||_, or-true}
-use mathlib.Core.Path.{_≡_, refl, sym, ap, ap₂, _∙_, subst}
+use mathlib.Core.Path.{_≡_, refl, sym, ap, _∙_, subst}
 use native.Mathlib.Omega.{arith}
 use lib.Dec.{eqb, ltb, leb}
 use lib.ListN.{length, getD, length-append}
@@ -19,23 +19,23 @@ use Rattle.model.specs.Paths.{Path, predicate, inverse, sequence, alternative, 
 use Rattle.model.specs.Shapes.{Kind, anIri, aBlank, aLiteral, Test, nodeKind, datatype, languageIn, minInclusive, minExclusive, maxInclusive, maxExclusive, Upper, atMost, unbounded, Shape, top, hasShape, hasValue, conj, disj, neg, test, count, forAll, equals, disjoint, closed, lessThan, lessThanEq, uniqueLang}
 use Rattle.model.specs.Rules.{Target, targetNode, subjectsOf, objectsOf, targetClass, Rule}
 use Rattle.model.specs.Books.{Book, Line, link, type, lang, node, fact, shape, rule, Pool, nodes, links, types, langs, shapes, poolNumber, newTerms, newTriples, newShapes, newRules, collect, names, rules}
-use Rattle.model.specs.Valid.{inRange, capacity, isResource, defined, hasRoom, termOk, pathOk, testOk, shapeOk, targetOk, entriesFit, lineOk, admissible}
+use Rattle.model.specs.Valid.{inRange, capacity, isResource, defined, hasRoom, termOk, pathOk, testOk, shapeOk, targetOk, lineOk, admissible}
 use Rattle.model.specs.Valid as Valid
-use Rattle.tables.specs.Layout.{noNumber, nodeCount, linkCount, typeCount, langCount, shapeCount, factCount, pathCount, formCount, itemCount, ruleCount, kindAt, typeAt, langAt, subjectAt, predicateAt, objectAt, itemAt, rootAt, ruleShapeAt, ruleTargetAt, ruleOperandAt, limitAt}
+use Rattle.tables.specs.Layout.{noNumber, nodeCount, linkCount, typeCount, langCount, shapeCount, factCount, pathCount, formCount, itemCount, ruleCount, subjectAt, predicateAt, objectAt, itemAt, rootAt}
 use Rattle.tables.specs.Entries.{PathEntry, Entry, entryOf}
 use Rattle.tables.specs.Entries as E
 use Rattle.tables.specs.Decode.{tripleAt, pathEntryAt, entryAt}
 use Rattle.tables.specs.WellFormed.{countsOk, nodeOk, factOk, pathEntryOk, itemsOk, upperOk, endOk, entryOk, ruleOk, wellFormed}
-use Rattle.encoding.specs.Rows.{nodeRow, targetCode, targetOperand, FormRow, plainRow, valueRow, formRow}
-use Rattle.encoding.specs.Flatten.{last, addPath, Entries, addForm, withPath, withItems, withEnd, endNumber, kindCode, upperNumber, addTest, addShape, addShapes, rootsOf, noEntries}
+use Rattle.encoding.specs.Rows.{nodeRow, targetCode, targetOperand, plainRow, valueRow, formRow}
+use Rattle.encoding.specs.Flatten.{last, addPath, Entries, addForm, withPath, withItems, withEnd, endNumber, kindCode, upperNumber, addTest, addShape, addShapes, noEntries}
 use Rattle.encoding.specs.Encode.{entriesOf, encodeCells, encodeValues}
-use Rattle.encoding.proofs.Places.{Gives, gives-back, Each, by-number-none, by-number-snoc, Extends, extends-length}
+use Rattle.encoding.proofs.Places.{gives-back, Each, by-number-none, by-number-snoc, extends-length}
 use Rattle.encoding.proofs.Lines.{defined-more, all-right, names-before, facts-within, rules-within, names-within, forms-within, paths-within, items-within}
-use Rattle.encoding.proofs.Counts.{path-size, shape-size, entries-size, names-counted, facts-counted, rules-counted, paths-counted, forms-counted, items-counted, terms-counted, shapes-counted}
+use Rattle.encoding.proofs.Counts.{path-size, entries-size, names-counted, facts-counted, rules-counted, paths-counted, forms-counted, items-counted, terms-counted, shapes-counted}
 use Rattle.encoding.proofs.Graph.{kind-at, type-at, lang-at, triple-at, rule-shape-at, rule-target-at, rule-operand-at}
 use Rattle.encoding.proofs.Paths.{path-last}
-use Rattle.encoding.proofs.Shapes.{form-last, Grows, grows-refl, grows-form, grows-items, grows-path, grows-end, grows-shape, Held, held-before, Low, low-shape}
-use Rattle.encoding.proofs.Schema.{entries-snoc, roots-length, roots-low, low-roots, Next, held-shapes, path-entry-at, form-entry-with, root-at, entries-held}
+use Rattle.encoding.proofs.Shapes.{form-last, Grows, grows-refl, grows-form, grows-shape, Held, held-before, Low, low-shape}
+use Rattle.encoding.proofs.Schema.{entries-snoc, roots-length, roots-low, low-roots, held-shapes, path-entry-at, form-entry-with, root-at, entries-held}
 
 -- ---- what lines add uses what the book defines
 uses : Book → Triple → Bool
@@ -49,7 +49,7 @@ unfolding lineOk newTerms allb
 terms-line a (link n) e = refl
 terms-line a (type n) e = refl
 terms-line a (lang n) e = refl
-terms-line a (node n t) e = and-both (termOk a t) true (and-right (hasRoom a nodes) (termOk a t) e) refl
+terms-line a (node n t) e = and-both _ _ (and-right (hasRoom a nodes) _ e) refl
 terms-line a (fact t) e = refl
 terms-line a (shape n φ) e = refl
 terms-line a (rule r) e = refl
@@ -64,7 +64,7 @@ facts-line a (fact t) e =
     let s = defined a nodes (t .subject) in
     let r = isResource (getD (collect newTerms a) (t .subject) iri) in
     let po = defined a links (t .predicate) && defined a nodes (t .object) in
-    let f : ((s && r) && po) ≡ true = and-left (Valid.factOk a t) (ltb (length (collect newTriples a)) maxFacts) e in
+    let f : ((s && r) && po) ≡ true = and-left _ _ e in
     and-both (uses a t) true (and-both s po (and-left s r (and-left (s && r) po f)) (and-right (s && r) po f)) refl
 facts-line a (shape n φ) e = refl
 facts-line a (rule r) e = refl
@@ -86,10 +86,10 @@ term-more a l blankNode e = refl
 term-more a l (numeric t x) e =
     let c = a ++ (l ∷ []) in
     let r = not (eqb t langString) && inRange x in
-    and-both (defined c types t) r (defined-more a l types t (and-left (defined a types t) r e)) (and-right (defined a types t) r e)
+    and-both _ _ (defined-more a l types t (and-left _ _ e)) (and-right (defined a types t) _ e)
 term-more a l (plain t) e =
     let c = a ++ (l ∷ []) in
-    and-both (defined c types t) (not (eqb t langString)) (defined-more a l types t (and-left (defined a types t) (not (eqb t langString)) e)) (and-right (defined a types t) (not (eqb t langString)) e)
+    and-both _ _ (defined-more a l types t (and-left _ _ e)) (and-right (defined a types t) _ e)
 term-more a l (tagged k) e = defined-more a l langs k e
 
 fact-more : (a : Book) (l : Line) (t : Triple) → uses a t ≡ true → uses (a ++ (l ∷ [])) t ≡ true
@@ -97,9 +97,9 @@ unfolding uses
 fact-more a l t e =
     let c = a ++ (l ∷ []) in
     let po = defined a links (t .predicate) && defined a nodes (t .object) in
-    let f : po ≡ true = and-right (defined a nodes (t .subject)) po e in
-    and-both (defined c nodes (t .subject)) (defined c links (t .predicate) && defined c nodes (t .object)) (defined-more a l nodes (t .subject) (and-left (defined a nodes (t .subject)) po e))
-    (and-both (defined c links (t .predicate)) (defined c nodes (t .object)) (defined-more a l links (t .predicate) (and-left (defined a links (t .predicate)) (defined a nodes (t .object)) f)) (defined-more a l nodes (t .object) (and-right (defined a links (t .predicate)) (defined a nodes (t .object)) f)))
+    let f : po ≡ true = and-right (defined a nodes (t .subject)) _ e in
+    and-both _ _ (defined-more a l nodes (t .subject) (and-left _ _ e))
+    (and-both _ _ (defined-more a l links (t .predicate) (and-left _ _ f)) (defined-more a l nodes (t .object) (and-right (defined a links (t .predicate)) _ f)))
 
 target-more : (a : Book) (l : Line) (t : Target) → targetOk a t ≡ true → targetOk (a ++ (l ∷ [])) t ≡ true
 unfolding targetOk
@@ -111,8 +111,8 @@ target-more a l (targetClass c) e = defined-more a l nodes c e
 rule-more : (a : Book) (l : Line) (r : Rule) → applies a r ≡ true → applies (a ++ (l ∷ [])) r ≡ true
 unfolding applies
 rule-more a l r e =
-    and-both (defined (a ++ (l ∷ [])) shapes (r .shape)) (targetOk (a ++ (l ∷ [])) (r .target)) (defined-more a l shapes (r .shape) (and-left (defined a shapes (r .shape)) (targetOk a (r .target)) e))
-    (target-more a l (r .target) (and-right (defined a shapes (r .shape)) (targetOk a (r .target)) e))
+    and-both _ _ (defined-more a l shapes (r .shape) (and-left _ _ e))
+    (target-more a l (r .target) (and-right (defined a shapes (r .shape)) _ e))
 
 -- ---- entries of shapes, where the tables count at least the names of the lines above
 pub record EntriesOk (cs : List ℕ) (es : Entries) : Type 0 where
@@ -155,7 +155,7 @@ parts-lower : (d e : Path) (es : List PathEntry) → (ltb (last (addPath d es)) 
 parts-lower d e es =
     let ds = addPath d es in
     let fs = addPath e ds in
-    and-both (ltb (last ds) (length fs)) (ltb (last fs) (length fs)) (lt-ltb (last ds) (length fs) (omega (arith, path-last d es, path-size e ds))) (lt-ltb (last fs) (length fs) (path-last e ds))
+    and-both _ _ (lt-ltb (last ds) (length fs) (omega (arith, path-last d es, path-size e ds))) (lt-ltb (last fs) (length fs) (path-last e ds))
 
 module _ (cs : List ℕ) where
   upper-ok : (hi : Upper) → Valid.upperOk hi ≡ true → upperOk cs (upperNumber hi) ≡ true
@@ -190,7 +190,7 @@ module _ (cs : List ℕ) where
           let i = length (es .items) in
           let n = length xs in
           let bound = getD cs (poolNumber p) 0 in
-          and-both (leb (i + n) (itemCount cs)) (every (λ k. ltb (itemAt cs (i + k)) bound) n)
+          and-both _ _
           (le-leb (i + n) (itemCount cs) (omega (arith, h .itemsFit, length-append (es .items) xs)))
           (every-all (λ k. ltb (itemAt cs (i + k)) bound) n (λ k l. ap (λ (x : ℕ). ltb x bound) (gives-back (itemAt cs) (es .items) xs (h .items) k 0 l) ∙ below-count p (getD xs k 0) (allb-at (defined a p) xs 0 d k l)))
 
@@ -203,12 +203,12 @@ module _ (cs : List ℕ) where
       path-ok (sequence e f) es d h =
           let ds = addPath e es in
           let fs = addPath f ds in
-          by-number-snoc (λ i x. pathEntryOk cs i x ≡ true) fs (E.seq (last ds) (last fs)) (path-ok f ds (and-right (pathOk a e) (pathOk a f) d) (path-ok e es (and-left (pathOk a e) (pathOk a f) d) h))
+          by-number-snoc (λ i x. pathEntryOk cs i x ≡ true) fs (E.seq (last ds) (last fs)) (path-ok f ds (and-right (pathOk a e) _ d) (path-ok e es (and-left _ _ d) h))
           (parts-lower e f es)
       path-ok (alternative e f) es d h =
           let ds = addPath e es in
           let fs = addPath f ds in
-          by-number-snoc (λ i x. pathEntryOk cs i x ≡ true) fs (E.alt (last ds) (last fs)) (path-ok f ds (and-right (pathOk a e) (pathOk a f) d) (path-ok e es (and-left (pathOk a e) (pathOk a f) d) h))
+          by-number-snoc (λ i x. pathEntryOk cs i x ≡ true) fs (E.alt (last ds) (last fs)) (path-ok f ds (and-right (pathOk a e) _ d) (path-ok e es (and-left _ _ d) h))
           (parts-lower e f es)
 
       with-items : (xs : List ℕ) (es : Entries) → EntriesOk cs es → EntriesOk cs (withItems xs es)
@@ -235,36 +235,32 @@ module _ (cs : List ℕ) where
       test-ok (maxInclusive x) es h d o = with-form es (Entry.to x) o refl
       test-ok (maxExclusive x) es h d o = with-form es (Entry.under x) o refl
 
-      -- two parts: the first after es, the second after the first
-      both-ok : (φ ψ : Shape) (es : Entries) → (ltb (last (addShape φ es .forms)) (length (addShape ψ (addShape φ es) .forms)) && ltb (last (addShape ψ (addShape φ es) .forms)) (length (addShape ψ (addShape φ es) .forms))) ≡ true
-      both-ok φ ψ es =
+      -- an entry of two parts
+      two-parts : (φ ψ : Shape) (es : Entries) (x : Entry) → (let fs = addShape φ es in let gs = addShape ψ fs in let n = length (gs .forms) in entryOk cs n x ≡ (ltb (last (fs .forms)) n && ltb (last (gs .forms)) n) → Held cs vs (addForm x gs) → (Held cs vs fs → EntriesOk cs fs) → (Held cs vs gs → EntriesOk cs fs → EntriesOk cs gs) → EntriesOk cs (addForm x gs))
+      two-parts φ ψ es x e h p q =
           let fs = addShape φ es in
           let gs = addShape ψ fs in
-          and-both (ltb (last (fs .forms)) (length (gs .forms))) (ltb (last (gs .forms)) (length (gs .forms))) (form-lower φ es gs (grows-shape ψ fs)) (form-lower ψ fs gs (grows-refl gs))
+          let hg : Held cs vs gs = held-before (grows-form x gs) h in
+          with-form gs x (q hg (p (held-before (grows-shape ψ fs) hg))) (e ∙ and-both _ _ (form-lower φ es gs (grows-shape ψ fs)) (form-lower ψ fs gs (grows-refl gs)))
 
-      -- a path and a link
+      -- a path or END, and a link
       path-link : (e : Path) (p : ℕ) (es : Entries) (x : Entry) → Held cs vs (addForm x (withPath e es)) → (pathOk a e && defined a links p) ≡ true → (ltb (last (addPath e (es .paths))) (pathCount cs) && ltb p (linkCount cs)) ≡ true
-      path-link e p es x h d = and-both (ltb (last (addPath e (es .paths))) (pathCount cs)) (ltb p (linkCount cs)) (path-lower e es (addForm x (withPath e es)) (grows-form x (withPath e es)) h) (below-count links p (and-right (pathOk a e) (defined a links p) d))
+      path-link e p es x h d = and-both _ _ (path-lower e es (addForm x (withPath e es)) (grows-form x (withPath e es)) h) (below-count links p (and-right (pathOk a e) _ d))
+
+      end-link : (f : End) (p : ℕ) (es : Entries) (x : Entry) → Held cs vs (addForm x (withEnd f es)) → (Valid.endOk a f && defined a links p) ≡ true → (endOk cs (endNumber f (withEnd f es)) && ltb p (linkCount cs)) ≡ true
+      end-link f p es x h d = and-both _ _ (end-ok f es x h) (below-count links p (and-right (Valid.endOk a f) _ d))
 
       shape-ok : (φ : Shape) (es : Entries) → Low cs a es → Held cs vs (addShape φ es) → shapeOk a φ ≡ true → EntriesOk cs es → EntriesOk cs (addShape φ es)
       unfolding addShape shapeOk entryOk
       shape-ok top es low h d o = with-form es Entry.top o refl
-      shape-ok (hasShape s) es low h d o = with-form es (Entry.shape s) o (and-both (ltb s (shapeCount cs)) (ltb (rootAt cs s) (length (es .forms))) (below-count shapes s d) (lt-ltb (rootAt cs s) (length (es .forms)) (low s d)))
+      shape-ok (hasShape s) es low h d o = with-form es (Entry.shape s) o (and-both _ _ (below-count shapes s d) (lt-ltb (rootAt cs s) (length (es .forms)) (low s d)))
       shape-ok (hasValue c) es low h d o = with-form es (Entry.is c) o (below-count nodes c d)
       shape-ok (conj φ ψ) es low h d o =
           let fs = addShape φ es in
-          let gs = addShape ψ fs in
-          let x = Entry.conj (last (fs .forms)) (last (gs .forms)) in
-          let g : Held cs vs gs = held-before (grows-form x gs) h in
-          let o₁ : EntriesOk cs fs = shape-ok φ es low (held-before (grows-shape ψ fs) g) (and-left (shapeOk a φ) (shapeOk a ψ) d) o in
-          with-form gs x (shape-ok ψ fs (low-shape cs a φ es low) g (and-right (shapeOk a φ) (shapeOk a ψ) d) o₁) (both-ok φ ψ es)
+          two-parts φ ψ es (Entry.conj (last (fs .forms)) (last (addShape ψ fs .forms))) refl h (λ k. shape-ok φ es low k (and-left _ _ d) o) (λ k. shape-ok ψ fs (low-shape cs a φ es low) k (and-right (shapeOk a φ) _ d))
       shape-ok (disj φ ψ) es low h d o =
           let fs = addShape φ es in
-          let gs = addShape ψ fs in
-          let x = Entry.disj (last (fs .forms)) (last (gs .forms)) in
-          let g : Held cs vs gs = held-before (grows-form x gs) h in
-          let o₁ : EntriesOk cs fs = shape-ok φ es low (held-before (grows-shape ψ fs) g) (and-left (shapeOk a φ) (shapeOk a ψ) d) o in
-          with-form gs x (shape-ok ψ fs (low-shape cs a φ es low) g (and-right (shapeOk a φ) (shapeOk a ψ) d) o₁) (both-ok φ ψ es)
+          two-parts φ ψ es (Entry.disj (last (fs .forms)) (last (addShape ψ fs .forms))) refl h (λ k. shape-ok φ es low k (and-left _ _ d) o) (λ k. shape-ok ψ fs (low-shape cs a φ es low) k (and-right (shapeOk a φ) _ d))
       shape-ok (neg φ) es low h d o =
           let fs = addShape φ es in
           let x = Entry.neg (last (fs .forms)) in
@@ -275,30 +271,22 @@ module _ (cs : List ℕ) where
           let fs = addShape ψ ps in
           let x = Entry.count (last (ps .paths)) (last (fs .forms)) lo (upperNumber hi) in
           let g : Held cs vs fs = held-before (grows-form x fs) h in
-          let bounds : (leb lo maxCount && Valid.upperOk hi) ≡ true = and-left (leb lo maxCount && Valid.upperOk hi) (pathOk a e && shapeOk a ψ) d in
-          let parts : (pathOk a e && shapeOk a ψ) ≡ true = and-right (leb lo maxCount && Valid.upperOk hi) (pathOk a e && shapeOk a ψ) d in
+          let bounds : (leb lo maxCount && Valid.upperOk hi) ≡ true = and-left _ _ d in
+          let parts : (pathOk a e && shapeOk a ψ) ≡ true = and-right (leb lo maxCount && Valid.upperOk hi) _ d in
           let p = ltb (last (ps .paths)) (pathCount cs) in
           let c = ltb (last (fs .forms)) (length (fs .forms)) in
-          with-form fs x (shape-ok ψ ps low g (and-right (pathOk a e) (shapeOk a ψ) parts) (with-path e es (and-left (pathOk a e) (shapeOk a ψ) parts) o))
-          (and-both (p && c) (leb lo maxCount && upperOk cs (upperNumber hi)) (and-both p c (path-lower e es fs (grows-shape ψ ps) g) (form-lower ψ ps fs (grows-refl fs)))
+          with-form fs x (shape-ok ψ ps low g (and-right (pathOk a e) _ parts) (with-path e es (and-left _ _ parts) o))
+          (and-both _ _ (and-both _ _ (path-lower e es fs (grows-shape ψ ps) g) (form-lower ψ ps fs (grows-refl fs)))
           (and-both (leb lo maxCount) (upperOk cs (upperNumber hi)) (and-left (leb lo maxCount) (Valid.upperOk hi) bounds) (upper-ok hi (and-right (leb lo maxCount) (Valid.upperOk hi) bounds))))
       shape-ok (forAll e ψ) es low h d o =
           let ps = withPath e es in
           let fs = addShape ψ ps in
           let x = Entry.all (last (ps .paths)) (last (fs .forms)) in
           let g : Held cs vs fs = held-before (grows-form x fs) h in
-          with-form fs x (shape-ok ψ ps low g (and-right (pathOk a e) (shapeOk a ψ) d) (with-path e es (and-left (pathOk a e) (shapeOk a ψ) d) o))
-          (and-both (ltb (last (ps .paths)) (pathCount cs)) (ltb (last (fs .forms)) (length (fs .forms))) (path-lower e es fs (grows-shape ψ ps) g) (form-lower ψ ps fs (grows-refl fs)))
-      shape-ok (equals f p) es low h d o =
-          let ps = withEnd f es in
-          let x = Entry.equal (endNumber f ps) p in
-          with-form ps x (with-end f es (and-left (Valid.endOk a f) (defined a links p) d) o)
-          (and-both (endOk cs (endNumber f ps)) (ltb p (linkCount cs)) (end-ok f es x h) (below-count links p (and-right (Valid.endOk a f) (defined a links p) d)))
-      shape-ok (disjoint f p) es low h d o =
-          let ps = withEnd f es in
-          let x = Entry.apart (endNumber f ps) p in
-          with-form ps x (with-end f es (and-left (Valid.endOk a f) (defined a links p) d) o)
-          (and-both (endOk cs (endNumber f ps)) (ltb p (linkCount cs)) (end-ok f es x h) (below-count links p (and-right (Valid.endOk a f) (defined a links p) d)))
+          with-form fs x (shape-ok ψ ps low g (and-right (pathOk a e) _ d) (with-path e es (and-left _ _ d) o))
+          (and-both _ _ (path-lower e es fs (grows-shape ψ ps) g) (form-lower ψ ps fs (grows-refl fs)))
+      shape-ok (equals f p) es low h d o = let ps = withEnd f es in let x = Entry.equal (endNumber f ps) p in with-form ps x (with-end f es (and-left _ _ d) o) (end-link f p es x h d)
+      shape-ok (disjoint f p) es low h d o = let ps = withEnd f es in let x = Entry.apart (endNumber f ps) p in with-form ps x (with-end f es (and-left _ _ d) o) (end-link f p es x h d)
       shape-ok (closed qs) es low h d o =
           let fs = withItems qs es in
           let x = Entry.closed (length (es .items)) (length qs) in
@@ -306,11 +294,11 @@ module _ (cs : List ℕ) where
       shape-ok (lessThan e p) es low h d o =
           let ps = withPath e es in
           let x = Entry.less (last (ps .paths)) p in
-          with-form ps x (with-path e es (and-left (pathOk a e) (defined a links p) d) o) (path-link e p es x h d)
+          with-form ps x (with-path e es (and-left _ _ d) o) (path-link e p es x h d)
       shape-ok (lessThanEq e p) es low h d o =
           let ps = withPath e es in
           let x = Entry.lesseq (last (ps .paths)) p in
-          with-form ps x (with-path e es (and-left (pathOk a e) (defined a links p) d) o) (path-link e p es x h d)
+          with-form ps x (with-path e es (and-left _ _ d) o) (path-link e p es x h d)
       shape-ok (uniqueLang e) es low h d o =
           let ps = withPath e es in
           let x = Entry.onelang (last (ps .paths)) in
@@ -337,8 +325,8 @@ module _ (b : Book) (ok : admissible b ≡ true) where
   unfolding nodeRow termOk defined
   node-row iri e = refl
   node-row blankNode e = refl
-  node-row (numeric t x) e = and-left (defined b types t) (not (eqb t langString) && inRange x) e
-  node-row (plain t) e = and-left (defined b types t) (not (eqb t langString)) e
+  node-row (numeric t x) e = and-left _ _ e
+  node-row (plain t) e = and-left _ _ e
   node-row (tagged l) e = e
 
   nodes-ok : every (nodeOk (encodeCells b)) (nodeCount (encodeCells b)) ≡ true
