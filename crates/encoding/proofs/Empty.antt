@@ -6,7 +6,8 @@ use mathlib.Core.Path.{_≡_, refl, sym, ap, _∙_}
 use native.Mathlib.Nat.{zero-add}
 use native.Mathlib.Omega.{arith}
 use lib.Dec.{eqb}
-use lib.ListN.{getD, drop}
+use lib.ListN.{getD, drop, set, replicate, length-set, length-replicate}
+use lib.Seq.{ext-getD, getD-set-same, getD-set-other}
 use lib.IntN.{pos}
 use borrow.Author.Tests.{eqb-true}
 use Rattle.base.specs.Bytes.{bytes}
@@ -15,11 +16,12 @@ use Rattle.base.proofs.Bools.{and-left, and-right}
 use Rattle.text.specs.Pool.{padded, poolOf}
 use Rattle.model.specs.Books.{nodes, links, types, builtIn, collect, names, rules}
 use Rattle.model.specs.Valid.{capacity}
-use Rattle.tables.specs.Layout.{linkNames, typeNames}
+use Rattle.tables.specs.Layout.{cellCount, valueCount, linkNames, typeNames}
 use Rattle.encoding.specs.Flatten.{addShapes, rootsOf}
 use Rattle.encoding.specs.Encode.{col, cellColumns, valueColumns, nameColumns, entriesOf, countsOf, contentOf, encodeCells, encodeValues, encodeNames}
 use Rattle.encoding.proofs.Places.{at-rest, at-first, at-blank}
-use Rattle.encoding.proofs.Names.{padded-at, pool-place}
+use Rattle.encoding.proofs.Counts.{cells-length, values-length}
+use Rattle.encoding.proofs.Names.{same-everywhere, padded-at, pool-place}
 
 zeros-at : (xs : List ℕ) → allb (λ x. eqb x 0) xs ≡ true → (i : ℕ) → getD xs i 0 ≡ 0
 unfolding allb
@@ -44,6 +46,25 @@ cells-empty i =
 pub values-empty : (i : ℕ) → getD (encodeValues []) i (pos 0) ≡ pos 0
 unfolding encodeValues contentOf entriesOf collect addShapes allb
 values-empty = at-blank (pos 0) (valueColumns (contentOf [])) refl
+
+-- the same as zeros with two stores
+abbrev pub zeros : ℕ → List ℕ
+zeros n = replicate n 0
+
+two-stores : (n : ℕ) → 2 < n → (i : ℕ) → getD (set (set (zeros n) 1 1) 2 1) i 0 ≡ getD (0 ∷ 1 ∷ 1 ∷ []) i 0
+two-stores n h zero = getD-set-other (set (zeros n) 1 1) 2 0 1 0 (omega arith) ∙ getD-set-other (zeros n) 1 0 1 0 (omega arith) ∙ same-everywhere 0 n 0
+two-stores n h (suc zero) = getD-set-other (set (zeros n) 1 1) 2 1 1 0 (omega arith) ∙ getD-set-same (zeros n) 1 1 0 (omega (arith, length-replicate {A = ℕ} n 0))
+two-stores n h (suc (suc zero)) = getD-set-same (set (zeros n) 1 1) 2 1 0 (omega (arith, length-set (zeros n) 1 1, length-replicate {A = ℕ} n 0))
+two-stores n h (suc (suc (suc i))) = getD-set-other (set (zeros n) 1 1) 2 (suc (suc (suc i))) 1 0 (omega arith) ∙ getD-set-other (zeros n) 1 (suc (suc (suc i))) 1 0 (omega arith) ∙ same-everywhere 0 n (suc (suc (suc i)))
+
+pub cells-start : encodeCells [] ≡ set (set (zeros cellCount) 1 1) 2 1
+cells-start =
+    ext-getD 0 (encodeCells []) (set (set (zeros cellCount) 1 1) 2 1)
+    (cells-length [] ∙ sym (length-set (set (zeros cellCount) 1 1) 2 1 ∙ length-set (zeros cellCount) 1 1 ∙ length-replicate {A = ℕ} cellCount 0))
+    (λ i _. cells-empty i ∙ sym (two-stores cellCount (omega arith) i))
+
+pub values-start : encodeValues [] ≡ replicate valueCount (pos 0)
+values-start = ext-getD (pos 0) (encodeValues []) (replicate valueCount (pos 0)) (values-length [] ∙ sym (length-replicate valueCount (pos 0))) (λ i _. values-empty i ∙ sym (same-everywhere (pos 0) valueCount i))
 
 -- a pool of one name
 one-name : (w : List ℕ) (i : ℕ) → getD (poolOf (w ∷ [])) i 0 ≡ getD w i 0

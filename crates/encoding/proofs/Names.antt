@@ -36,7 +36,7 @@ abbrev pub short : List Name → Bool
 short ws = allb (λ w. leb (length w) maxName) ws
 
 -- ---- a name in its 32 bytes
-same-everywhere : {A : Type 0} (a : A) (n j : ℕ) → getD (replicate n a) j a ≡ a
+pub same-everywhere : {A : Type 0} (a : A) (n j : ℕ) → getD (replicate n a) j a ≡ a
 same-everywhere a zero j = refl
 same-everywhere a (suc n) zero = refl
 same-everywhere a (suc n) (suc j) = same-everywhere a n j
