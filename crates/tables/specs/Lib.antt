@@ -2,3 +2,5 @@ pub mod Layout
 pub mod Entries
 pub mod Decode
 pub mod WellFormed
+pub mod Sizes
+pub mod Parts
