@@ -1,4 +1,5 @@
 pub mod Places
-pub mod Codes
-pub mod Items
-pub mod Parts
+pub mod Blank
+pub mod WellFormed
+pub mod Decode
+pub mod Sizes

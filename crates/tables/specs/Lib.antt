@@ -3,4 +3,3 @@ pub mod Entries
 pub mod Decode
 pub mod WellFormed
 pub mod Sizes
-pub mod Parts

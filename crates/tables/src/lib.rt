@@ -1,6 +1,7 @@
-// The lent tables of a read book: where everything stands (layout), typed reads (reads), whether tables that somebody lends
-// can be used (check: refusals 8 and 9), and zeros up to the limit (fill).
-// Operations: none; the crates above call these functions, and all but `cell_at` of reads take any content of any length.
-pub mod check;
+// The lent tables of a read book: where everything stands (layout), typed reads (reads), and the sizes, with zeros up to
+// the limit (fill). The definitions say what tables mean (specs/Decode.antt) and when they are well formed
+// (specs/WellFormed.antt); the crate tablecheck decides the latter.
+// Operations: none. The crates above call these functions; each takes any content of any length.
+pub mod fill;
 pub mod layout;
 pub mod reads;
