@@ -156,7 +156,7 @@ fn rule_ok(cells: &[u16], k: usize) -> bool
 }
 
 // What is looked at number by number.
-pub enum Part {
+enum Part {
     Nodes,
     Facts,
     Paths,

@@ -5,8 +5,8 @@ use denote.Ref.{now}
 use borrow.Author.Needs.{needs}
 use Rattle.tables.specs.Layout.{cellCount}
 use Rattle.tables.proofs.Blank.{Filled, filled-none, filled-more, filled-all}
-use Rattle.tables.proofs.fill.clear_cells.Statement.{statement}
-use Rattle.tables.proofs.fill.clear_cells.Tie as tie
+use Rattle.tables.proofs.lent.clear_cells.Statement.{statement}
+use Rattle.tables.proofs.lent.clear_cells.Tie as tie
 
 abbrev Inv-loop : tie.InvT-loop
 Inv-loop cells₀ n i₀ cells i = Filled 0 cells₀ n cells i

@@ -5,8 +5,8 @@ use denote.Ref.{now}
 use borrow.Author.Needs.{needs}
 use Rattle.tables.specs.Layout.{nameCount}
 use Rattle.tables.proofs.Blank.{Filled, filled-none, filled-more, filled-all}
-use Rattle.tables.proofs.fill.clear_names.Statement.{statement}
-use Rattle.tables.proofs.fill.clear_names.Tie as tie
+use Rattle.tables.proofs.lent.clear_names.Statement.{statement}
+use Rattle.tables.proofs.lent.clear_names.Tie as tie
 
 abbrev Inv-loop : tie.InvT-loop
 Inv-loop names₀ n i₀ names i = Filled 0 names₀ n names i

@@ -1,4 +1,4 @@
-// The sizes of the lent tables: refusal 8, and zeros up to the limit.
+// Lent tables: whether they are long enough (refusal 8), and zeros up to the limit.
 use crate::layout::CELLS;
 use crate::layout::NAMES;
 use crate::layout::VALUES;
@@ -22,6 +22,7 @@ fn smaller(a: usize, b: usize) -> usize
     if a < b { a } else { b }
 }
 
+// Zeros up to the limit, or as far as the slice goes; what lies past the limit stays.
 pub fn clear_names(names: &mut [u8])
     ensures { λ _. ⌜ now (names .exit) ≡ blank nameCount 0 (now (names .entry)) ⌝ }
 {

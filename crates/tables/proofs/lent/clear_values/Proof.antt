@@ -6,8 +6,8 @@ use denote.Ref.{now}
 use borrow.Author.Needs.{needs}
 use Rattle.tables.specs.Layout.{valueCount}
 use Rattle.tables.proofs.Blank.{Filled, filled-none, filled-more, filled-all}
-use Rattle.tables.proofs.fill.clear_values.Statement.{statement}
-use Rattle.tables.proofs.fill.clear_values.Tie as tie
+use Rattle.tables.proofs.lent.clear_values.Statement.{statement}
+use Rattle.tables.proofs.lent.clear_values.Tie as tie
 
 abbrev Inv-loop : tie.InvT-loop
 Inv-loop values₀ n i₀ values i = Filled (pos 0) values₀ n values i
