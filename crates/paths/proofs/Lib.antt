@@ -1,0 +1,7 @@
+pub mod Images
+pub mod Joins
+pub mod Paths
+pub mod Entries
+pub mod Codes
+pub mod Parts
+pub mod Ends

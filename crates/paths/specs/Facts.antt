@@ -1,0 +1,42 @@
+-- Facts in three lent columns, subjects, predicates and objects, with their number; and what is asked of them and of path entries.
+use Prim.Native.Nat.{ℕ, _≤_}
+use mathlib.Core.List.{List}
+use mathlib.Core.Bool.{Bool, true, _&&_, cond}
+use mathlib.Core.Path.{_≡_}
+use lib.Dec.{eqb, ltb}
+use lib.ListN.{length, getD}
+use Rattle.base.specs.Bounded.{some, every}
+use Rattle.base.specs.Lists.{values}
+use Rattle.model.specs.Graph.{Triple}
+use Rattle.tables.specs.Layout.{pathCount}
+use Rattle.tables.specs.Decode.{pathEntryAt}
+use Rattle.tables.specs.WellFormed.{pathEntryOk}
+
+module _ (ss ps os : List ℕ) where
+  -- fact i
+  unfoldable pub tripleIn : ℕ → Triple
+  tripleIn i = record { subject = getD ss i 0; predicate = getD ps i 0; object = getD os i 0 }
+
+  -- the first count facts
+  unfoldable pub triplesOf : ℕ → List Triple
+  triplesOf count = values tripleIn count
+
+  -- fact i has link p and goes from v to w; read backwards where back
+  unfoldable pub hop : ℕ → Bool → ℕ → ℕ → ℕ → Bool
+  hop p back i v w = eqb (getD ps i 0) p && (eqb (cond back (getD os i 0) (getD ss i 0)) v && eqb (cond back (getD ss i 0) (getD os i 0)) w)
+
+  -- one of the first count facts does
+  unfoldable pub hops : ℕ → Bool → ℕ → ℕ → ℕ → Bool
+  hops p back count v w = some (λ i. hop p back i v w) count
+
+-- count facts between n nodes
+pub record FactsOk (ss ps os : List ℕ) (count n : ℕ) : Type 0 where
+  pub subjects : count ≤ length ss
+  pub predicates : count ≤ length ps
+  pub objects : count ≤ length os
+  pub nodes : n ≤ 1024
+  pub between : every (λ i. ltb (getD ss i 0) n && ltb (getD os i 0) n) count ≡ true
+
+-- each path entry has a known code, and uses entries before it
+unfoldable pub pathsOk : List ℕ → Bool
+pathsOk cs = every (λ e. pathEntryOk cs e (pathEntryAt cs e)) (pathCount cs)

@@ -1,0 +1,39 @@
+-- Where a relation between nodes leads from the members of a set, and sets of nodes side by side in words.
+use Prim.Native.Nat.{ℕ, _+_, _*_, _/_, _%_}
+use mathlib.Core.List.{List}
+use mathlib.Core.Bool.{Bool, true, false, _&&_, _||_, cond}
+use lib.Dec.{eqb}
+use lib.ListN.{length}
+use Rattle.base.specs.Bounded.{some}
+use Rattle.nodeset.specs.Words.{has, wordsOf}
+use Rattle.model.specs.Graph.{Triple}
+use Rattle.model.specs.Paths.{Path, ends}
+
+-- a relation, or its inverse where back
+abbrev pub turned : Bool → (ℕ → ℕ → Bool) → ℕ → ℕ → Bool
+turned true r v w = r w v
+turned false r v w = r v w
+
+-- the image of s: r leads to w from a member of s below n
+unfoldable pub image : ℕ → (ℕ → ℕ → Bool) → (ℕ → Bool) → ℕ → Bool
+image n r s w = some (λ v. s v && r v w) n
+
+-- the set `into`, with all that r leads to from the members of `from`
+unfoldable pub withImage : ℕ → (ℕ → ℕ → Bool) → List ℕ → List ℕ → List ℕ
+withImage n r from into = wordsOf (λ w. has into w || image n r (has from) w) (length into)
+
+-- the same for as many sets side by side as width says: node v of set k is at v * width + k
+unfoldable pub withImages : ℕ → ℕ → (ℕ → ℕ → Bool) → List ℕ → List ℕ → List ℕ
+withImages width n r from into = wordsOf (λ x. has into x || image n r (λ v. has from (v * width + x % width)) (x / width)) (length into)
+
+-- far joins each set of `into` whose namesake in `from` has near
+unfoldable pub joined : ℕ → ℕ → ℕ → List ℕ → List ℕ → List ℕ
+joined width near far from into = wordsOf (λ x. has into x || (has from (near * width + x % width) && eqb far (x / width))) (length into)
+
+-- how many sets: one, or 64 where wide
+abbrev pub abreast : Bool → ℕ
+abreast wide = cond wide 64 1
+
+-- the sets of `into` with the ends of a path, read backwards where back, over n nodes and the triples ts
+unfoldable pub withEnds : ℕ → ℕ → List Triple → Path → Bool → List ℕ → List ℕ → List ℕ
+withEnds width n ts p back from into = withImages width n (turned back (ends n ts p)) from into

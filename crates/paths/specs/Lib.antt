@@ -1,0 +1,3 @@
+pub mod Facts
+pub mod Images
+pub mod Ends
