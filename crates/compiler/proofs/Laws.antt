@@ -1,15 +1,13 @@
 -- What the code stores for one entry is what the table says.
-use Prim.Native.Nat.{ℕ, zero, suc, _+_, _-_, _≤_, _<_}
+use Prim.Native.Nat.{ℕ, _+_, _-_}
 use mathlib.Core.List.{List, [], _∷_}
-use mathlib.Core.Path.{_≡_, refl, sym, ap, ap₂, _∙_, subst}
+use mathlib.Core.Path.{_≡_, refl, sym, ap, _∙_, subst}
 use native.Mathlib.Omega.{arith}
-use lib.Dec.{eqb}
-use lib.ListN.{getD, length}
 use borrow.Author.Tests.{eq-eqb, ne-eqb}
 use Rattle.tables.specs.Layout.{noNumber}
 use Rattle.plan.specs.Steps.{Step, numbersOf}
 use Rattle.plan.specs.Layout.{withNumbers, withSteps}
-use Rattle.compiler.specs.Compile.{Part, two, countPart}
+use Rattle.translation.specs.Compile.{Part, two, countPart}
 use Rattle.compiler.specs.Stores.{TwoAdded, Added}
 
 module _ (ps p1 p2 : List ℕ) (n : ℕ) where

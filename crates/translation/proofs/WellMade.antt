@@ -3,19 +3,15 @@ use Prim.Native.Nat.{ℕ, zero, suc, _+_, _-_, _*_, _≤_, _<_}
 use mathlib.Core.Bool.{Bool, true, false, _&&_, _||_, cond, true≢false}
 use mathlib.Core.List.{List, [], _∷_, _++_}
 use mathlib.Core.Option.{Option}
-use mathlib.Core.Path.{_≡_, refl, sym, ap, ap₂, _∙_, subst}
+use mathlib.Core.Path.{_≡_, refl, sym, ap, _∙_, subst}
 use native.Mathlib.Nat.{le-of-suc-le-suc}
 use native.Mathlib.Omega.{arith}
 use lib.Dec.{eqb, ltb, leb}
 use lib.ListN.{getD, length}
 use borrow.Author.Tests.{ne-eqb, eqb-false, ltb-true, lt-ltb, leb-true, le-leb}
-use Rattle.base.specs.Bounded.{every}
 use Rattle.base.proofs.Bools.{and-left, and-right, and-both, or-cases, never-both}
-use Rattle.base.proofs.Bounded.{every-all}
 use Rattle.model.specs.Graph.{holds}
-use Rattle.model.specs.Limits.{maxCount}
 use Rattle.model.specs.Shapes.{Test}
-use Rattle.model.specs.Rules.{Target, targetNode, subjectsOf, objectsOf, targetClass}
 use Rattle.tables.specs.Layout.{noNumber, nodeCount, linkCount, pathCount, formCount, shapeCount, ruleCount, rootAt, ruleShapeAt, ruleTargetAt, ruleOperandAt}
 use Rattle.tables.specs.Entries.{Entry}
 use Rattle.tables.specs.Decode.{entryAt, targetOf, ruleAt}
@@ -24,9 +20,8 @@ use Rattle.tables.proofs.WellFormed.{Sound}
 use Rattle.plan.specs.Steps.{Step}
 use Rattle.plan.specs.Sets.{testOf, linksOf}
 use Rattle.plan.specs.WellFormed.{testOk, closedOk, stepOk}
-use Rattle.compiler.specs.Compile.{Part, two, countPart, entryPart, more, made, targetStep, ruleSteps, stepsTo, stepsOf}
-use Rattle.compiler.proofs.Right.{Has}
-use Rattle.compiler.proofs.Whole.{has-all, start, own, start-more, right, length-to, forms-first, rule-shape}
+use Rattle.translation.specs.Compile.{two, countPart, entryPart, more, made, targetStep, ruleSteps, stepsTo, stepsOf}
+use Rattle.translation.proofs.Whole.{has-all, start, own, start-more, right, length-to, forms-first, rule-shape}
 
 -- an entry has at most four steps
 pub entry-four : (cs : List ℕ) (keep brk : ℕ → ℕ) (s e : ℕ) (x : Entry) → length (entryPart cs keep brk s e x .steps) ≤ 4

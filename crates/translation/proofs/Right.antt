@@ -1,10 +1,10 @@
 -- One entry is right where the earlier ones are: the set of its keeping step is the nodes that conform to its shape, and that
 -- of its breaking step the nodes that do not.
-use Prim.Native.Nat.{ℕ, zero, suc, _+_, _-_, _≤_, _<_}
+use Prim.Native.Nat.{ℕ, _+_, _-_, _≤_, _<_}
 use mathlib.Core.Bool.{Bool, true, false, not, _&&_, _||_, cond, true≢false, Bool·not-not}
-use mathlib.Core.List.{List, [], _∷_, _++_}
+use mathlib.Core.List.{List, [], _∷_}
 use mathlib.Core.Option.{Option}
-use mathlib.Core.Path.{_≡_, refl, sym, ap, ap₂, _∙_, subst}
+use mathlib.Core.Path.{_≡_, refl, sym, ap, ap₂, _∙_}
 use native.Mathlib.Omega.{arith}
 use lib.Dec.{eqb, ltb, leb}
 use lib.ListN.{length}
@@ -16,7 +16,7 @@ use Rattle.base.specs.Numbered.{below}
 use Rattle.base.proofs.Bools.{and-left, and-right, not-and, not-or}
 use Rattle.base.proofs.Numbered.{at-number, below-number}
 use Rattle.model.specs.Graph.{Graph, holds}
-use Rattle.model.specs.Shapes.{Shape, Test, satisfies, within, unbounded, less, lessEq, sameLang, from, objects, starts, conforms}
+use Rattle.model.specs.Shapes.{Shape, Test, satisfies, within, less, from, objects, starts, conforms}
 use Rattle.tables.specs.Layout.{noNumber, shapeCount, pathCount, rootAt}
 use Rattle.tables.specs.Entries.{Entry}
 use Rattle.tables.specs.Decode.{graphAt, pathAt, endAt, upperOf, itemsAt, shapeOf, entryAt}
@@ -25,7 +25,7 @@ use Rattle.plan.specs.Steps.{Step}
 use Rattle.plan.specs.Conditions.{failsTest, someUnlisted}
 use Rattle.plan.specs.Sets.{testOf, linksOf, inStep, setBy}
 use Rattle.plan.proofs.Complements.{not-satisfies, not-less, not-lessEq, not-clash, not-equal, not-apart, not-pairs, not-closed, not-all, broken-none, broken-high, broken-low, broken-both}
-use Rattle.compiler.specs.Compile.{Part, two, countPart, entryPart}
+use Rattle.translation.specs.Compile.{Part, two, countPart, entryPart}
 
 -- two sets with the same members
 pub ext : {p q : ℕ → Bool} → ((v : ℕ) → p v ≡ q v) → p ≡ q
