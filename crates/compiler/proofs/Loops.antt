@@ -1,0 +1,131 @@
+-- One more zero, one more entry, one more rule.
+use Prim.Native.Nat.{ℕ, zero, suc, _+_, _*_, _≤_, _<_}
+use mathlib.Core.Bool.{Bool, true, false, cond}
+use mathlib.Core.List.{List, [], _∷_, _++_}
+use mathlib.Core.Path.{_≡_, refl, sym, ap, ap₂, _∙_}
+use native.Mathlib.Nat.{zero-add}
+use native.Mathlib.Numerals.{add-one}
+use native.Mathlib.Omega.{arith}
+use lib.Dec.{eqb}
+use lib.ListN.{getD, length, set, replicate, drop, length-append, length-replicate, replicate-append-replicate, List·getD-eq-default}
+use lib.Seq.{getD-set-same, getD-set-other, drop-cons, set-at, append-snoc}
+use borrow.Author.Tests.{eqb-true, eqb-false}
+use Rattle.base.specs.Lists.{values}
+use Rattle.base.proofs.Lists.{length-valuesFrom, valuesFrom-snoc}
+use Rattle.model.specs.Rules.{Target, targetNode, subjectsOf, objectsOf, targetClass}
+use Rattle.tables.specs.Layout.{formCount, ruleCount, rootAt, ruleShapeAt, ruleTargetAt, ruleOperandAt}
+use Rattle.tables.specs.Decode.{entryAt, targetOf, ruleAt}
+use Rattle.plan.specs.Steps.{Step, numbersOf}
+use Rattle.plan.specs.Layout.{planCount, laid, withNumbers, withSteps}
+use Rattle.plan.proofs.Stores.{store-rule, store-steps, laid-none}
+use Rattle.compiler.specs.Compile.{Part, entryPart, putAt, more, made, targetStep, ruleSteps, stepsTo, ruleStep}
+use Rattle.compiler.specs.Stores.{numberIn, Added, FormsAdded, ruleStored, blankPlan}
+use Rattle.compiler.proofs.Whole.{length-to}
+
+-- ---- zeros
+pub blank-more : (ps : List ℕ) (i : ℕ) → i < length ps → set (replicate i 0 ++ drop i ps) i 0 ≡ replicate (i + 1) 0 ++ drop (i + 1) ps
+blank-more ps i l =
+    ap (λ (x : List ℕ). set (replicate i 0 ++ x) i 0) (drop-cons ps i 0 l)
+    ∙ set-at (replicate i 0) (getD ps i 0) (drop (suc i) ps) 0 i (length-replicate i 0)
+    ∙ sym (append-snoc (replicate i 0) 0 (drop (suc i) ps))
+    ∙ ap₂ (λ (x y : List ℕ). x ++ y) (replicate-append-replicate i 1 0) (ap (λ (m : ℕ). drop m ps) (sym (add-one i)))
+
+pub zeros : (n j : ℕ) → _≡_ {A = ℕ} (getD (replicate n 0) j 0) 0
+zeros zero j = refl
+zeros (suc n) zero = refl
+zeros (suc n) (suc j) = zeros n j
+
+pub blank-laid : (ps : List ℕ) → blankPlan ps ≡ laid (drop planCount ps) [] [] []
+unfolding blankPlan
+blank-laid ps = sym (laid-none (drop planCount ps))
+
+-- ---- a store in an array of step numbers
+put-set : (xs : List ℕ) (e x : ℕ) (f : ℕ → ℕ) → e < length xs → ((j : ℕ) → getD xs j 0 ≡ f j) → (j : ℕ) → getD (set xs e x) j 0 ≡ putAt f e x j
+unfolding putAt
+put-set xs e x f l h j = pick (eqb j e) refl
+  where
+    pick : (b : Bool) → eqb j e ≡ b → getD (set xs e x) j 0 ≡ cond b x (f j)
+    pick true q = ap (λ (i : ℕ). getD (set xs e x) i 0) (eqb-true j e q) ∙ getD-set-same xs e x 0 l
+    pick false q = getD-set-other xs e j x 0 (eqb-false j e q) ∙ h j
+
+-- ---- entries: qs has those below e, and rs what compiling entry e made of it
+module _ (cs ps qs rs ks bs : List ℕ) (e n next k m : ℕ) (f : FormsAdded cs ps qs e n bs) (g : (j : ℕ) → getD ks j 0 ≡ made cs e .keep j) (r : Added qs rs n (entryPart cs (numberIn ks) (numberIn bs) n e (entryAt cs [] e)) next k m) where
+  abbrev own : Part
+  own = entryPart cs (made cs e .keep) (made cs e .brk) (length (made cs e .steps)) e (entryAt cs [] e)
+
+  same-part : entryPart cs (numberIn ks) (numberIn bs) n e (entryAt cs [] e) ≡ own
+  unfolding numberIn
+  same-part = λ i. entryPart cs (λ j. g j i) (λ j. f .breaks j i) (f .after i) e (entryAt cs [] e)
+
+  next-made : made cs (e + 1) ≡ more (made cs e) e own
+  unfolding made
+  next-made = ap (made cs) (add-one e)
+
+  steps-append : (ss ts : List Step) (k : ℕ) (ps : List ℕ) → withSteps ps k (ss ++ ts) ≡ withSteps (withSteps ps k ss) (k + length ss) ts
+  unfolding withSteps
+  steps-append [] ts k ps = ap (λ (m : ℕ). withSteps ps m ts) (let z : k ≡ k + 0 = omega arith in z)
+  steps-append (s ∷ ss) ts k ps = steps-append ss ts (k + 1) (withNumbers ps k (numbersOf s)) ∙ ap (λ (m : ℕ). withSteps (withSteps (withNumbers ps k (numbersOf s)) (k + 1) ss) m ts) (let z : k + 1 + length ss ≡ k + suc (length ss) = omega arith in z)
+
+  pub forms-more : e < length bs → FormsAdded cs ps rs (e + 1) next (set bs e m)
+  unfolding more
+  forms-more l = record {
+    stored = r .stored ∙ (λ i. withSteps (f .stored i) (f .after i) (same-part i .steps)) ∙ ap (λ (i : ℕ). withSteps (withSteps ps 0 (made cs e .steps)) i (own .steps)) (sym (zero-add (length (made cs e .steps)))) ∙ sym (steps-append (made cs e .steps) (own .steps) 0 ps) ∙ (λ i. withSteps ps 0 (sym next-made i .steps));
+    after = r .after ∙ (λ i. f .after i + length (same-part i .steps)) ∙ sym (length-append (made cs e .steps) (own .steps)) ∙ (λ i. length (sym next-made i .steps));
+    breaks = λ j. put-set bs e m (made cs e .brk) l (f .breaks) j ∙ ap (λ (x : ℕ). putAt (made cs e .brk) e x j) (r .breaks ∙ ap (λ (x : Part). x .brk) same-part) ∙ (λ i. sym next-made i .brk j);
+  }
+
+  pub keeps-more : e < length ks → (j : ℕ) → getD (set ks e k) j 0 ≡ made cs (e + 1) .keep j
+  unfolding more
+  keeps-more l j = put-set ks e k (made cs e .keep) l g j ∙ ap (λ (x : ℕ). putAt (made cs e .keep) e x j) (r .keeps ∙ ap (λ (x : Part). x .keep) same-part) ∙ (λ i. sym next-made i .keep j)
+
+pub forms-none : (cs ps bs : List ℕ) → ((j : ℕ) → getD bs j 0 ≡ 0) → FormsAdded cs ps ps 0 0 bs
+unfolding made withSteps
+forms-none cs ps bs h = record { stored = refl; after = refl; breaks = h }
+
+pub keeps-none : (cs : List ℕ) (j : ℕ) → getD (replicate 112 0) j 0 ≡ made cs 0 .keep j
+unfolding made
+keeps-none cs j = zeros 112 j
+
+-- ---- targets by their codes
+module _ (cs ps qs : List ℕ) (r n code a : ℕ) (ec : code ≡ ruleTargetAt cs r) (ea : a ≡ ruleOperandAt cs r) where
+  abbrev Stored : Type 0
+  Stored = qs ≡ withNumbers ps n (numbersOf (targetStep (ruleAt cs r .target)))
+
+  target-is : (i : ℕ) (xs : List ℕ) → code ≡ i → xs ≡ numbersOf (targetStep (targetOf i a)) → qs ≡ withNumbers ps n xs → Stored
+  unfolding ruleAt
+  target-is i xs z x q = q ∙ ap (withNumbers ps n) (x ∙ (λ t. numbersOf (targetStep (targetOf ((sym z ∙ ec) t) (ea t)))))
+
+  pub target-node : code ≡ 0 → qs ≡ withNumbers ps n (2 ∷ a ∷ 0 ∷ 0 ∷ 0 ∷ []) → Stored
+  unfolding numbersOf targetStep targetOf
+  target-node z q = target-is 0 (2 ∷ a ∷ 0 ∷ 0 ∷ 0 ∷ []) z refl q
+
+  pub target-subjects : code ≡ 1 → qs ≡ withNumbers ps n (22 ∷ a ∷ 0 ∷ 0 ∷ 0 ∷ []) → Stored
+  unfolding numbersOf targetStep targetOf
+  target-subjects z q = target-is 1 (22 ∷ a ∷ 0 ∷ 0 ∷ 0 ∷ []) z refl q
+
+  pub target-objects : code ≡ 2 → qs ≡ withNumbers ps n (23 ∷ a ∷ 0 ∷ 0 ∷ 0 ∷ []) → Stored
+  unfolding numbersOf targetStep targetOf
+  target-objects z q = target-is 2 (23 ∷ a ∷ 0 ∷ 0 ∷ 0 ∷ []) z refl q
+
+  pub target-class : 3 ≤ code → qs ≡ withNumbers ps n (24 ∷ a ∷ 0 ∷ 0 ∷ 0 ∷ []) → Stored
+  unfolding numbersOf targetStep targetOf
+  target-class l q = target-is code (24 ∷ a ∷ 0 ∷ 0 ∷ 0 ∷ []) refl (rw List·getD-eq-default) q
+
+-- ---- rules
+pub rule-law : (cs ps p1 p2 : List ℕ) (r n x b b′ y : ℕ) → p1 ≡ withNumbers ps n (numbersOf (targetStep (ruleAt cs r .target))) → p2 ≡ withNumbers p1 (n + 1) (6 ∷ x ∷ b ∷ 0 ∷ 0 ∷ []) → x ≡ n → b ≡ b′ → y ≡ n + 1 → set p2 (1 + r) y ≡ ruleStored cs ps r n b′
+unfolding ruleStored withSteps numbersOf
+rule-law cs ps p1 p2 r n x b b′ y f g ex eb ey = λ i. set ((g ∙ (λ t. withNumbers (f t) (n + 1) (6 ∷ ex t ∷ eb t ∷ 0 ∷ 0 ∷ []))) i) (1 + r) (ey i)
+
+pub rule-next : (cs : List ℕ) (r n : ℕ) → n ≡ length (stepsTo cs r) → n + 2 ≡ length (stepsTo cs (r + 1))
+rule-next cs r n e = ap (λ (k : ℕ). k + 2) e ∙ sym (length-to cs r) ∙ ap (λ (k : ℕ). length (stepsTo cs k)) (sym (add-one r))
+
+-- the rules below r are there, and the plan has one more
+pub rule-more : (cs t qs rs : List ℕ) (r n b : ℕ) → r < 32 → n + 2 ≤ 512 → n ≡ length (stepsTo cs r) → b ≡ made cs (formCount cs) .brk (rootAt cs (ruleShapeAt cs r)) → rs ≡ ruleStored cs qs r n b → qs ≡ laid t [] (values (ruleStep cs) r) (stepsTo cs r) → rs ≡ laid t [] (values (ruleStep cs) (r + 1)) (stepsTo cs (r + 1))
+unfolding ruleStored stepsTo ruleSteps ruleStep
+rule-more cs t qs rs r n b lr ln en eb f g =
+    let new : List Step = ruleSteps cs r (length (stepsTo cs r)) in
+    f ∙ (λ i. set (withSteps (g i) (en i) (targetStep (ruleAt cs r .target) ∷ Step.both (en i) (eb i) ∷ [])) (1 + r) (en i + 1))
+    ∙ ap (λ (p : List ℕ). set p (1 + r) (ruleStep cs r)) (store-steps t [] (values (ruleStep cs) r) (stepsTo cs r) (length (stepsTo cs r)) new refl (omega arith))
+    ∙ store-rule t (values (ruleStep cs) r) (stepsTo cs r ++ new) r (ruleStep cs r) (sym (length-valuesFrom (ruleStep cs) 0 r)) lr
+    ∙ ap (λ (l : List ℕ). laid t [] l (stepsTo cs (suc r))) (ap (λ (k : ℕ). values (ruleStep cs) r ++ (ruleStep cs k ∷ [])) (sym (zero-add r)) ∙ sym (valuesFrom-snoc (ruleStep cs) 0 r))
+    ∙ ap (λ (k : ℕ). laid t [] (values (ruleStep cs) k) (stepsTo cs k)) (sym (add-one r))

@@ -1,0 +1,149 @@
+-- Every entry of a plan is right, and every rule's step.
+use Prim.Native.Nat.{ℕ, zero, suc, _+_, _-_, _*_, _≤_, _<_}
+use mathlib.Core.Bool.{Bool, true, false, not, _&&_, cond}
+use mathlib.Core.List.{List, [], _∷_, _++_}
+use mathlib.Core.Path.{_≡_, refl, sym, ap, ap₂, _∙_, subst}
+use mathlib.Core.Logic.{⊎-elim}
+use native.Mathlib.Nat.{eq-or-lt-of-le, le-of-suc-le-suc, le-of-eq}
+use native.Mathlib.Omega.{arith}
+use lib.Dec.{eqb}
+use lib.ListN.{getD, length, length-append}
+use lib.IntN.{ℤ}
+use borrow.Author.Tests.{eq-eqb, ne-eqb}
+use Rattle.base.specs.Numbered.{below}
+use Rattle.base.proofs.Numbered.{at-number, below-number}
+use Rattle.model.specs.Shapes.{Shape, conforms, def}
+use Rattle.model.specs.Rules.{Target, targetNode, subjectsOf, objectsOf, targetClass, selects, violates}
+use Rattle.tables.specs.Layout.{formCount, shapeCount, ruleCount, rootAt, ruleShapeAt}
+use Rattle.tables.specs.Decode.{graphAt, shapeOf, shapeAt, schemaAt, entryAt, ruleAt}
+use Rattle.tables.specs.WellFormed.{entryOk, wellFormed}
+use Rattle.plan.specs.Steps.{Step}
+use Rattle.plan.specs.Sets.{inStep, setBy}
+use Rattle.plan.proofs.Decoding.{value-free, entries-ok, root-low, rule-shape, schema-at}
+use Rattle.compiler.specs.Compile.{Part, entryPart, Made, putAt, more, made, targetStep, ruleSteps, stepsTo, stepsOf, ruleStep}
+use Rattle.compiler.proofs.Right.{Has, Sets, entry-right, set-at, set-both, ext}
+
+-- the steps of two lists, one after the other
+module _ (at : ℕ → Step) where
+  pub has-left : (s : ℕ) (xs ys : List Step) → Has at s (xs ++ ys) → Has at s xs
+  has-left s [] ys h = tt
+  has-left s (x ∷ xs) ys h = (h .0, has-left (s + 1) xs ys (h .1))
+
+  has-right : (s : ℕ) (xs ys : List Step) → Has at s (xs ++ ys) → Has at (s + length xs) ys
+  has-right s [] ys h = subst (λ (n : ℕ). Has at n ys) (let z : s ≡ s + 0 = omega arith in z) h
+  has-right s (x ∷ xs) ys h = subst (λ (n : ℕ). Has at n ys) (let z : s + 1 + length xs ≡ s + suc (length xs) = omega arith in z) (has-right (s + 1) xs ys (h .1))
+
+  pub has-rest : (xs ys : List Step) → Has at 0 (xs ++ ys) → Has at (length xs) ys
+  has-rest xs ys h = subst (λ (n : ℕ). Has at n ys) (let z : 0 + length xs ≡ length xs = omega arith in z) (has-right 0 xs ys h)
+
+  -- a list has its own steps
+  pub has-all : (s : ℕ) (ss : List Step) → ((i : ℕ) → i < length ss → at (s + i) ≡ getD ss i Step.all) → Has at s ss
+  has-all s [] h = tt
+  has-all s (x ∷ xs) h = (ap at (let z : s ≡ s + 0 = omega arith in z) ∙ h 0 (omega arith), has-all (s + 1) xs (λ i l. ap at (let z : s + 1 + i ≡ s + suc i = omega arith in z) ∙ h (suc i) (omega arith)))
+
+put-same : (f : ℕ → ℕ) (n x j : ℕ) → j ≡ n → putAt f n x j ≡ x
+unfolding putAt
+put-same f n x j e = ap (λ (b : Bool). cond b x (f j)) (eq-eqb j n e)
+
+put-other : (f : ℕ → ℕ) (n x j : ℕ) → (j ≡ n → ⊥) → putAt f n x j ≡ f j
+unfolding putAt
+put-other f n x j e = ap (λ (b : Bool). cond b x (f j)) (ne-eqb j n e)
+
+moved : (cs : List ℕ) (vs : List ℤ) (at : ℕ → Step) (s t i i′ k k′ : ℕ) (p q : ℕ → Bool) → Sets cs vs at s i k p → s ≤ t → i′ ≡ i → k′ ≡ k → p ≡ q → Sets cs vs at t i′ k′ q
+moved cs vs at s t i i′ k k′ p q r l ei ek e = record { keepLow = let a : i < s = r .keepLow in omega arith; breakLow = let a : k < s = r .breakLow in omega arith; keeps = ap (setBy cs vs at) ei ∙ r .keeps ∙ e; breaks = ap (setBy cs vs at) ek ∙ r .breaks ∙ ap (λ (f : ℕ → Bool). λ v. not (f v)) e }
+
+module _ (cs : List ℕ) where
+  -- how many steps there are before entry n, and what entry n adds
+  abbrev pub start : ℕ → ℕ
+  start n = length (made cs n .steps)
+
+  abbrev pub own : ℕ → Part
+  own n = entryPart cs (made cs n .keep) (made cs n .brk) (start n) n (entryAt cs [] n)
+
+  pub start-more : (n : ℕ) → start (suc n) ≡ start n + length (own n .steps)
+  unfolding made more
+  start-more n = length-append (made cs n .steps) (own n .steps)
+
+  module _ (vs : List ℤ) (at : ℕ → Step) where
+    -- the shapes of the entries below n
+    abbrev shapes : ℕ → ℕ → Shape
+    shapes n = below Shape.top (λ e at. shapeOf cs (entryAt cs vs e) at) n
+
+    abbrev pub RightAt : ℕ → ℕ → Type 0
+    RightAt n e = Sets cs vs at (start n) (made cs n .keep e) (made cs n .brk e) (conforms (graphAt cs vs) (shapeAt cs vs e))
+
+    -- V makes no difference to the steps
+    own-free : (n : ℕ) → entryPart cs (made cs n .keep) (made cs n .brk) (start n) n (entryAt cs vs n) ≡ own n
+    unfolding entryPart
+    own-free n = value-free (entryPart cs (made cs n .keep) (made cs n .brk) (start n) n) (λ x y. (refl, refl, refl, refl)) cs vs [] n
+
+    -- one more entry
+    right-more : (n : ℕ) → entryOk cs n (entryAt cs vs n) ≡ true → Has at 0 (made cs (suc n) .steps) → ((j : ℕ) → j < n → RightAt n j) → (e : ℕ) → e < suc n → RightAt (suc n) e
+    unfolding made more shapeAt
+    right-more n ok st ih e l = ⊎-elim here earlier (eq-or-lt-of-le (le-of-suc-le-suc l))
+      where
+        new : Sets cs vs at (start n + length (own n .steps)) (own n .keep) (own n .brk) (conforms (graphAt cs vs) (shapeOf cs (entryAt cs vs n) (shapes n)))
+        new =
+            subst (λ (x : Part). Has at (start n) (x .steps) → Sets cs vs at (start n + length (x .steps)) (x .keep) (x .brk) (conforms (graphAt cs vs) (shapeOf cs (entryAt cs vs n) (shapes n)))) (own-free n)
+            (entry-right cs vs at (made cs n .keep) (made cs n .brk) (start n) n (shapes n) (λ j lj. subst (λ (φ : Shape). Sets cs vs at (start n) (made cs n .keep j) (made cs n .brk j) (conforms (graphAt cs vs) φ)) (sym (below-number Shape.top (λ e at. shapeOf cs (entryAt cs vs e) at) n j lj)) (ih j lj)) (entryAt cs vs n) refl ok)
+            (has-rest at (made cs n .steps) (own n .steps) st)
+
+        here : e ≡ n → RightAt (suc n) e
+        here q = moved cs vs at (start n + length (own n .steps)) (start (suc n)) _ _ _ _ _ _ new (le-of-eq (sym (start-more n))) (put-same (made cs n .keep) n _ e q) (put-same (made cs n .brk) n _ e q) (ap (conforms (graphAt cs vs)) (sym (at-number Shape.top (λ e at. shapeOf cs (entryAt cs vs e) at) n) ∙ ap (shapeAt cs vs) (sym q)))
+
+        earlier : e < n → RightAt (suc n) e
+        earlier l′ = moved cs vs at (start n) (start (suc n)) _ _ _ _ _ _ (ih e l′) (let z : start (suc n) ≡ start n + length (own n .steps) = start-more n in omega arith) (put-other (made cs n .keep) n _ e (λ q. let z : ⊥ = omega arith in z)) (put-other (made cs n .brk) n _ e (λ q. let z : ⊥ = omega arith in z)) refl
+
+    -- every entry below n is right in a plan that has its steps
+    pub right : (n : ℕ) → ((e : ℕ) → e < n → entryOk cs e (entryAt cs vs e) ≡ true) → Has at 0 (made cs n .steps) → (e : ℕ) → e < n → RightAt n e
+    unfolding made more
+    right zero ok st e l = absurd (omega arith)
+    right (suc n) ok st e l = right-more n (ok n (omega arith)) st (right n (λ e l. ok e (omega arith)) (has-left at 0 (made cs n .steps) (own n .steps) st)) e l
+
+  -- the steps of the rules come after
+  pub length-to : (r : ℕ) → length (stepsTo cs (suc r)) ≡ length (stepsTo cs r) + 2
+  unfolding stepsTo ruleSteps
+  length-to r = length-append (stepsTo cs r) (ruleSteps cs r (length (stepsTo cs r)))
+
+  pub forms-first : (r : ℕ) → start (formCount cs) ≤ length (stepsTo cs r)
+  unfolding stepsTo
+  forms-first zero = omega arith
+  forms-first (suc r) = omega (arith, forms-first r, length-to r)
+
+  -- a rule's step is among the steps
+  to-more : (n r : ℕ) → r ≤ n → length (stepsTo cs r) ≤ length (stepsTo cs n)
+  to-more zero r l = le-of-eq (ap (λ (k : ℕ). length (stepsTo cs k)) (let z : r ≡ 0 = omega arith in z))
+  to-more (suc n) r l = ⊎-elim (λ e. le-of-eq (ap (λ (k : ℕ). length (stepsTo cs k)) e)) (λ l′. omega (arith, to-more n r (le-of-suc-le-suc l′), length-to n)) (eq-or-lt-of-le l)
+
+  pub rule-low : (r : ℕ) → r < ruleCount cs → ruleStep cs r < length (stepsOf cs)
+  unfolding ruleStep stepsOf
+  rule-low r l = omega (arith, to-more (ruleCount cs) (suc r) l, length-to r)
+
+  has-to : (at : ℕ → Step) (n r : ℕ) → r ≤ n → Has at 0 (stepsTo cs n) → Has at 0 (stepsTo cs r)
+  unfolding stepsTo
+  has-to at zero r l h = subst (λ (k : ℕ). Has at 0 (stepsTo cs k)) (let z : 0 ≡ r = omega arith in z) h
+  has-to at (suc n) r l h = ⊎-elim (λ e. subst (λ (k : ℕ). Has at 0 (stepsTo cs k)) (sym e) h) (λ l′. has-to at n r (le-of-suc-le-suc l′) (has-left at 0 (stepsTo cs n) (ruleSteps cs n (length (stepsTo cs n))) h)) (eq-or-lt-of-le l)
+
+  target-set : (vs : List ℤ) (at : ℕ → Step) (k : ℕ) (t : Target) → at k ≡ targetStep t → setBy cs vs at k ≡ selects (graphAt cs vs) t
+  unfolding targetStep inStep selects
+  target-set vs at k (targetNode c) e = set-at cs vs at k (Step.is c) e
+  target-set vs at k (subjectsOf l) e = set-at cs vs at k (Step.from l) e
+  target-set vs at k (objectsOf l) e = set-at cs vs at k (Step.into l) e
+  target-set vs at k (targetClass c) e = set-at cs vs at k (Step.typed c) e
+
+  -- in a plan that has the steps of the tables: each entry's two sets, and each rule's set
+  module _ (ok : wellFormed cs ≡ true) (vs : List ℤ) (at : ℕ → Step) (st : Has at 0 (stepsOf cs)) where
+    pub entry-sets : (e : ℕ) → e < formCount cs → RightAt vs at (formCount cs) e
+    unfolding stepsOf stepsTo
+    entry-sets e l = right vs at (formCount cs) (entries-ok cs ok vs) (has-to at (ruleCount cs) 0 (omega arith) st) e l
+
+    pub rule-set : (r : ℕ) → r < ruleCount cs → setBy cs vs at (ruleStep cs r) ≡ violates (graphAt cs vs) (schemaAt cs vs) (ruleAt cs r)
+    unfolding stepsOf stepsTo ruleSteps ruleStep violates ruleAt
+    rule-set r l =
+        let h : Has at 0 (stepsTo cs (suc r)) = has-to at (ruleCount cs) (suc r) l st in
+        let n : ℕ = length (stepsTo cs r) in
+        let two : Has at (length (stepsTo cs r)) (ruleSteps cs r (length (stepsTo cs r))) = has-rest at (stepsTo cs r) (ruleSteps cs r (length (stepsTo cs r))) h in
+        let root : ℕ = rootAt cs (ruleShapeAt cs r) in
+        let q = entry-sets root (root-low cs ok (ruleShapeAt cs r) (rule-shape cs ok r l)) in
+        set-both cs vs at (n + 1) n (selects (graphAt cs vs) (ruleAt cs r .target)) (omega arith) (target-set vs at n (ruleAt cs r .target) (two .0)) (made cs (formCount cs) .brk root) (λ v. not (conforms (graphAt cs vs) (shapeAt cs vs root) v)) (omega (arith, q .breakLow, forms-first r)) (q .breaks) (two .1 .0)
+        ∙ ap (λ (φ : Shape). λ v. selects (graphAt cs vs) (ruleAt cs r .target) v && not (conforms (graphAt cs vs) φ v)) (sym (schema-at cs vs (ruleShapeAt cs r) (rule-shape cs ok r l)))

@@ -1,0 +1,328 @@
+// Tables to a plan.
+use plan::PLAN_CELLS;
+use plan::RULE_STEPS;
+use plan::put_step;
+use tables::layout::NO_NUMBER;
+use tables::reads::form_code;
+use tables::reads::form_count;
+use tables::reads::form_first;
+use tables::reads::form_fourth;
+use tables::reads::form_link;
+use tables::reads::form_node;
+use tables::reads::form_second;
+use tables::reads::form_third;
+use tables::reads::root;
+use tables::reads::rule_count;
+use tables::reads::rule_link;
+use tables::reads::rule_node;
+use tables::reads::rule_shape;
+use tables::reads::rule_target;
+use tables::reads::wide;
+ghost use mathlib.Core.Path.{_≡_};
+ghost use mathlib.Core.List.{List, [], _∷_};
+ghost use Prim.Native.Nat.{ℕ, _+_, _<_, _≤_};
+ghost use lib.ListN.{length, getD, replicate};
+ghost use Rattle.base.specs.Lists.{values};
+ghost use Rattle.tables.specs.Layout.{formCount, ruleCount, formFirstAt, formSecondAt, formThirdAt, formFourthAt, rootAt, ruleShapeAt};
+ghost use Rattle.tables.specs.Decode.{entryAt, ruleAt};
+ghost use Rattle.plan.specs.Steps.{numbersOf};
+ghost use Rattle.plan.specs.Layout.{planCount, withNumbers, laid};
+ghost use Rattle.compiler.specs.Compile.{taken, countPart, entryPart, made, targetStep, stepsTo, ruleStep};
+ghost use Rattle.compiler.specs.Stores.{numberIn, TwoAdded, Added, FormsAdded, ruleStored, blankPlan, Fits};
+
+// What an entry adds: the number of the next step, and the entry's own two.
+pub struct Out {
+    pub next: usize,
+    pub keep: u16,
+    pub brk: u16,
+}
+
+fn narrow(x: usize) -> u16
+    requires { ⌜ x < 65536 ⌝ }
+    ensures { λ r. ⌜ r ≡ x ⌝ }
+{
+    x as u16
+}
+
+// The number at j, 0 past the end.
+fn number_at(list: &[u16], j: usize) -> u16
+    ensures { λ r. ⌜ r ≡ getD (now (list .entry)) j 0 ⌝ }
+{
+    if j < list.len() { list[j] } else { 0 }
+}
+
+// A keeping step and a breaking one, neither of them a count.
+fn two(plan: &mut [u16], n: usize, c: u16, a: u16, b: u16, d: u16, x: u16, y: u16) -> Out
+    requires { ⌜ (planCount ≤ length (now plan)) × (n + 2 ≤ 512) ⌝ }
+    ensures { λ r. ⌜ TwoAdded (now (plan .entry)) (now (plan .exit)) n (c ∷ a ∷ b ∷ 0 ∷ 0 ∷ []) (d ∷ x ∷ y ∷ 0 ∷ 0 ∷ []) (r .next) (r .keep) (r .brk) ⌝ }
+{
+    put_step(plan, n, c, a, b, 0, 0);
+    put_step(plan, n + 1, d, x, y, 0, 0);
+    Out {
+        next: n + 2,
+        keep: narrow(n),
+        brk: narrow(n + 1),
+    }
+}
+
+// `is`.
+fn is_steps(plan: &mut [u16], cells: &[u16], e: usize, n: usize) -> Out
+    requires { ⌜ (planCount ≤ length (now plan)) × (n + 2 ≤ 512) ⌝ }
+    ensures { λ r. ⌜ TwoAdded (now (plan .entry)) (now (plan .exit)) n (2 ∷ formFirstAt (now (cells .entry)) e ∷ 0 ∷ 0 ∷ 0 ∷ []) (3 ∷ formFirstAt (now (cells .entry)) e ∷ 0 ∷ 0 ∷ 0 ∷ []) (r .next) (r .keep) (r .brk) ⌝ }
+{
+    let c = form_node(cells, e);
+    two(plan, n, 2, c.0, 0, 3, c.0, 0)
+}
+
+// The tests and `closed`: the steps name the entry.
+fn own_steps(plan: &mut [u16], e: usize, n: usize, c: u16, d: u16) -> Out
+    requires { ⌜ (planCount ≤ length (now plan)) × (n + 2 ≤ 512) × (e < 112) ⌝ }
+    ensures { λ r. ⌜ TwoAdded (now (plan .entry)) (now (plan .exit)) n (c ∷ e ∷ 0 ∷ 0 ∷ 0 ∷ []) (d ∷ e ∷ 0 ∷ 0 ∷ 0 ∷ []) (r .next) (r .keep) (r .brk) ⌝ }
+{
+    let me = narrow(e);
+    two(plan, n, c, me, 0, d, me, 0)
+}
+
+// `onelang`.
+fn path_steps(plan: &mut [u16], cells: &[u16], e: usize, n: usize) -> Out
+    requires { ⌜ (planCount ≤ length (now plan)) × (n + 2 ≤ 512) ⌝ }
+    ensures { λ r. ⌜ TwoAdded (now (plan .entry)) (now (plan .exit)) n (20 ∷ formFirstAt (now (cells .entry)) e ∷ 0 ∷ 0 ∷ 0 ∷ []) (21 ∷ formFirstAt (now (cells .entry)) e ∷ 0 ∷ 0 ∷ 0 ∷ []) (r .next) (r .keep) (r .brk) ⌝ }
+{
+    let p = form_first(cells, e);
+    two(plan, n, 20, p, 0, 21, p, 0)
+}
+
+// A path or `id`, and a link: `equal`, `apart`, `less`, `lesseq`.
+fn link_steps(plan: &mut [u16], cells: &[u16], e: usize, n: usize, c: u16, d: u16) -> Out
+    requires { ⌜ (planCount ≤ length (now plan)) × (n + 2 ≤ 512) ⌝ }
+    ensures { λ r. ⌜ TwoAdded (now (plan .entry)) (now (plan .exit)) n (c ∷ formFirstAt (now (cells .entry)) e ∷ formSecondAt (now (cells .entry)) e ∷ 0 ∷ 0 ∷ []) (d ∷ formFirstAt (now (cells .entry)) e ∷ formSecondAt (now (cells .entry)) e ∷ 0 ∷ 0 ∷ []) (r .next) (r .keep) (r .brk) ⌝ }
+{
+    let p = form_first(cells, e);
+    let l = form_link(cells, e);
+    two(plan, n, c, p, l.0, d, p, l.0)
+}
+
+// `and`, `or`: one step of the keeps, one of the breaks.
+fn joined(
+    plan: &mut [u16],
+    cells: &[u16],
+    keeps: &[u16],
+    breaks: &[u16],
+    e: usize,
+    n: usize,
+    c: u16,
+    d: u16,
+) -> Out
+    requires { ⌜ (planCount ≤ length (now plan)) × (n + 2 ≤ 512) ⌝ }
+    ensures { λ r. ⌜ TwoAdded (now (plan .entry)) (now (plan .exit)) n (c ∷ getD (now (keeps .entry)) (formFirstAt (now (cells .entry)) e) 0 ∷ getD (now (keeps .entry)) (formSecondAt (now (cells .entry)) e) 0 ∷ 0 ∷ 0 ∷ []) (d ∷ getD (now (breaks .entry)) (formFirstAt (now (cells .entry)) e) 0 ∷ getD (now (breaks .entry)) (formSecondAt (now (cells .entry)) e) 0 ∷ 0 ∷ 0 ∷ []) (r .next) (r .keep) (r .brk) ⌝ }
+{
+    let a = wide(form_first(cells, e));
+    let b = wide(form_second(cells, e));
+    let x = number_at(keeps, a);
+    let y = number_at(keeps, b);
+    let z = number_at(breaks, a);
+    let w = number_at(breaks, b);
+    two(plan, n, c, x, y, d, z, w)
+}
+
+// `all`: Every of the keep, Count 1 * of the break.
+fn all_steps(plan: &mut [u16], n: usize, p: u16, j: u16, k: u16) -> Out
+    requires { ⌜ (planCount ≤ length (now plan)) × (n + 2 ≤ 512) ⌝ }
+    ensures { λ r. ⌜ TwoAdded (now (plan .entry)) (now (plan .exit)) n (9 ∷ p ∷ j ∷ 0 ∷ 0 ∷ []) (8 ∷ p ∷ k ∷ 1 ∷ 65535 ∷ []) (r .next) (r .keep) (r .brk) ⌝ }
+{
+    put_step(plan, n, 9, p, j, 0, 0);
+    put_step(plan, n + 1, 8, p, k, 1, NO_NUMBER);
+    Out {
+        next: n + 2,
+        keep: narrow(n),
+        brk: narrow(n + 1),
+    }
+}
+
+fn all_entry(
+    plan: &mut [u16],
+    cells: &[u16],
+    keeps: &[u16],
+    breaks: &[u16],
+    e: usize,
+    n: usize,
+) -> Out
+    requires { ⌜ (planCount ≤ length (now plan)) × (n + 2 ≤ 512) ⌝ }
+    ensures { λ r. ⌜ TwoAdded (now (plan .entry)) (now (plan .exit)) n (9 ∷ formFirstAt (now (cells .entry)) e ∷ getD (now (keeps .entry)) (formSecondAt (now (cells .entry)) e) 0 ∷ 0 ∷ 0 ∷ []) (8 ∷ formFirstAt (now (cells .entry)) e ∷ getD (now (breaks .entry)) (formSecondAt (now (cells .entry)) e) 0 ∷ 1 ∷ 65535 ∷ []) (r .next) (r .keep) (r .brk) ⌝ }
+{
+    let a = wide(form_second(cells, e));
+    let j = number_at(keeps, a);
+    let k = number_at(breaks, a);
+    all_steps(plan, n, form_first(cells, e), j, k)
+}
+
+// `count`: Count of the keep, and the steps that break it.
+fn count_steps(plan: &mut [u16], n: usize, p: u16, j: u16, lo: u16, hi: u16) -> Out
+    requires { ⌜ (planCount ≤ length (now plan)) × (n + 4 ≤ 512) ⌝ }
+    ensures { λ r. ⌜ Added (now (plan .entry)) (now (plan .exit)) n (countPart n p j lo hi) (r .next) (r .keep) (r .brk) ⌝ }
+{
+    let own = Out {
+        next: n + 2,
+        keep: narrow(n),
+        brk: narrow(n + 1),
+    };
+    put_step(plan, n, 8, p, j, lo, hi);
+    if lo == 0 {
+        if hi == NO_NUMBER {
+            put_step(plan, n + 1, 1, 0, 0, 0, 0);
+            return own;
+        }
+        put_step(plan, n + 1, 8, p, j, hi + 1, NO_NUMBER);
+        return own;
+    }
+    put_step(plan, n + 1, 8, p, j, 0, lo - 1);
+    if hi == NO_NUMBER {
+        return own;
+    }
+    put_step(plan, n + 2, 8, p, j, hi + 1, NO_NUMBER);
+    put_step(plan, n + 3, 7, own.brk, narrow(n + 2), 0, 0);
+    Out {
+        next: n + 4,
+        keep: own.keep,
+        brk: narrow(n + 3),
+    }
+}
+
+fn count_entry(plan: &mut [u16], cells: &[u16], keeps: &[u16], e: usize, n: usize) -> Out
+    requires { ⌜ (planCount ≤ length (now plan)) × (n + 4 ≤ 512) ⌝ }
+    ensures { λ r. ⌜ Added (now (plan .entry)) (now (plan .exit)) n (countPart n (formFirstAt (now (cells .entry)) e) (getD (now (keeps .entry)) (formSecondAt (now (cells .entry)) e) 0) (formThirdAt (now (cells .entry)) e) (formFourthAt (now (cells .entry)) e)) (r .next) (r .keep) (r .brk) ⌝ }
+{
+    let j = number_at(keeps, wide(form_second(cells, e)));
+    let lo = form_third(cells, e);
+    let hi = form_fourth(cells, e);
+    count_steps(plan, n, form_first(cells, e), j, lo, hi)
+}
+
+// `not`: its child's two, exchanged.
+fn swapped(cells: &[u16], keeps: &[u16], breaks: &[u16], e: usize, n: usize) -> Out
+    ensures { λ r. ⌜ (r .next ≡ n) × (r .keep ≡ getD (now (breaks .entry)) (formFirstAt (now (cells .entry)) e) 0) × (r .brk ≡ getD (now (keeps .entry)) (formFirstAt (now (cells .entry)) e) 0) ⌝ }
+{
+    let a = wide(form_first(cells, e));
+    Out {
+        next: n,
+        keep: number_at(breaks, a),
+        brk: number_at(keeps, a),
+    }
+}
+
+// `shape`: the two of what that shape begins with.
+fn same_steps(cells: &[u16], keeps: &[u16], breaks: &[u16], e: usize, n: usize) -> Out
+    ensures { λ r. ⌜ (r .next ≡ n) × (r .keep ≡ getD (now (keeps .entry)) (rootAt (now (cells .entry)) (formFirstAt (now (cells .entry)) e)) 0) × (r .brk ≡ getD (now (breaks .entry)) (rootAt (now (cells .entry)) (formFirstAt (now (cells .entry)) e)) 0) ⌝ }
+{
+    let a = root(cells, wide(form_first(cells, e)));
+    Out {
+        next: n,
+        keep: number_at(keeps, a),
+        brk: number_at(breaks, a),
+    }
+}
+
+// The steps of entry e, from step n on.
+fn compile_entry(
+    plan: &mut [u16],
+    cells: &[u16],
+    keeps: &[u16],
+    breaks: &[u16],
+    e: usize,
+    n: usize,
+) -> Out
+    requires { ⌜ (planCount ≤ length (now plan)) × (e < 112) × (n + 4 ≤ 512) ⌝ }
+    ensures { λ r. ⌜ Added (now (plan .entry)) (now (plan .exit)) n (entryPart (now (cells .entry)) (numberIn (now (keeps .entry))) (numberIn (now (breaks .entry))) n e (entryAt (now (cells .entry)) [] e)) (r .next) (r .keep) (r .brk) ⌝ }
+{
+    let code = form_code(cells, e);
+    match code {
+        0 => two(plan, n, 0, 0, 0, 1, 0, 0),
+        1 => is_steps(plan, cells, e, n),
+        2 => same_steps(cells, keeps, breaks, e, n),
+        3 => joined(plan, cells, keeps, breaks, e, n, 6, 7),
+        4 => joined(plan, cells, keeps, breaks, e, n, 7, 6),
+        5 => swapped(cells, keeps, breaks, e, n),
+        6..=12 => own_steps(plan, e, n, 4, 5),
+        13 => count_entry(plan, cells, keeps, e, n),
+        14 => all_entry(plan, cells, keeps, breaks, e, n),
+        15 => link_steps(plan, cells, e, n, 10, 11),
+        16 => link_steps(plan, cells, e, n, 12, 13),
+        17 => own_steps(plan, e, n, 14, 15),
+        18 => link_steps(plan, cells, e, n, 16, 17),
+        19 => link_steps(plan, cells, e, n, 18, 19),
+        20 => path_steps(plan, cells, e, n),
+        21..=65535 => Out {
+            next: n,
+            keep: 0,
+            brk: 0,
+        },
+    }
+}
+
+// The plan's cells become zero.
+fn clear(plan: &mut [u16])
+    requires { ⌜ planCount ≤ length (now plan) ⌝ }
+    ensures { λ _. ⌜ now (plan .exit) ≡ blankPlan (now (plan .entry)) ⌝ }
+{
+    for i in 0..PLAN_CELLS {
+        plan[i] = 0;
+    }
+}
+
+// The steps of all entries; breaks gets each entry's breaking step.
+fn fill_forms(plan: &mut [u16], breaks: &mut [u16], cells: &[u16]) -> usize
+    requires { ⌜ Fits (now cells) (now plan) × (now breaks ≡ replicate 112 0) ⌝ }
+    ensures { λ r. ⌜ FormsAdded (now (cells .entry)) (now (plan .entry)) (now (plan .exit)) (formCount (now (cells .entry))) r (now (breaks .exit)) ⌝ }
+{
+    let forms = form_count(cells);
+    let mut keeps = [0u16; 112];
+    let mut n: usize = 0;
+    for e in 0..forms {
+        let out = compile_entry(plan, cells, &keeps, &breaks[..], e, n);
+        keeps[e] = out.keep;
+        breaks[e] = out.brk;
+        n = out.next;
+    }
+    n
+}
+
+// The step of rule r's target, as step n.
+fn target_step(plan: &mut [u16], cells: &[u16], r: usize, n: usize)
+    requires { ⌜ (planCount ≤ length (now plan)) × (n < 512) ⌝ }
+    ensures { λ _. ⌜ now (plan .exit) ≡ withNumbers (now (plan .entry)) n (numbersOf (targetStep (ruleAt (now (cells .entry)) r .target))) ⌝ }
+{
+    let c = rule_node(cells, r);
+    let l = rule_link(cells, r);
+    let code = rule_target(cells, r);
+    match code {
+        0 => put_step(plan, n, 2, c.0, 0, 0, 0),
+        1 => put_step(plan, n, 22, l.0, 0, 0, 0),
+        2 => put_step(plan, n, 23, l.0, 0, 0, 0),
+        3..=65535 => put_step(plan, n, 24, c.0, 0, 0, 0),
+    }
+}
+
+// The two steps of rule r, and its step's number.
+fn rule_steps(plan: &mut [u16], cells: &[u16], breaks: &[u16], r: usize, n: usize)
+    requires { ⌜ (planCount ≤ length (now plan)) × (r < 32) × (n + 2 ≤ 512) ⌝ }
+    ensures { λ _. ⌜ now (plan .exit) ≡ ruleStored (now (cells .entry)) (now (plan .entry)) r n (getD (now (breaks .entry)) (rootAt (now (cells .entry)) (ruleShapeAt (now (cells .entry)) r)) 0) ⌝ }
+{
+    let b = number_at(breaks, root(cells, rule_shape(cells, r)));
+    target_step(plan, cells, r, n);
+    put_step(plan, n + 1, 6, narrow(n), b, 0, 0);
+    plan[RULE_STEPS + r] = narrow(n + 1);
+}
+
+// The steps of all rules, from step `first` on.
+fn fill_rules(plan: &mut [u16], cells: &[u16], breaks: &[u16], first: usize) -> usize
+    requires { ⌜ Fits (now cells) (now plan) × (first ≡ length (made (now cells) (formCount (now cells)) .steps)) × ((j : ℕ) → getD (now breaks) j 0 ≡ made (now cells) (formCount (now cells)) .brk j) ⌝ }
+    ensures { λ r. ⌜ (r ≡ length (stepsTo (now (cells .entry)) (ruleCount (now (cells .entry))))) × ((t : List ℕ) → now (plan .entry) ≡ laid t [] [] (stepsTo (now (cells .entry)) 0) → now (plan .exit) ≡ laid t [] (values (ruleStep (now (cells .entry))) (ruleCount (now (cells .entry)))) (stepsTo (now (cells .entry)) (ruleCount (now (cells .entry))))) ⌝ }
+{
+    let rules = rule_count(cells);
+    let mut n = first;
+    for r in 0..rules {
+        rule_steps(plan, cells, breaks, r, n);
+        n += 2;
+    }
+    n
+}

@@ -1,0 +1,4 @@
+pub mod Complements
+pub mod Stores
+pub mod ReadBack
+pub mod Decoding
