@@ -6,12 +6,13 @@ use mathlib.Core.Path.{_≡_, refl, sym, ap, _∙_, subst}
 use native.Mathlib.Nat.{add-zero}
 use native.Mathlib.Omega.{arith}
 use lib.Dec.{eqb}
-use lib.ListN.{length, getD, set, replicate, length-append, length-replicate, List·getD-append, List·getD-eq-default}
-use lib.Seq.{ext-getD, set-append-left, sets, getD-append-seam}
+use lib.ListN.{length, getD, set, take, drop, replicate, length-append, length-replicate, List·getD-append, List·getD-eq-default}
+use lib.Seq.{ext-getD, set-append-left, sets, sets-eq}
 use Rattle.base.specs.Lists.{allb}
 use Rattle.base.specs.Columns.{Column, pad, flat, offset, column, push}
 use Rattle.base.proofs.Lists.{values-ext}
 use Rattle.base.proofs.Columns.{length-pad, at-pad, set-flat, length-flat}
+use Rattle.text.specs.Pool.{store}
 use Rattle.encoding.proofs.Places.{below-or, at-blank}
 use Rattle.encoding.proofs.Names.{same-everywhere}
 
@@ -49,17 +50,17 @@ module _ {A : Type 0} where
   push-length (c ∷ cs) zero x h = length-append (c .items) (x ∷ [])
   push-length (c ∷ cs) (suc k) x h = push-length cs k x h
 
-  -- a place of a column is a place of all columns
-  pub place-inside : (cs : List (Column A)) (k i : ℕ) → i < column cs k .width → offset cs k + i < offset cs (length cs)
-  place-inside [] k i l = absurd (omega arith)
-  place-inside (c ∷ cs) zero i l = omega arith
-  place-inside (c ∷ cs) (suc k) i l = omega (arith, place-inside cs k i l)
+  -- a column stands within all columns
+  column-inside : (cs : List (Column A)) (k : ℕ) → offset cs k + column cs k .width ≤ offset cs (length cs)
+  column-inside [] k = omega arith
+  column-inside (c ∷ cs) zero = omega arith
+  column-inside (c ∷ cs) (suc k) = omega (arith, column-inside cs k)
 
 module _ {A : Type 0} (d : A) (t : List A) where
   -- one store
   pub put : (cs : List (Column A)) (k i : ℕ) (x : A) → i ≡ length (column cs k .items) → i < column cs k .width → set (flat d cs ++ t) (offset cs k + i) x ≡ flat d (push cs k x) ++ t
   put cs k i x e l =
-      set-append-left (flat d cs) t (offset cs k + i) x (omega (arith, place-inside cs k i l, length-flat d cs))
+      set-append-left (flat d cs) t (offset cs k + i) x (omega (arith, column-inside cs k, length-flat d cs))
       ∙ ap (λ (s : List A). s ++ t) (ap (λ (j : ℕ). set (flat d cs) (offset cs k + j) x) e ∙ set-flat d cs k x (omega arith))
 
   -- a row of three
@@ -84,6 +85,16 @@ module _ {A : Type 0} (d : A) (t : List A) where
       ∙ ap (λ (j : ℕ). sets (flat d (push cs k x) ++ t) j xs) n
       ∙ puts (push cs k x) k (suc i) xs (omega (arith, push-length cs k x (omega arith))) (omega (arith, push-width cs k x))
       ∙ ap (λ (s : List (Column A)). flat d s ++ t) (extend-push cs k x xs)
+
+-- a store of several at once
+pub store-next : (cs : List (Column ℕ)) (t : List ℕ) (k i : ℕ) (xs : List ℕ) → i ≡ length (column cs k .items) → i + length xs ≤ column cs k .width → store (flat 0 cs ++ t) (offset cs k + i) xs ≡ flat 0 (extend cs k xs) ++ t
+unfolding store
+store-next cs t k i xs e l =
+    let s = flat 0 cs ++ t in
+    let j = offset cs k + i in
+    sym (append-assoc (take j s) xs (drop (j + length xs) s))
+    ∙ sym (sets-eq xs s j (omega (arith, column-inside cs k, length-flat 0 cs, length-append (flat 0 cs) t)))
+    ∙ puts 0 t cs k i xs e l
 
 module _ {A : Type 0} (d : A) where
   -- the default at the end of a column says nothing
