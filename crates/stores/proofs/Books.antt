@@ -1,28 +1,24 @@
 -- What is stored for a valid book is the book's tables, and past their limits what was there.
-use Prim.Native.Nat.{ℕ, suc, _+_, _≤_}
+use Prim.Native.Nat.{ℕ, _+_}
 use mathlib.Core.List.{List, [], _∷_, _++_, append-nil, append-assoc}
 use mathlib.Core.Bool.{true}
 use mathlib.Core.Path.{_≡_, refl, sym, ap, _∙_}
-use native.Mathlib.Nat.{zero-add}
 use native.Mathlib.Numerals.{add-one}
 use native.Mathlib.Omega.{arith}
-use lib.Dec.{leb}
-use lib.ListN.{length, set, drop, replicate}
+use lib.ListN.{set, drop, replicate}
 use lib.Seq.{sets}
 use lib.IntN.{ℤ, pos}
 use Rattle.base.specs.Bytes.{bytes}
 use Rattle.base.specs.Lists.{allb}
-use Rattle.base.specs.Columns.{Column, flat}
+use Rattle.base.specs.Columns.{flat}
 use Rattle.base.proofs.Bools.{and-left, and-right}
 use Rattle.text.specs.Items.{isName, nameByte}
 use Rattle.text.specs.Pool.{padded, allNames, poolOf}
-use Rattle.model.specs.Limits.{maxBytes}
-use Rattle.model.specs.Books.{Name, Line, Book, Pool, nodes, links, types, langs, shapes, poolNumber, builtIn, collect, names, rules}
+use Rattle.model.specs.Books.{Name, Line, Book, Pool, nodes, links, types, langs, shapes, builtIn, collect, names, rules}
 use Rattle.model.specs.Valid.{capacity}
 use Rattle.tables.specs.Layout.{nameCount, cellCount, valueCount}
 use Rattle.encoding.specs.Flatten.{addShapes, rootsOf}
-use Rattle.encoding.specs.Encode.{Content, cellColumns, valueColumns, nameColumns, entriesOf, countsOf, contentOf, encodeCells, encodeValues, encodeNames}
-use Rattle.grammar.specs.Writing.{render}
+use Rattle.encoding.specs.Encode.{cellColumns, valueColumns, entriesOf, countsOf, contentOf, encodeCells, encodeValues, encodeNames}
 use Rattle.grammar.specs.Valid.{validLine, validFrom, valid}
 use Rattle.stores.specs.Lines.{putName, lineNames, lineCells, lineValues, linesNames, linesCells, linesValues, putCounts, cleared, namesAfter, cellsAfter, valuesAfter}
 use Rattle.stores.proofs.Columns.{extend, puts, blank}

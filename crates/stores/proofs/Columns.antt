@@ -2,18 +2,17 @@
 use Prim.Native.Nat.{ℕ, zero, suc, _+_, _≤_, _<_}
 use mathlib.Core.List.{List, [], _∷_, _++_, append-nil, append-assoc}
 use mathlib.Core.Bool.{true}
-use mathlib.Core.Path.{_≡_, refl, sym, ap, _∙_, subst}
-use native.Mathlib.Nat.{add-zero}
+use mathlib.Core.Path.{_≡_, refl, sym, ap, _∙_}
 use native.Mathlib.Omega.{arith}
 use lib.Dec.{eqb}
-use lib.ListN.{length, getD, set, take, drop, replicate, length-append, length-replicate, List·getD-append, List·getD-eq-default}
+use lib.ListN.{length, getD, set, take, drop, replicate, length-append, length-replicate}
 use lib.Seq.{ext-getD, set-append-left, sets, sets-eq}
 use Rattle.base.specs.Lists.{allb}
 use Rattle.base.specs.Columns.{Column, pad, flat, offset, column, push}
 use Rattle.base.proofs.Lists.{values-ext}
-use Rattle.base.proofs.Columns.{length-pad, at-pad, set-flat, length-flat}
+use Rattle.base.proofs.Columns.{set-flat, length-flat}
 use Rattle.text.specs.Pool.{store}
-use Rattle.encoding.proofs.Places.{below-or, at-blank}
+use Rattle.encoding.proofs.Places.{at-blank}
 use Rattle.encoding.proofs.Names.{same-everywhere}
 
 -- the columns with more items in column k
@@ -51,7 +50,7 @@ module _ {A : Type 0} where
   push-length (c ∷ cs) (suc k) x h = push-length cs k x h
 
   -- a column stands within all columns
-  column-inside : (cs : List (Column A)) (k : ℕ) → offset cs k + column cs k .width ≤ offset cs (length cs)
+  pub column-inside : (cs : List (Column A)) (k : ℕ) → offset cs k + column cs k .width ≤ offset cs (length cs)
   column-inside [] k = omega arith
   column-inside (c ∷ cs) zero = omega arith
   column-inside (c ∷ cs) (suc k) = omega (arith, column-inside cs k)

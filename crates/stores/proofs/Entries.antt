@@ -1,7 +1,7 @@
 -- What is stored for a path and for a shape is what its entries add to the tables.
-use Prim.Native.Nat.{ℕ, zero, suc, _+_, _-_, _≤_, _<_}
+use Prim.Native.Nat.{ℕ, suc, _+_, _≤_, _<_}
 use mathlib.Core.List.{List, [], _∷_, _++_, map, map-append}
-use mathlib.Core.Path.{_≡_, refl, sym, ap, ap₂, _∙_}
+use mathlib.Core.Path.{_≡_, refl, sym, ap, _∙_}
 use native.Mathlib.Omega.{arith}
 use lib.ListN.{length, set, length-append, length-map}
 use lib.Seq.{sets}
@@ -10,18 +10,18 @@ use Rattle.base.specs.Columns.{flat, push}
 use Rattle.model.specs.Limits.{maxForms, maxPaths, maxItems}
 use Rattle.model.specs.Paths.{Path, predicate, inverse, sequence, alternative, End, self, along}
 use Rattle.model.specs.Shapes.{Test, nodeKind, datatype, languageIn, minInclusive, minExclusive, maxInclusive, maxExclusive, Shape, top, hasShape, hasValue, conj, disj, neg, test, count, forAll, equals, disjoint, closed, lessThan, lessThanEq, uniqueLang}
-use Rattle.model.specs.Sizes.{pathEntries, endEntries, formEntries, shapePaths, testItems, listItems}
+use Rattle.model.specs.Sizes.{pathEntries}
 use Rattle.tables.specs.Layout as Layout
 use Rattle.tables.specs.Entries.{PathEntry, inv, seq, alt, Entry}
 use Rattle.tables.specs.Entries as E
 use Rattle.encoding.specs.Rows.{pathRow, formRow, plainRow, valueRow}
 use Rattle.encoding.specs.Flatten.{last, addPath, Entries, addForm, withPath, withItems, withEnd, endNumber, kindCode, upperNumber, addTest, addShape}
 use Rattle.encoding.specs.Encode.{Content, cellColumns, valueColumns}
-use Rattle.encoding.proofs.Counts.{path-size, end-size, test-size, shape-size}
+use Rattle.encoding.proofs.Counts.{path-size, end-size, shape-size}
 use Rattle.grammar.specs.Syntax.{path, end, form}
 use Rattle.grammar.specs.Reading.{Begun, after}
 use Rattle.stores.specs.Entries.{putPath, putForm, putItems, pathCells, endCells, endOperand, testCells, shapeCells, putValue, testValues, shapeValues}
-use Rattle.stores.proofs.Columns.{extend, put, put₃, puts, push-default}
+use Rattle.stores.proofs.Columns.{put, put₃, puts, push-default}
 
 -- the content with other entries
 abbrev pub withEntries : Content → Entries → Content
@@ -191,42 +191,34 @@ module _ (C : Content) (t : List ℕ) where
       rw (after-shape φ es, shape-cells φ es (without-shape ψ fs wg), after-shape ψ fs, shape-cells ψ fs wg) (form-row gs x w)
   shape-cells (neg φ) es w =
       let fs = addShape φ es in
-      let x = Entry.neg (last (fs .forms)) in
-      rw (after-shape φ es, shape-cells φ es (without-form x fs w)) (form-row fs x w)
+      rw (after-shape φ es, shape-cells φ es (without-form _ fs w)) (form-row fs _ w)
   shape-cells (test x) es w = test-cells x es w
   shape-cells (count lo hi e ψ) es w =
       let ps = withPath e es in
       let fs = addShape ψ ps in
-      let x = Entry.count (last (ps .paths)) (last (fs .forms)) lo (upperNumber hi) in
-      let wf = without-form x fs w in
-      rw (after-path e es, path-cells e es (without-path e es (without-shape ψ ps wf)), after-shape ψ ps, shape-cells ψ ps wf) (form-row fs x w)
+      let wf = without-form _ fs w in
+      rw (after-path e es, path-cells e es (without-path e es (without-shape ψ ps wf)), after-shape ψ ps, shape-cells ψ ps wf) (form-row fs _ w)
   shape-cells (forAll e ψ) es w =
       let ps = withPath e es in
       let fs = addShape ψ ps in
-      let x = Entry.all (last (ps .paths)) (last (fs .forms)) in
-      let wf = without-form x fs w in
-      rw (after-path e es, path-cells e es (without-path e es (without-shape ψ ps wf)), after-shape ψ ps, shape-cells ψ ps wf) (form-row fs x w)
+      let wf = without-form _ fs w in
+      rw (after-path e es, path-cells e es (without-path e es (without-shape ψ ps wf)), after-shape ψ ps, shape-cells ψ ps wf) (form-row fs _ w)
   shape-cells (equals f p) es w =
       let ps = withEnd f es in
-      let x = Entry.equal (endNumber f ps) p in
-      rw (after-end f es, end-cells f es (without-form x ps w), end-operand f es, end-forms f es) (form-row ps x w)
+      rw (after-end f es, end-cells f es (without-form _ ps w), end-operand f es, end-forms f es) (form-row ps _ w)
   shape-cells (disjoint f p) es w =
       let ps = withEnd f es in
-      let x = Entry.apart (endNumber f ps) p in
-      rw (after-end f es, end-cells f es (without-form x ps w), end-operand f es, end-forms f es) (form-row ps x w)
-  shape-cells (closed ks) es w = let x = Entry.closed (length (es .items)) (length ks) in rw (list-cells ks x es w) (form-row (withItems ks es) x w)
+      rw (after-end f es, end-cells f es (without-form _ ps w), end-operand f es, end-forms f es) (form-row ps _ w)
+  shape-cells (closed ks) es w = rw (list-cells ks _ es w) (form-row (withItems ks es) _ w)
   shape-cells (lessThan e p) es w =
       let ps = withPath e es in
-      let x = Entry.less (last (ps .paths)) p in
-      rw (after-path e es, path-cells e es (without-path e es (without-form x ps w))) (form-row ps x w)
+      rw (after-path e es, path-cells e es (without-path e es (without-form _ ps w))) (form-row ps _ w)
   shape-cells (lessThanEq e p) es w =
       let ps = withPath e es in
-      let x = Entry.lesseq (last (ps .paths)) p in
-      rw (after-path e es, path-cells e es (without-path e es (without-form x ps w))) (form-row ps x w)
+      rw (after-path e es, path-cells e es (without-path e es (without-form _ ps w))) (form-row ps _ w)
   shape-cells (uniqueLang e) es w =
       let ps = withPath e es in
-      let x = Entry.onelang (last (ps .paths)) in
-      rw (after-path e es, path-cells e es (without-path e es (without-form x ps w))) (form-row ps x w)
+      rw (after-path e es, path-cells e es (without-path e es (without-form _ ps w))) (form-row ps _ w)
 
 -- ---- V
 module _ (C : Content) (t : List ℤ) where
@@ -281,19 +273,16 @@ module _ (C : Content) (t : List ℤ) where
       rw (after-shape φ es, shape-values φ es (without-shape ψ fs wg), shape-values ψ fs wg) (no-value gs x refl)
   shape-values (neg φ) es w =
       let fs = addShape φ es in
-      let x = Entry.neg (last (fs .forms)) in
-      shape-values φ es (without-form x fs w) ∙ no-value fs x refl
+      shape-values φ es (without-form _ fs w) ∙ no-value fs _ refl
   shape-values (test x) es w = test-values x es w
   shape-values (count lo hi e ψ) es w =
       let ps = withPath e es in
       let fs = addShape ψ ps in
-      let x = Entry.count (last (ps .paths)) (last (fs .forms)) lo (upperNumber hi) in
-      rw (after-path e es) (shape-values ψ ps (without-form x fs w) ∙ no-value fs x refl)
+      rw (after-path e es) (shape-values ψ ps (without-form _ fs w) ∙ no-value fs _ refl)
   shape-values (forAll e ψ) es w =
       let ps = withPath e es in
       let fs = addShape ψ ps in
-      let x = Entry.all (last (ps .paths)) (last (fs .forms)) in
-      rw (after-path e es) (shape-values ψ ps (without-form x fs w) ∙ no-value fs x refl)
+      rw (after-path e es) (shape-values ψ ps (without-form _ fs w) ∙ no-value fs _ refl)
   shape-values (equals f p) es w = end-values f es ∙ no-value (withEnd f es) (Entry.equal (endNumber f (withEnd f es)) p) refl
   shape-values (disjoint f p) es w = end-values f es ∙ no-value (withEnd f es) (Entry.apart (endNumber f (withEnd f es)) p) refl
   shape-values (closed ks) es w = no-value (withItems ks es) (Entry.closed (length (es .items)) (length ks)) refl

@@ -4,3 +4,4 @@ pub mod Entries
 pub mod Lines
 pub mod Names
 pub mod Books
+pub mod Lookups

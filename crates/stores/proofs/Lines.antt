@@ -1,5 +1,5 @@
 -- What is stored for a line is what the line adds to the content of the tables.
-use Prim.Native.Nat.{ℕ, suc, _+_, _-_, _≤_, _<_}
+use Prim.Native.Nat.{ℕ, _+_, _<_}
 use mathlib.Core.List.{List, [], _∷_, _++_, map, map-append, append-nil}
 use mathlib.Core.Bool.{true, _&&_}
 use mathlib.Core.Path.{_≡_, refl, sym, ap, _∙_}
@@ -16,7 +16,7 @@ use Rattle.model.specs.Rules.{Rule}
 use Rattle.model.specs.Shapes.{Shape}
 use Rattle.model.specs.Books.{Line, link, type, lang, node, fact, shape, rule, Book, nodes, shapes, collect, newTerms, newTriples, newShapes, newRules, names, rules}
 use Rattle.model.specs.Sizes.{formEntries, shapePaths, listItems, formsIn, pathsIn, itemsIn}
-use Rattle.model.specs.Valid.{capacity, defined, hasRoom, termOk, factOk, shapeOk, targetOk, entriesFit, lineOk}
+use Rattle.model.specs.Valid.{capacity, defined, hasRoom, factOk, shapeOk, targetOk, entriesFit, lineOk}
 use Rattle.model.proofs.Lines.{collect-snoc}
 use Rattle.tables.specs.Layout as Layout
 use Rattle.encoding.specs.Rows.{nodeRow, targetCode, targetOperand}
@@ -24,10 +24,7 @@ use Rattle.encoding.specs.Flatten.{last, Entries, addShape, addShapes, rootsOf,
 use Rattle.encoding.specs.Encode.{Content, cellColumns, valueColumns, entriesOf}
 use Rattle.encoding.proofs.Counts.{shape-size, entries-size, terms-counted, shapes-counted}
 use Rattle.encoding.proofs.Schema.{entries-snoc, roots-snoc, roots-length}
-use Rattle.grammar.specs.Syntax.{form}
-use Rattle.grammar.specs.Reading.{Begun, after}
-use Rattle.grammar.specs.Valid.{lineDepth, namesOk, validLine}
-use Rattle.stores.specs.Entries.{shapeCells, shapeValues}
+use Rattle.grammar.specs.Valid.{validLine}
 use Rattle.stores.specs.Lines.{putNode, putFact, putRule, endedAbove, lineCells, lineValues}
 use Rattle.stores.proofs.Columns.{put, put₃}
 use Rattle.stores.proofs.Prefixes.{line-right}

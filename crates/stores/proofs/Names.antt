@@ -1,15 +1,15 @@
 -- What is stored for the name of a line is the name after the others of its pool.
-use Prim.Native.Nat.{ℕ, suc, _+_, _*_, _≤_, _<_}
+use Prim.Native.Nat.{ℕ, _+_, _*_, _≤_, _<_}
 use mathlib.Core.List.{List, [], _∷_, _++_, append-nil}
-use mathlib.Core.Bool.{true, _&&_}
-use mathlib.Core.Path.{_≡_, refl, sym, ap, _∙_}
+use mathlib.Core.Bool.{true}
+use mathlib.Core.Path.{_≡_, sym, ap, _∙_}
 use native.Mathlib.Omega.{arith}
 use lib.ListN.{length}
 use borrow.Author.Tests.{ltb-true}
 use Rattle.base.specs.Columns.{Column, flat}
-use Rattle.base.proofs.Bools.{and-left, and-right}
+use Rattle.base.proofs.Bools.{and-left}
 use Rattle.text.specs.Items.{isName}
-use Rattle.text.specs.Pool.{padded, allNames, poolOf, store}
+use Rattle.text.specs.Pool.{padded, allNames, poolOf}
 use Rattle.text.proofs.Items.{name-short}
 use Rattle.text.proofs.Pool.{padded-length}
 use Rattle.text.proofs.Places.{pool-append, pool-length}

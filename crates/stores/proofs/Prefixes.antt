@@ -1,19 +1,17 @@
 -- The lines above: what is known of them where all are valid.
-use mathlib.Core.List.{List, [], _∷_, _++_, append-nil, append-assoc}
-use mathlib.Core.Bool.{Bool, true, false, cond, not, _&&_}
+use mathlib.Core.List.{[], _∷_, _++_, append-nil, append-assoc}
+use mathlib.Core.Bool.{true, cond, not, _&&_}
 use mathlib.Core.Path.{_≡_, refl, sym, ap, _∙_, subst}
-use lib.Dec.{eqb, leb}
-use Rattle.base.specs.Lists.{anyb, allb}
-use Rattle.base.specs.Bytes.{bytes, eql}
+use lib.Dec.{eqb}
+use Rattle.base.specs.Lists.{allb}
 use Rattle.base.proofs.Bools.{bool-cases, and-left, and-right, and-both}
 use Rattle.text.specs.Items.{isName, nameByte}
 use Rattle.text.specs.Pool.{allNames}
 use Rattle.text.proofs.Places.{names-append}
-use Rattle.model.specs.Limits.{maxDepth}
 use Rattle.model.specs.Books.{Name, Line, link, type, lang, node, fact, shape, rule, Book, Pool, nodes, links, types, langs, shapes, poolNumber, builtIn, joins, newNames, collect, names}
 use Rattle.model.specs.Valid.{lineOk, admissibleFrom, admissible}
 use Rattle.model.proofs.Lines.{names-snoc}
-use Rattle.grammar.specs.Valid.{lineDepth, reserved, wellNamed, newName, namesOk, validLine, validFrom}
+use Rattle.grammar.specs.Valid.{reserved, wellNamed, newName, namesOk, validLine, validFrom}
 
 -- lines that are right, with names that are well made
 pub record Prefix (a : Book) : Type 0 where
@@ -77,7 +75,10 @@ prefix-more a l P ok =
       names-made = λ p. ap allNames (names-snoc p a l) ∙ names-append (names p a) (newNames p l) ∙ and-both _ _ (P .names-made p) (line-made a p l (line-named a l ok));
     }
 
-pub prefix-of : (c a : Book) → Prefix a → validFrom a c ≡ true → Prefix (a ++ c)
+prefix-lines : (c a : Book) → Prefix a → validFrom a c ≡ true → Prefix (a ++ c)
 unfolding validFrom
-prefix-of [] a P v = subst Prefix (sym (append-nil a)) P
-prefix-of (l ∷ c) a P v = subst Prefix (append-assoc a (l ∷ []) c) (prefix-of c (a ++ (l ∷ [])) (prefix-more a l P (and-left _ _ v)) (and-right (validLine a l) _ v))
+prefix-lines [] a P v = subst Prefix (sym (append-nil a)) P
+prefix-lines (l ∷ c) a P v = subst Prefix (append-assoc a (l ∷ []) c) (prefix-lines c (a ++ (l ∷ [])) (prefix-more a l P (and-left _ _ v)) (and-right (validLine a l) _ v))
+
+pub prefix-valid : (a : Book) → validFrom [] a ≡ true → Prefix a
+prefix-valid a v = prefix-lines a [] prefix-start v
