@@ -9,7 +9,7 @@ use lib.ListN.{getD, length, List·getD-eq-default}
 use Rattle.tables.specs.Layout.{formCodeAt, formFirstAt, formSecondAt, formThirdAt, formFourthAt, limitAt, rootAt}
 use Rattle.tables.specs.Entries.{Entry, entryOf}
 use Rattle.tables.specs.Decode.{entryAt}
-use Rattle.tables.proofs.Codes.{Each}
+use Rattle.tablecheck.proofs.Codes.{Each}
 use Rattle.plan.specs.Steps.{Step, numbersOf}
 use Rattle.plan.specs.Layout.{withSteps}
 use Rattle.compiler.specs.Compile.{Part, taken, two, countPart, entryPart}

@@ -5,3 +5,4 @@ pub mod Plans
 pub mod Laws
 pub mod Arms
 pub mod Loops
+pub mod Answers

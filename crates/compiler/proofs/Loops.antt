@@ -1,4 +1,4 @@
--- One more zero, one more entry, one more rule.
+-- Zeros, one more entry, one more rule.
 use Prim.Native.Nat.{ℕ, zero, suc, _+_, _*_, _≤_, _<_}
 use mathlib.Core.Bool.{Bool, true, false, cond}
 use mathlib.Core.List.{List, [], _∷_, _++_}
@@ -7,37 +7,31 @@ use native.Mathlib.Nat.{zero-add}
 use native.Mathlib.Numerals.{add-one}
 use native.Mathlib.Omega.{arith}
 use lib.Dec.{eqb}
-use lib.ListN.{getD, length, set, replicate, drop, length-append, length-replicate, replicate-append-replicate, List·getD-eq-default}
-use lib.Seq.{getD-set-same, getD-set-other, drop-cons, set-at, append-snoc}
+use lib.ListN.{getD, length, set, replicate, drop, length-append, List·getD-eq-default}
+use lib.Seq.{getD-set-same, getD-set-other}
 use borrow.Author.Tests.{eqb-true, eqb-false}
 use Rattle.base.specs.Lists.{values}
 use Rattle.base.proofs.Lists.{length-valuesFrom, valuesFrom-snoc}
 use Rattle.model.specs.Rules.{Target, targetNode, subjectsOf, objectsOf, targetClass}
 use Rattle.tables.specs.Layout.{formCount, ruleCount, rootAt, ruleShapeAt, ruleTargetAt, ruleOperandAt}
 use Rattle.tables.specs.Decode.{entryAt, targetOf, ruleAt}
+use Rattle.tables.specs.Sizes.{blank}
+use Rattle.tables.proofs.Blank.{blank-front}
 use Rattle.plan.specs.Steps.{Step, numbersOf}
-use Rattle.plan.specs.Layout.{planCount, laid, withNumbers, withSteps}
-use Rattle.plan.proofs.Stores.{store-rule, store-steps, laid-none}
-use Rattle.compiler.specs.Compile.{Part, entryPart, putAt, more, made, targetStep, ruleSteps, stepsTo, ruleStep}
-use Rattle.compiler.specs.Stores.{numberIn, Added, FormsAdded, ruleStored, blankPlan}
+use Rattle.plan.specs.Layout.{planCount, laid, withNumbers, withSteps, planCells}
+use Rattle.plan.proofs.Stores.{store-rule, store-count, store-steps, laid-none}
+use Rattle.compiler.specs.Compile.{Part, entryPart, putAt, more, made, targetStep, ruleSteps, stepsTo, stepsOf, ruleStep, planOf}
+use Rattle.compiler.specs.Stores.{numberIn, Added, FormsAdded, ruleStored}
 use Rattle.compiler.proofs.Whole.{length-to}
 
 -- ---- zeros
-pub blank-more : (ps : List ℕ) (i : ℕ) → i < length ps → set (replicate i 0 ++ drop i ps) i 0 ≡ replicate (i + 1) 0 ++ drop (i + 1) ps
-blank-more ps i l =
-    ap (λ (x : List ℕ). set (replicate i 0 ++ x) i 0) (drop-cons ps i 0 l)
-    ∙ set-at (replicate i 0) (getD ps i 0) (drop (suc i) ps) 0 i (length-replicate i 0)
-    ∙ sym (append-snoc (replicate i 0) 0 (drop (suc i) ps))
-    ∙ ap₂ (λ (x y : List ℕ). x ++ y) (replicate-append-replicate i 1 0) (ap (λ (m : ℕ). drop m ps) (sym (add-one i)))
-
 pub zeros : (n j : ℕ) → _≡_ {A = ℕ} (getD (replicate n 0) j 0) 0
 zeros zero j = refl
 zeros (suc n) zero = refl
 zeros (suc n) (suc j) = zeros n j
 
-pub blank-laid : (ps : List ℕ) → blankPlan ps ≡ laid (drop planCount ps) [] [] []
-unfolding blankPlan
-blank-laid ps = sym (laid-none (drop planCount ps))
+pub blank-laid : (ps : List ℕ) → planCount ≤ length ps → blank planCount 0 ps ≡ laid (drop planCount ps) [] [] []
+blank-laid ps l = blank-front 0 planCount ps l ∙ sym (laid-none (drop planCount ps))
 
 -- ---- a store in an array of step numbers
 put-set : (xs : List ℕ) (e x : ℕ) (f : ℕ → ℕ) → e < length xs → ((j : ℕ) → getD xs j 0 ≡ f j) → (j : ℕ) → getD (set xs e x) j 0 ≡ putAt f e x j
@@ -129,3 +123,12 @@ rule-more cs t qs rs r n b lr ln en eb f g =
     ∙ store-rule t (values (ruleStep cs) r) (stepsTo cs r ++ new) r (ruleStep cs r) (sym (length-valuesFrom (ruleStep cs) 0 r)) lr
     ∙ ap (λ (l : List ℕ). laid t [] l (stepsTo cs (suc r))) (ap (λ (k : ℕ). values (ruleStep cs) r ++ (ruleStep cs k ∷ [])) (sym (zero-add r)) ∙ sym (valuesFrom-snoc (ruleStep cs) 0 r))
     ∙ ap (λ (k : ℕ). laid t [] (values (ruleStep cs) k) (stepsTo cs k)) (sym (add-one r))
+
+-- ---- the whole plan
+pub forms-laid : (cs ps p0 p1 : List ℕ) → planCount ≤ length ps → length (made cs (formCount cs) .steps) ≤ 512 → p0 ≡ blank planCount 0 ps → p1 ≡ withSteps p0 0 (made cs (formCount cs) .steps) → p1 ≡ laid (drop planCount ps) [] [] (stepsTo cs 0)
+unfolding stepsTo
+forms-laid cs ps p0 p1 l few e f = f ∙ ap (λ (p : List ℕ). withSteps p 0 (made cs (formCount cs) .steps)) (e ∙ blank-laid ps l) ∙ store-steps (drop planCount ps) [] [] [] 0 (made cs (formCount cs) .steps) refl (omega arith)
+
+pub plan-laid : (cs t p2 : List ℕ) (m : ℕ) → p2 ≡ laid t [] (values (ruleStep cs) (ruleCount cs)) (stepsTo cs (ruleCount cs)) → m ≡ length (stepsOf cs) → set p2 0 m ≡ planOf cs ++ t
+unfolding planOf planCells stepsOf
+plan-laid cs t p2 m e f = ap₂ (λ (p : List ℕ) (n : ℕ). set p 0 n) e f ∙ store-count t (values (ruleStep cs) (ruleCount cs)) (stepsTo cs (ruleCount cs)) (length (stepsTo cs (ruleCount cs)))

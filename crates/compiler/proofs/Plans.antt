@@ -19,12 +19,12 @@ use Rattle.model.specs.Rules.{violates}
 use Rattle.tables.specs.Layout.{formCount, ruleCount}
 use Rattle.tables.specs.Decode.{graphAt, shapeAt, schemaAt, ruleAt}
 use Rattle.tables.specs.WellFormed.{wellFormed}
+use Rattle.tables.proofs.WellFormed.{Sound, sound}
 use Rattle.plan.specs.Steps.{Step}
 use Rattle.plan.specs.Layout.{planCount, stepCount, ruleStepAt, stepAt, planCells}
 use Rattle.plan.specs.Sets.{setBy, setAt}
 use Rattle.plan.specs.WellFormed.{stepOk, planWellFormed}
 use Rattle.plan.proofs.ReadBack.{length-plan, read-count, read-rule, read-step}
-use Rattle.plan.proofs.Decoding.{forms-few, rules-few}
 use Rattle.compiler.specs.Compile.{made, stepsTo, stepsOf, ruleStep, planOf}
 use Rattle.compiler.proofs.Right.{Has}
 use Rattle.compiler.proofs.Whole.{has-all, entry-sets, rule-set, rule-low}
@@ -44,9 +44,12 @@ unfolding planOf
 plan-count cs t = read-count (stepsOf cs) (values (ruleStep cs) (ruleCount cs)) t
 
 module _ (cs : List ℕ) (ok : wellFormed cs ≡ true) where
+  fine : Sound cs
+  fine = sound cs ok
+
   -- so at most 512
   pub plan-fits : length (stepsOf cs) ≤ 512
-  plan-fits = omega (arith, plan-few cs, forms-few cs ok, rules-few cs ok)
+  plan-fits = omega (arith, plan-few cs, fine .forms, fine .rules)
 
   module _ (t : List ℕ) where
     abbrev plan : List ℕ
@@ -54,7 +57,7 @@ module _ (cs : List ℕ) (ok : wellFormed cs ≡ true) where
 
     pub plan-rule : (r : ℕ) → r < ruleCount cs → ruleStepAt plan r ≡ ruleStep cs r
     unfolding planOf
-    plan-rule r l = read-rule (stepsOf cs) (values (ruleStep cs) (ruleCount cs)) t r (omega (arith, rules-few cs ok)) ∙ at-values (ruleStep cs) (ruleCount cs) r 0 l
+    plan-rule r l = read-rule (stepsOf cs) (values (ruleStep cs) (ruleCount cs)) t r (omega (arith, fine .rules)) ∙ at-values (ruleStep cs) (ruleCount cs) r 0 l
 
     pub plan-step : (k : ℕ) → k < length (stepsOf cs) → stepAt plan k ≡ getD (stepsOf cs) k Step.all
     unfolding planOf
@@ -67,15 +70,15 @@ module _ (cs : List ℕ) (ok : wellFormed cs ≡ true) where
     module _ (vs : List ℤ) where
       pub plan-keeps : (e : ℕ) → e < formCount cs → setAt cs vs plan (made cs (formCount cs) .keep e) ≡ conforms (graphAt cs vs) (shapeAt cs vs e)
       unfolding setAt
-      plan-keeps e l = entry-sets cs ok vs (stepAt plan) plan-has e l .keeps
+      plan-keeps e l = entry-sets cs fine vs (stepAt plan) plan-has e l .keeps
 
       pub plan-breaks : (e : ℕ) → e < formCount cs → setAt cs vs plan (made cs (formCount cs) .brk e) ≡ (λ v. not (conforms (graphAt cs vs) (shapeAt cs vs e) v))
       unfolding setAt
-      plan-breaks e l = entry-sets cs ok vs (stepAt plan) plan-has e l .breaks
+      plan-breaks e l = entry-sets cs fine vs (stepAt plan) plan-has e l .breaks
 
       pub plan-violates : (r : ℕ) → r < ruleCount cs → setAt cs vs plan (ruleStepAt plan r) ≡ violates (graphAt cs vs) (schemaAt cs vs) (ruleAt cs r)
       unfolding setAt
-      plan-violates r l = ap (setBy cs vs (stepAt plan)) (plan-rule r l) ∙ rule-set cs ok vs (stepAt plan) plan-has r l
+      plan-violates r l = ap (setBy cs vs (stepAt plan)) (plan-rule r l) ∙ rule-set cs fine vs (stepAt plan) plan-has r l
 
     -- ---- the plan is well formed: never 9
     pub plan-well-formed : planWellFormed cs plan ≡ true
@@ -84,5 +87,5 @@ module _ (cs : List ℕ) (ok : wellFormed cs ≡ true) where
         and-both (leb (stepCount plan) 512) (every (λ k. stepOk cs k (stepAt plan k)) (stepCount plan) && every (λ r. ltb (ruleStepAt plan r) (stepCount plan)) (ruleCount cs))
         (le-leb (stepCount plan) 512 (omega (arith, plan-count cs t, plan-fits)))
         (and-both (every (λ k. stepOk cs k (stepAt plan k)) (stepCount plan)) (every (λ r. ltb (ruleStepAt plan r) (stepCount plan)) (ruleCount cs))
-        (every-all (λ k. stepOk cs k (stepAt plan k)) (stepCount plan) (λ k l. let m : k < length (stepsOf cs) = omega (arith, l, plan-count cs t) in ap (stepOk cs k) (plan-step k m) ∙ steps-fine cs ok k m))
+        (every-all (λ k. stepOk cs k (stepAt plan k)) (stepCount plan) (λ k l. let m : k < length (stepsOf cs) = omega (arith, l, plan-count cs t) in ap (stepOk cs k) (plan-step k m) ∙ steps-fine cs fine k m))
         (every-all (λ r. ltb (ruleStepAt plan r) (stepCount plan)) (ruleCount cs) (λ r l. lt-ltb (ruleStepAt plan r) (stepCount plan) (omega (arith, plan-count cs t, plan-rule r l, rule-low cs r l)))))

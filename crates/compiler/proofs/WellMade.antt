@@ -19,14 +19,14 @@ use Rattle.model.specs.Rules.{Target, targetNode, subjectsOf, objectsOf, target
 use Rattle.tables.specs.Layout.{noNumber, nodeCount, linkCount, pathCount, formCount, shapeCount, ruleCount, rootAt, ruleShapeAt, ruleTargetAt, ruleOperandAt}
 use Rattle.tables.specs.Entries.{Entry}
 use Rattle.tables.specs.Decode.{entryAt, targetOf, ruleAt}
-use Rattle.tables.specs.WellFormed.{upperOk, entryOk, ruleOk, wellFormed}
+use Rattle.tables.specs.WellFormed.{upperOk, entryOk, ruleOk}
+use Rattle.tables.proofs.WellFormed.{Sound}
 use Rattle.plan.specs.Steps.{Step}
 use Rattle.plan.specs.Sets.{testOf, linksOf}
 use Rattle.plan.specs.WellFormed.{testOk, closedOk, stepOk}
-use Rattle.plan.proofs.Decoding.{entries-ok, root-low, rules-ok, rule-shape}
 use Rattle.compiler.specs.Compile.{Part, two, countPart, entryPart, more, made, targetStep, ruleSteps, stepsTo, stepsOf}
 use Rattle.compiler.proofs.Right.{Has}
-use Rattle.compiler.proofs.Whole.{has-all, start, own, start-more, right, length-to, forms-first}
+use Rattle.compiler.proofs.Whole.{has-all, start, own, start-more, right, length-to, forms-first, rule-shape}
 
 -- an entry has at most four steps
 pub entry-four : (cs : List ℕ) (keep brk : ℕ → ℕ) (s e : ℕ) (x : Entry) → length (entryPart cs keep brk s e x .steps) ≤ 4
@@ -192,17 +192,17 @@ module _ (cs : List ℕ) where
   target-fine (suc (suc (suc zero))) a s o = o
   target-fine (suc (suc (suc (suc k)))) a s o = absurd (true≢false (sym o))
 
-  module _ (ok : wellFormed cs ≡ true) where
+  module _ (ok : Sound cs) where
     -- the two steps of each entry below n are before entry n's
     lows : (n : ℕ) → n ≤ formCount cs → (j : ℕ) → j < n → (made cs n .keep j < start cs n) × (made cs n .brk j < start cs n)
     lows n l j lj =
-        let r = right cs [] (λ k. getD (made cs n .steps) k Step.all) n (λ e le. entries-ok cs ok [] e (omega arith)) (has-all (λ k. getD (made cs n .steps) k Step.all) 0 (made cs n .steps) (λ i l. ap (λ (k : ℕ). getD (made cs n .steps) k Step.all) (let z : 0 + i ≡ i = omega arith in z))) j lj in
+        let r = right cs [] (λ k. getD (made cs n .steps) k Step.all) n (λ e le. ok .entry [] e (omega arith)) (has-all (λ k. getD (made cs n .steps) k Step.all) 0 (made cs n .steps) (λ i l. ap (λ (k : ℕ). getD (made cs n .steps) k Step.all) (let z : 0 + i ≡ i = omega arith in z))) j lj in
         (r .keepLow, r .breakLow)
 
     made-fine : (n : ℕ) → n ≤ formCount cs → Fine 0 (made cs n .steps)
     unfolding made more
     made-fine zero l = tt
-    made-fine (suc n) l = fine-more (made cs n .steps) (own cs n .steps) (made-fine n (omega arith)) (entry-fine (made cs n .keep) (made cs n .brk) (start cs n) n (omega arith) (lows n (omega arith)) (entryAt cs [] n) refl (entries-ok cs ok [] n (omega arith)))
+    made-fine (suc n) l = fine-more (made cs n .steps) (own cs n .steps) (made-fine n (omega arith)) (entry-fine (made cs n .keep) (made cs n .brk) (start cs n) n (omega arith) (lows n (omega arith)) (entryAt cs [] n) refl (ok .entry [] n (omega arith)))
 
     -- the two steps of a rule
     rule-fine : (r : ℕ) → r < ruleCount cs → Fine (length (stepsTo cs r)) (ruleSteps cs r (length (stepsTo cs r)))
@@ -210,8 +210,8 @@ module _ (cs : List ℕ) where
     rule-fine r l =
         let n : ℕ = length (stepsTo cs r) in
         let b : ℕ = made cs (formCount cs) .brk (rootAt cs (ruleShapeAt cs r)) in
-        let m = lows (formCount cs) (omega arith) (rootAt cs (ruleShapeAt cs r)) (root-low cs ok (ruleShapeAt cs r) (rule-shape cs ok r l)) in
-        (target-fine (ruleTargetAt cs r) (ruleOperandAt cs r) n (and-right (ltb (ruleShapeAt cs r) (shapeCount cs)) _ (rules-ok cs ok r l)), (and-both (ltb n (n + 1)) (ltb b (n + 1)) (lt-ltb n (n + 1) (omega arith)) (lt-ltb b (n + 1) (omega (arith, forms-first cs r, m .1))), tt))
+        let m = lows (formCount cs) (omega arith) (rootAt cs (ruleShapeAt cs r)) (ok .root (ruleShapeAt cs r) (rule-shape cs ok r l)) in
+        (target-fine (ruleTargetAt cs r) (ruleOperandAt cs r) n (and-right (ltb (ruleShapeAt cs r) (shapeCount cs)) _ (ok .rule r l)), (and-both (ltb n (n + 1)) (ltb b (n + 1)) (lt-ltb n (n + 1) (omega arith)) (lt-ltb b (n + 1) (omega (arith, forms-first cs r, m .1))), tt))
 
     rules-fine : (r : ℕ) → r ≤ ruleCount cs → Fine 0 (stepsTo cs r)
     unfolding stepsTo

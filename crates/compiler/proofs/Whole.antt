@@ -6,20 +6,24 @@ use mathlib.Core.Path.{_≡_, refl, sym, ap, ap₂, _∙_, subst}
 use mathlib.Core.Logic.{⊎-elim}
 use native.Mathlib.Nat.{eq-or-lt-of-le, le-of-suc-le-suc, le-of-eq}
 use native.Mathlib.Omega.{arith}
-use lib.Dec.{eqb}
-use lib.ListN.{getD, length, length-append}
+use lib.Dec.{eqb, ltb}
+use lib.ListN.{getD, length, length-append, List·getD-map}
 use lib.IntN.{ℤ}
-use borrow.Author.Tests.{eq-eqb, ne-eqb}
+use borrow.Author.Tests.{eq-eqb, ne-eqb, ltb-true}
 use Rattle.base.specs.Numbered.{below}
-use Rattle.base.proofs.Numbered.{at-number, below-number}
+use Rattle.base.proofs.Numbered.{below-number}
+use Rattle.base.proofs.Bools.{and-left}
+use Rattle.base.proofs.Lists.{at-values}
 use Rattle.model.specs.Shapes.{Shape, conforms, def}
 use Rattle.model.specs.Rules.{Target, targetNode, subjectsOf, objectsOf, targetClass, selects, violates}
-use Rattle.tables.specs.Layout.{formCount, shapeCount, ruleCount, rootAt, ruleShapeAt}
+use Rattle.tables.specs.Layout.{formCount, shapeCount, ruleCount, formCodeAt, formFirstAt, formSecondAt, formThirdAt, formFourthAt, limitAt, rootAt, ruleShapeAt}
+use Rattle.tables.specs.Entries.{Entry, entryOf}
 use Rattle.tables.specs.Decode.{graphAt, shapeOf, shapeAt, schemaAt, entryAt, ruleAt}
-use Rattle.tables.specs.WellFormed.{entryOk, wellFormed}
+use Rattle.tables.specs.WellFormed.{entryOk, ruleOk}
+use Rattle.tables.proofs.WellFormed.{Sound}
+use Rattle.tables.proofs.Decode.{shape-number}
 use Rattle.plan.specs.Steps.{Step}
 use Rattle.plan.specs.Sets.{inStep, setBy}
-use Rattle.plan.proofs.Decoding.{value-free, entries-ok, root-low, rule-shape, schema-at}
 use Rattle.compiler.specs.Compile.{Part, entryPart, Made, putAt, more, made, targetStep, ruleSteps, stepsTo, stepsOf, ruleStep}
 use Rattle.compiler.proofs.Right.{Has, Sets, entry-right, set-at, set-both, ext}
 
@@ -74,8 +78,20 @@ module _ (cs : List ℕ) where
 
     -- V makes no difference to the steps
     own-free : (n : ℕ) → entryPart cs (made cs n .keep) (made cs n .brk) (start n) n (entryAt cs vs n) ≡ own n
-    unfolding entryPart
-    own-free n = value-free (entryPart cs (made cs n .keep) (made cs n .brk) (start n) n) (λ x y. (refl, refl, refl, refl)) cs vs [] n
+    unfolding entryPart entryAt entryOf
+    own-free n = sym (List·getD-map part (list (limitAt vs n)) (formCodeAt cs n) Entry.bad) ∙ List·getD-map part (list (limitAt [] n)) (formCodeAt cs n) Entry.bad
+      where
+        part : Entry → Part
+        part = entryPart cs (made cs n .keep) (made cs n .brk) (start n) n
+
+        a : ℕ
+        a = formFirstAt cs n
+
+        b : ℕ
+        b = formSecondAt cs n
+
+        list : ℤ → List Entry
+        list x = Entry.top ∷ Entry.is a ∷ Entry.shape a ∷ Entry.conj a b ∷ Entry.disj a b ∷ Entry.neg a ∷ Entry.kind a ∷ Entry.datatype a ∷ Entry.lang a b ∷ Entry.from x ∷ Entry.above x ∷ Entry.to x ∷ Entry.under x ∷ Entry.count a b (formThirdAt cs n) (formFourthAt cs n) ∷ Entry.all a b ∷ Entry.equal a b ∷ Entry.apart a b ∷ Entry.closed a b ∷ Entry.less a b ∷ Entry.lesseq a b ∷ Entry.onelang a ∷ []
 
     -- one more entry
     right-more : (n : ℕ) → entryOk cs n (entryAt cs vs n) ≡ true → Has at 0 (made cs (suc n) .steps) → ((j : ℕ) → j < n → RightAt n j) → (e : ℕ) → e < suc n → RightAt (suc n) e
@@ -89,7 +105,7 @@ module _ (cs : List ℕ) where
             (has-rest at (made cs n .steps) (own n .steps) st)
 
         here : e ≡ n → RightAt (suc n) e
-        here q = moved cs vs at (start n + length (own n .steps)) (start (suc n)) _ _ _ _ _ _ new (le-of-eq (sym (start-more n))) (put-same (made cs n .keep) n _ e q) (put-same (made cs n .brk) n _ e q) (ap (conforms (graphAt cs vs)) (sym (at-number Shape.top (λ e at. shapeOf cs (entryAt cs vs e) at) n) ∙ ap (shapeAt cs vs) (sym q)))
+        here q = moved cs vs at (start n + length (own n .steps)) (start (suc n)) _ _ _ _ _ _ new (le-of-eq (sym (start-more n))) (put-same (made cs n .keep) n _ e q) (put-same (made cs n .brk) n _ e q) (ap (conforms (graphAt cs vs)) (sym (shape-number cs n vs) ∙ ap (shapeAt cs vs) (sym q)))
 
         earlier : e < n → RightAt (suc n) e
         earlier l′ = moved cs vs at (start n) (start (suc n)) _ _ _ _ _ _ (ih e l′) (let z : start (suc n) ≡ start n + length (own n .steps) = start-more n in omega arith) (put-other (made cs n .keep) n _ e (λ q. let z : ⊥ = omega arith in z)) (put-other (made cs n .brk) n _ e (λ q. let z : ⊥ = omega arith in z)) refl
@@ -131,11 +147,21 @@ module _ (cs : List ℕ) where
   target-set vs at k (objectsOf l) e = set-at cs vs at k (Step.into l) e
   target-set vs at k (targetClass c) e = set-at cs vs at k (Step.typed c) e
 
+  -- a rule's shape is there
+  pub rule-shape : Sound cs → (r : ℕ) → r < ruleCount cs → ruleShapeAt cs r < shapeCount cs
+  unfolding ruleOk
+  rule-shape ok r l = ltb-true (ruleShapeAt cs r) (shapeCount cs) (and-left (ltb (ruleShapeAt cs r) (shapeCount cs)) _ (ok .rule r l))
+
+  -- the shape that the schema defines under a number
+  schema-at : (vs : List ℤ) (s : ℕ) → s < shapeCount cs → def (schemaAt cs vs) s ≡ shapeAt cs vs (rootAt cs s)
+  unfolding schemaAt
+  schema-at vs s l = at-values (λ s. shapeAt cs vs (rootAt cs s)) (shapeCount cs) s Shape.top l
+
   -- in a plan that has the steps of the tables: each entry's two sets, and each rule's set
-  module _ (ok : wellFormed cs ≡ true) (vs : List ℤ) (at : ℕ → Step) (st : Has at 0 (stepsOf cs)) where
+  module _ (ok : Sound cs) (vs : List ℤ) (at : ℕ → Step) (st : Has at 0 (stepsOf cs)) where
     pub entry-sets : (e : ℕ) → e < formCount cs → RightAt vs at (formCount cs) e
     unfolding stepsOf stepsTo
-    entry-sets e l = right vs at (formCount cs) (entries-ok cs ok vs) (has-to at (ruleCount cs) 0 (omega arith) st) e l
+    entry-sets e l = right vs at (formCount cs) (ok .entry vs) (has-to at (ruleCount cs) 0 (omega arith) st) e l
 
     pub rule-set : (r : ℕ) → r < ruleCount cs → setBy cs vs at (ruleStep cs r) ≡ violates (graphAt cs vs) (schemaAt cs vs) (ruleAt cs r)
     unfolding stepsOf stepsTo ruleSteps ruleStep violates ruleAt
@@ -144,6 +170,6 @@ module _ (cs : List ℕ) where
         let n : ℕ = length (stepsTo cs r) in
         let two : Has at (length (stepsTo cs r)) (ruleSteps cs r (length (stepsTo cs r))) = has-rest at (stepsTo cs r) (ruleSteps cs r (length (stepsTo cs r))) h in
         let root : ℕ = rootAt cs (ruleShapeAt cs r) in
-        let q = entry-sets root (root-low cs ok (ruleShapeAt cs r) (rule-shape cs ok r l)) in
+        let q = entry-sets root (ok .root (ruleShapeAt cs r) (rule-shape ok r l)) in
         set-both cs vs at (n + 1) n (selects (graphAt cs vs) (ruleAt cs r .target)) (omega arith) (target-set vs at n (ruleAt cs r .target) (two .0)) (made cs (formCount cs) .brk root) (λ v. not (conforms (graphAt cs vs) (shapeAt cs vs root) v)) (omega (arith, q .breakLow, forms-first r)) (q .breaks) (two .1 .0)
-        ∙ ap (λ (φ : Shape). λ v. selects (graphAt cs vs) (ruleAt cs r .target) v && not (conforms (graphAt cs vs) φ v)) (sym (schema-at cs vs (ruleShapeAt cs r) (rule-shape cs ok r l)))
+        ∙ ap (λ (φ : Shape). λ v. selects (graphAt cs vs) (ruleAt cs r .target) v && not (conforms (graphAt cs vs) φ v)) (sym (schema-at vs (ruleShapeAt cs r) (rule-shape ok r l)))

@@ -1,8 +1,8 @@
 -- What the functions of this crate leave in a lent plan while it is filled. Nothing here is promised to a caller.
 use Prim.Native.Nat.{ℕ, _+_, _≤_}
-use mathlib.Core.List.{List, [], _∷_, _++_}
+use mathlib.Core.List.{List, [], _∷_}
 use mathlib.Core.Path.{_≡_}
-use lib.ListN.{getD, length, set, replicate, drop}
+use lib.ListN.{getD, length, set}
 use Rattle.model.specs.Limits.{maxForms, maxRules}
 use Rattle.tables.specs.Layout.{formCount, ruleCount}
 use Rattle.tables.specs.Decode.{ruleAt}
@@ -37,10 +37,6 @@ pub record FormsAdded (cs ps qs : List ℕ) (e n : ℕ) (brk : List ℕ) : Type 
 -- ps with the two steps of rule r from n on, and its step's number; b is the step of the shape's breaks
 unfoldable pub ruleStored : List ℕ → List ℕ → ℕ → ℕ → ℕ → List ℕ
 ruleStored cs ps r n b = set (withSteps ps n (targetStep (ruleAt cs r .target) ∷ Step.both n b ∷ [])) (ruleSteps + r) (n + 1)
-
--- a plan's cells as zeros
-unfoldable pub blankPlan : List ℕ → List ℕ
-blankPlan ps = replicate planCount 0 ++ drop planCount ps
 
 -- what a function that fills a plan asks for
 pub record Fits (cs ps : List ℕ) : Type 0 where

@@ -1,8 +1,13 @@
 // Tables to a plan.
+use model::Refusal;
 use plan::PLAN_CELLS;
 use plan::RULE_STEPS;
+use plan::clear_plan;
 use plan::put_step;
+use tablecheck::well_formed;
+use tables::layout::CELLS;
 use tables::layout::NO_NUMBER;
+use tables::lent::enough;
 use tables::reads::form_code;
 use tables::reads::form_count;
 use tables::reads::form_first;
@@ -19,16 +24,17 @@ use tables::reads::rule_shape;
 use tables::reads::rule_target;
 use tables::reads::wide;
 ghost use mathlib.Core.Path.{_≡_};
-ghost use mathlib.Core.List.{List, [], _∷_};
+ghost use mathlib.Core.List.{List, [], _∷_, _++_};
 ghost use Prim.Native.Nat.{ℕ, _+_, _<_, _≤_};
-ghost use lib.ListN.{length, getD, replicate};
+ghost use lib.ListN.{length, getD, replicate, drop};
 ghost use Rattle.base.specs.Lists.{values};
 ghost use Rattle.tables.specs.Layout.{formCount, ruleCount, formFirstAt, formSecondAt, formThirdAt, formFourthAt, rootAt, ruleShapeAt};
 ghost use Rattle.tables.specs.Decode.{entryAt, ruleAt};
 ghost use Rattle.plan.specs.Steps.{numbersOf};
 ghost use Rattle.plan.specs.Layout.{planCount, withNumbers, laid};
-ghost use Rattle.compiler.specs.Compile.{taken, countPart, entryPart, made, targetStep, stepsTo, ruleStep};
-ghost use Rattle.compiler.specs.Stores.{numberIn, TwoAdded, Added, FormsAdded, ruleStored, blankPlan, Fits};
+ghost use Rattle.compiler.specs.Compile.{countPart, entryPart, made, targetStep, stepsTo, stepsOf, ruleStep, planOf};
+ghost use Rattle.compiler.specs.Stores.{numberIn, TwoAdded, Added, FormsAdded, ruleStored, Fits};
+ghost use Rattle.compiler.specs.Answers.{answerOf, compileAnswer, planAfter};
 
 // What an entry adds: the number of the next step, and the entry's own two.
 pub struct Out {
@@ -259,16 +265,6 @@ fn compile_entry(
     }
 }
 
-// The plan's cells become zero.
-fn clear(plan: &mut [u16])
-    requires { ⌜ planCount ≤ length (now plan) ⌝ }
-    ensures { λ _. ⌜ now (plan .exit) ≡ blankPlan (now (plan .entry)) ⌝ }
-{
-    for i in 0..PLAN_CELLS {
-        plan[i] = 0;
-    }
-}
-
 // The steps of all entries; breaks gets each entry's breaking step.
 fn fill_forms(plan: &mut [u16], breaks: &mut [u16], cells: &[u16]) -> usize
     requires { ⌜ Fits (now cells) (now plan) × (now breaks ≡ replicate 112 0) ⌝ }
@@ -325,4 +321,43 @@ fn fill_rules(plan: &mut [u16], cells: &[u16], breaks: &[u16], first: usize) -> 
         n += 2;
     }
     n
+}
+
+// The plan of well-formed tables, and how many steps it has.
+fn make_plan(plan: &mut [u16], cells: &[u16]) -> usize
+    requires { ⌜ Fits (now cells) (now plan) ⌝ }
+    ensures { λ r. ⌜ r ≡ length (stepsOf (now (cells .entry))) ⌝ }
+    ensures { λ _. ⌜ now (plan .exit) ≡ planOf (now (cells .entry)) ++ drop planCount (now (plan .entry)) ⌝ }
+{
+    clear_plan(plan);
+    let mut breaks = [0u16; 112];
+    let n = fill_forms(plan, &mut breaks, cells);
+    let m = fill_rules(plan, cells, &breaks, n);
+    plan[0] = narrow(m);
+    m
+}
+
+// What compiling answers: how many steps the plan has, or why there is none.
+pub enum Compiled {
+    Steps(usize),
+    Refused(Refusal),
+}
+
+// The operation: the plan of the tables, in the cells of a lent plan. Refused: tables or plan too short, then tables not well
+// formed; nothing changes then. What lies past the cells of a plan stays.
+pub fn compile(names: &[u8], cells: &[u16], values: &[i64], plan: &mut [u16]) -> Compiled
+    ensures { λ r. ⌜ answerOf r ≡ compileAnswer (now (names .entry)) (now (cells .entry)) (now (values .entry)) (now (plan .entry)) ⌝ }
+    ensures { λ _. ⌜ now (plan .exit) ≡ planAfter (now (names .entry)) (now (cells .entry)) (now (values .entry)) (now (plan .entry)) ⌝ }
+{
+    if !enough(names, cells, values) {
+        return Compiled::Refused(Refusal::Short);
+    }
+    if plan.len() < PLAN_CELLS {
+        return Compiled::Refused(Refusal::Short);
+    }
+    let part = &cells[..CELLS];
+    if !well_formed(part) {
+        return Compiled::Refused(Refusal::Malformed);
+    }
+    Compiled::Steps(make_plan(plan, part))
 }

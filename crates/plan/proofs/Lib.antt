@@ -1,4 +1,3 @@
 pub mod Complements
 pub mod Stores
 pub mod ReadBack
-pub mod Decoding

@@ -3,7 +3,7 @@ use Prim.Native.Nat.{ℕ, _+_, _≤_, _<_, zero-le}
 use mathlib.Core.Path.{_≡_, refl, sym, ap, _∙_}
 use denote.Ref.{now}
 use native.Mathlib.Omega.{arith}
-use Rattle.tables.proofs.Codes.{next}
+use Rattle.tablecheck.proofs.Codes.{next}
 use Rattle.compiler.proofs.Arms.{arm-top, arm-is, arm-shape, arm-conj, arm-disj, arm-neg, arm-test, arm-count, arm-all, arm-equal, arm-apart, arm-closed, arm-less, arm-lesseq, arm-onelang, arm-unknown}
 -- end
 use borrow.Author.Needs.{needs}

@@ -5,7 +5,7 @@ use mathlib.Core.Path.{_≡_, refl, sym, ap, _∙_, subst}
 use denote.Ref.{now}
 use native.Mathlib.Omega.{arith}
 use lib.ListN.{getD, length, set, replicate, drop, length-set, length-replicate}
-use Rattle.tables.proofs.Codes.{next}
+use Rattle.tablecheck.proofs.Codes.{next}
 use Rattle.compiler.proofs.Loops.{target-node, target-subjects, target-objects, target-class}
 -- end
 use borrow.Author.Needs.{needs}
