@@ -7,7 +7,7 @@
 //   add_ends         a set gains all ends from the members of another set
 //   add_table_ends   the same over the facts of the tables
 //   follow           the same for sets side by side
-mod reads;
+pub mod reads;
 
 use crate::reads::fact_count;
 use crate::reads::node_count;
