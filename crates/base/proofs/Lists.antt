@@ -83,3 +83,13 @@ module _ {A : Type 0} (p : A → Bool) where
   unfolding allb
   allb-all [] d h = refl
   allb-all (x ∷ l) d h = and-both (p x) (allb p l) (h 0 (omega arith)) (allb-all l d (λ i k. h (suc i) (omega arith)))
+
+-- a weaker test of every element
+pub allb-weaker : {A : Type 0} (p q : A → Bool) (xs : List A) → ((x : A) → p x ≡ true → q x ≡ true) → allb p xs ≡ true → allb q xs ≡ true
+unfolding allb
+allb-weaker p q [] h e = refl
+allb-weaker p q (x ∷ xs) h e = and-both (q x) (allb q xs) (h x (and-left (p x) (allb p xs) e)) (allb-weaker p q xs h (and-right (p x) (allb p xs) e))
+
+-- ys goes on where xs ends
+abbrev pub Extends : {A : Type 0} → List A → List A → Type 0
+Extends {A} xs ys = (t : List A) × (ys ≡ xs ++ t)

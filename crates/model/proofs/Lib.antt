@@ -2,3 +2,4 @@ pub mod Cases
 pub mod Traps
 pub mod Logic
 pub mod Refusals
+pub mod Lines

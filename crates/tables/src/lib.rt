@@ -1,8 +1,7 @@
-// The lent tables of a read book.
-ghost use mathlib.Core.Path.{_≡_};
-
-pub fn bound(n: usize) -> usize
-    ensures { λ r. ⌜ r ≡ n ⌝ }
-{
-    n
-}
+// The lent tables of a read book: where everything stands (layout), typed reads (reads), and whether they are long enough,
+// with zeros up to the limit (lent). The definitions say what tables mean (specs/Decode.antt) and when they are well
+// formed (specs/WellFormed.antt); the crate tablecheck decides the latter.
+// Operations: none. The crates above call these functions; each takes any content of any length.
+pub mod layout;
+pub mod lent;
+pub mod reads;

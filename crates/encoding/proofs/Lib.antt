@@ -1,0 +1,10 @@
+pub mod Places
+pub mod Counts
+pub mod Graph
+pub mod Paths
+pub mod Shapes
+pub mod Schema
+pub mod WellFormed
+pub mod Names
+pub mod Unused
+pub mod Empty

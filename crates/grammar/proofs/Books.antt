@@ -1,0 +1,228 @@
+-- The two statements of the grammar are one: the reading accepts a text as a book exactly when the book is valid and renders to it.
+use Prim.Native.Nat.{ℕ, zero, suc, _+_, _≤_, _<_}
+use mathlib.Core.Path.{_≡_, refl, sym, ap, ap₂, _∙_, subst}
+use mathlib.Core.List.{List, [], _∷_, _++_, append-nil, append-assoc}
+use mathlib.Core.Bool.{Bool, true, false, not, cond, _&&_, _||_}
+use mathlib.Core.Logic.{_⊎_, inl, inr, ⊎-elim, _↔_}
+use native.Mathlib.Nat.{le-refl, eq-or-lt-of-le, le-of-suc-le-suc}
+use native.Mathlib.Numerals.{add-one}
+use native.Mathlib.Omega.{arith}
+use lib.Dec.{eqb, ltb, leb}
+use lib.ListN.{length, getD, length-append, List·getD-append}
+use lib.Seq.{getD-append-seam}
+use borrow.Author.Tests.{eqb-true, ltb-true, ltb-false, lt-ltb, le-ltb, leb-true, le-leb, not-true}
+use Rattle.base.specs.Lists.{anyb, allb}
+use Rattle.base.specs.Bytes.{bytes, eql}
+use Rattle.base.proofs.Bools.{bool-cases, and-left, and-right, and-both, never-both}
+use Rattle.base.proofs.Lists.{Extends}
+use Rattle.text.specs.Items.{isName, nameByte}
+use Rattle.text.proofs.Spans.{Span, span-join, span-split, span-whole, span-all, span-nothing, span-none, span-length}
+use Rattle.model.specs.Limits.{maxBytes}
+use Rattle.model.specs.Books.{Name, Line, link, type, lang, node, fact, shape, rule, Book, Pool, nodes, links, types, langs, shapes, poolNumber, builtIn, joins, newNames, collect, names}
+use Rattle.model.specs.Valid.{lineOk, admissibleFrom, admissible}
+use Rattle.model.proofs.Lines.{names-snoc, same-pool, forms-within, paths-within, items-within}
+use Rattle.grammar.specs.Writing.{nameOf, writeLine, renderFrom, render}
+use Rattle.grammar.specs.Valid.{lineDepth, reserved, wellNamed, newName, namesOk, validLine, validFrom, valid}
+use Rattle.grammar.specs.Reading.{Read, got, refused, begunAbove, lineAt, Outcome, accepted, turnedDown, follow, linesFrom, reading}
+use Rattle.grammar.proofs.Leaves.{Pools, fresh-nothing}
+use Rattle.grammar.proofs.Args.{Fit}
+use Rattle.grammar.proofs.Lines.{line-sound, line-complete}
+
+-- ---- the names of a valid book are well made and differ
+record PoolOk (p : Pool) (ws : List Name) : Type 0 where
+  made : (k : ℕ) → k < length ws → wellNamed p (getD ws k []) ≡ true
+  differ : (j k : ℕ) → j < k → k < length ws → getD ws j [] ≡ getD ws k [] → ⊥
+
+-- one more name
+pool-snoc : (p : Pool) (ws : List Name) (n : Name) → PoolOk p ws → wellNamed p n ≡ true → anyb (eql n) ws ≡ false → PoolOk p (ws ++ (n ∷ []))
+pool-snoc p ws n P w f =
+    record {
+      made = λ k l. ⊎-elim
+          (λ e. ap (wellNamed p) (ap (λ (j : ℕ). getD (ws ++ (n ∷ [])) j []) e ∙ getD-append-seam ws n [] []) ∙ w)
+          (λ h. ap (wellNamed p) (List·getD-append ws (n ∷ []) [] k h) ∙ P .made k h)
+          (place k l);
+      differ = λ j k i l q. ⊎-elim
+          (λ e. fresh-nothing ws n f j (omega arith) (sym (List·getD-append ws (n ∷ []) [] j (omega arith)) ∙ q ∙ ap (λ (j : ℕ). getD (ws ++ (n ∷ [])) j []) e ∙ getD-append-seam ws n [] []))
+          (λ h. P .differ j k i h (sym (List·getD-append ws (n ∷ []) [] j (omega arith)) ∙ q ∙ List·getD-append ws (n ∷ []) [] k h))
+          (place k l);
+    }
+  where
+    place : (k : ℕ) → k < length (ws ++ (n ∷ [])) → (k ≡ length ws) ⊎ (k < length ws)
+    place k l = eq-or-lt-of-le (let e = length-append ws (n ∷ []) in omega arith)
+
+module _ (a : Book) (p : Pool) (P : PoolOk p (names p a)) where
+  joined : (q : Pool) (n : Name) → newName a q n ≡ true → PoolOk p (names p a ++ joins p q n)
+  unfolding joins newName
+  joined q n e = bool-cases (λ t. eqb (poolNumber p) (poolNumber q) ≡ t → PoolOk p (names p a ++ cond t (n ∷ []) [])) (eqb (poolNumber p) (poolNumber q))
+      (λ _ s.
+      let i : q ≡ p = sym (same-pool p q (eqb-true (poolNumber p) (poolNumber q) s)) in
+      let e′ = subst (λ (r : Pool). newName a r n ≡ true) i e in
+      pool-snoc p (names p a) n P (and-left (wellNamed p n) (not (anyb (eql n) (names p a))) e′) (not-true (anyb (eql n) (names p a)) (and-right (wellNamed p n) (not (anyb (eql n) (names p a))) e′)))
+      (λ _ _. subst (PoolOk p) (sym (append-nil (names p a))) P) refl
+
+  line-pool : (l : Line) → namesOk a l ≡ true → PoolOk p (names p a ++ newNames p l)
+  unfolding newNames namesOk
+  line-pool (link n) e = joined links n e
+  line-pool (type n) e = joined types n e
+  line-pool (lang n) e = joined langs n e
+  line-pool (node n t) e = joined nodes n e
+  line-pool (fact t) e = subst (PoolOk p) (sym (append-nil (names p a))) P
+  line-pool (shape n φ) e = joined shapes n e
+  line-pool (rule r) e = subst (PoolOk p) (sym (append-nil (names p a))) P
+
+-- one name, or none
+single : (p : Pool) (n : Name) → wellNamed p n ≡ true → PoolOk p (n ∷ [])
+single p n e = record { made = λ k l. subst (λ (j : ℕ). wellNamed p (getD (n ∷ []) j []) ≡ true) (let z : 0 ≡ k = omega arith in z) e; differ = λ j k i l. absurd (omega arith) }
+
+nothing : (p : Pool) → PoolOk p []
+nothing p = record { made = λ k l. absurd (omega arith); differ = λ j k i l. absurd (omega arith) }
+
+start-pool : (p : Pool) → PoolOk p (names p [])
+unfolding names builtIn collect wellNamed reserved isName allb nameByte eql
+start-pool nodes = nothing nodes
+start-pool links = single links (bytes "a") refl
+start-pool types = single types (bytes "langstring") refl
+start-pool langs = nothing langs
+start-pool shapes = nothing shapes
+
+-- ---- the lines above: valid, so their names differ and their entries are within the limits
+pub record Sane (a : Book) : Type 0 where
+  pub valid-above : validFrom [] a ≡ true
+  pools-above : (p : Pool) → PoolOk p (names p a)
+
+valid-more : (a c : Book) (l : Line) → validFrom a c ≡ true → validLine (a ++ c) l ≡ true → validFrom a (c ++ (l ∷ [])) ≡ true
+unfolding validFrom
+valid-more a [] l v e = and-both (validLine a l) true (ap (λ (b : Book). validLine b l) (sym (append-nil a)) ∙ e) refl
+valid-more a (k ∷ c) l v e =
+    and-both (validLine a k) (validFrom (a ++ (k ∷ [])) (c ++ (l ∷ []))) (and-left (validLine a k) (validFrom (a ++ (k ∷ [])) c) v)
+    (valid-more (a ++ (k ∷ [])) c l (and-right (validLine a k) (validFrom (a ++ (k ∷ [])) c) v) (ap (λ (b : Book). validLine b l) (append-assoc a (k ∷ []) c) ∙ e))
+
+sane-start : Sane []
+unfolding validFrom
+sane-start = record { valid-above = refl; pools-above = start-pool }
+
+sane-more : (a : Book) (l : Line) → Sane a → validLine a l ≡ true → Sane (a ++ (l ∷ []))
+unfolding validLine
+sane-more a l S e =
+    record {
+      valid-above = valid-more [] a l (S .valid-above) e;
+      pools-above = λ p. subst (PoolOk p) (sym (names-snoc p a l)) (line-pool a p (S .pools-above p) l (and-left (namesOk a l) (leb (lineDepth l) 32) (and-right (lineOk a l) (namesOk a l && leb (lineDepth l) 32) e)));
+    }
+
+-- a valid book is admissible
+admissible-from : (a b : Book) → validFrom a b ≡ true → admissibleFrom a b ≡ true
+unfolding validFrom admissibleFrom validLine
+admissible-from a [] v = refl
+admissible-from a (l ∷ b) v =
+    and-both (lineOk a l) (admissibleFrom (a ++ (l ∷ [])) b) (and-left (lineOk a l) (namesOk a l && leb (lineDepth l) 32) (and-left (validLine a l) (validFrom (a ++ (l ∷ [])) b) v)) (admissible-from (a ++ (l ∷ [])) b (and-right (validLine a l) (validFrom (a ++ (l ∷ [])) b) v))
+
+pub valid-admissible : (b : Book) → valid b ≡ true → admissible b ≡ true
+unfolding valid admissible
+valid-admissible b v = admissible-from [] b (and-left (validFrom [] b) (leb (length (render b)) 65536) v)
+
+pub pools-of : (a : Book) → Sane a → Pools a
+unfolding nameOf
+pools-of a S = record { named = λ p. S .pools-above p .made; distinct = λ p. S .pools-above p .differ }
+
+pub fit-of : (s : List ℕ) (a : Book) → Sane a → Fit (begunAbove s a)
+unfolding begunAbove admissible
+fit-of s a S =
+    let e : admissible a ≡ true = admissible-from [] a (S .valid-above) in
+    record { forms = forms-within a e; paths = paths-within a e; items = items-within a e }
+
+-- ---- line after line
+accepted-book : {a b : Book} → accepted a ≡ accepted b → a ≡ b
+accepted-book e = cc
+
+either : (t : Bool) (x y : Outcome) (b : Book) → cond t x y ≡ accepted b → ((t ≡ true) × (x ≡ accepted b)) ⊎ ((t ≡ false) × (y ≡ accepted b))
+either true x y b e = inl (refl, e)
+either false x y b e = inr (refl, e)
+
+follows : (line : ℕ) (r : Read Line) (k : Line → ℕ → Outcome) (b : Book) → follow line r k ≡ accepted b → (l : Line) × (next : ℕ) × (r ≡ got l next) × (k l next ≡ accepted b)
+follows line (got l next) k b e = (l, next, refl, e)
+follows line (refused r) k b e = let z : _≡_ {A = ℕ} 0 1 = cc in absurd (omega arith)
+
+module _ (s : List ℕ) where
+  -- the book that a position and the lines above it end in
+  abbrev Rest : ℕ → Book → Book → Type 0
+  Rest at a b = (c : Book) × (b ≡ a ++ c) × (validFrom a c ≡ true) × Span s at (length s) (renderFrom a c)
+
+  ended : (at : ℕ) (a b : Book) → at ≤ length s → length s ≤ at → accepted a ≡ accepted b → Rest at a b
+  unfolding validFrom renderFrom
+  ended at a b h k e = ([], sym (accepted-book e) ∙ sym (append-nil a), refl, subst (λ (n : ℕ). Span s at n []) (let z : at ≡ length s = omega arith in z) (span-nothing s at h))
+
+  one-more : (at nx : ℕ) (a b : Book) (l : Line) → Span s at nx (writeLine a l ++ (10 ∷ [])) → validLine a l ≡ true → Rest nx (a ++ (l ∷ [])) b → Rest at a b
+  unfolding validFrom renderFrom
+  one-more at nx a b l p v (c, e, w, q) = (
+    l ∷ c,
+    e ∙ append-assoc a (l ∷ []) c,
+    and-both (validLine a l) (validFrom (a ++ (l ∷ [])) c) v w,
+    subst (λ (t : List ℕ). Span s at (length s) t) (append-assoc (writeLine a l) (10 ∷ []) (renderFrom (a ++ (l ∷ [])) c)) (span-join p q),
+  )
+
+  longer : (at nx : ℕ) (w : List ℕ) → Span s at nx (w ++ (10 ∷ [])) → at < nx
+  longer at nx w p = omega (arith, span-length p, length-append w (10 ∷ []), p .from)
+
+  lines-sound : (fuel at line : ℕ) (a : Book) → Sane a → at ≤ length s → length s ≤ at + fuel → (b : Book) → linesFrom s fuel at line a ≡ accepted b → Rest at a b
+  unfolding linesFrom
+  lines-sound zero at line a S h f b e = ended at a b h (omega arith) e
+  lines-sound (suc fuel) at line a S h f b e = ⊎-elim
+      (λ t.
+      let (l, nx, r, g) = follows (line + 1) (lineAt s a at) (λ l next. linesFrom s fuel next (line + 1) (a ++ (l ∷ []))) b (t .1) in
+      let u = line-sound s a (pools-of a S) (fit-of s a S) at h l nx r in
+      let m = longer at nx (writeLine a l) (u .0) in
+      one-more at nx a b l (u .0) (u .1) (lines-sound fuel nx (line + 1) (a ++ (l ∷ [])) (sane-more a l S (u .1)) (u .0 .within) (omega arith) b g))
+      (λ t. ended at a b h (ltb-false at (length s) (t .0)) (t .1))
+      (either (ltb at (length s)) (follow (line + 1) (lineAt s a at) (λ l next. linesFrom s fuel next (line + 1) (a ++ (l ∷ [])))) (accepted a) b e)
+
+  lines-complete : (c : Book) (fuel at line : ℕ) (a : Book) → Sane a → length s ≤ at + fuel → validFrom a c ≡ true → Span s at (length s) (renderFrom a c) → linesFrom s fuel at line a ≡ accepted (a ++ c)
+  unfolding linesFrom validFrom renderFrom
+  lines-complete [] zero at line a S f v p = ap accepted (sym (append-nil a))
+  lines-complete [] (suc fuel) at line a S f v p =
+      ap (λ (t : Bool). cond t (follow (line + 1) (lineAt s a at) (λ l next. linesFrom s fuel next (line + 1) (a ++ (l ∷ [])))) (accepted a)) (le-ltb at (length s) (let z = span-none p in omega arith)) ∙ ap accepted (sym (append-nil a))
+  lines-complete (l ∷ c) zero at line a S f v p = absurd (let n = span-length p in let k = length-append (writeLine a l) (10 ∷ renderFrom (a ++ (l ∷ [])) c) in let q = p .from in omega arith)
+  lines-complete (l ∷ c) (suc fuel) at line a S f v p =
+      let sp = span-split (writeLine a l ++ (10 ∷ [])) (renderFrom (a ++ (l ∷ [])) c) (subst (λ (t : List ℕ). Span s at (length s) t) (sym (append-assoc (writeLine a l) (10 ∷ []) (renderFrom (a ++ (l ∷ [])) c))) p) in
+      let nx : ℕ = at + length (writeLine a l ++ (10 ∷ [])) in
+      let m = longer at nx (writeLine a l) (sp .0) in
+      let w = sp .1 .from in
+      let ok = and-left (validLine a l) (validFrom (a ++ (l ∷ [])) c) v in
+      ap (λ (t : Bool). cond t (follow (line + 1) (lineAt s a at) (λ l next. linesFrom s fuel next (line + 1) (a ++ (l ∷ [])))) (accepted a)) (lt-ltb at (length s) (omega arith))
+      ∙ ap (λ (r : Read Line). follow (line + 1) r (λ l next. linesFrom s fuel next (line + 1) (a ++ (l ∷ [])))) (line-complete s a (pools-of a S) (fit-of s a S) at nx l (sp .0) ok)
+      ∙ lines-complete c fuel nx (line + 1) (a ++ (l ∷ [])) (sane-more a l S ok) (omega arith) (and-right (validLine a l) (validFrom (a ++ (l ∷ [])) c) v) (sp .1)
+      ∙ ap accepted (append-assoc a (l ∷ []) c)
+
+-- ---- the theorems
+-- what is accepted is a valid book, written so
+pub reading-sound : (s : List ℕ) (b : Book) → reading s ≡ accepted b → (valid b ≡ true) × (render b ≡ s)
+unfolding reading valid render
+reading-sound s b e = ⊎-elim
+    (λ t. absurd (let z : _≡_ {A = ℕ} 0 1 = late (t .1) in omega arith))
+    (λ t.
+    let (c, q, v, p) = lines-sound s (length s) 0 0 [] sane-start (omega arith) (omega arith) b (t .1) in
+    let r : renderFrom [] b ≡ s = ap (renderFrom []) q ∙ sym (span-all p) in
+    (and-both (validFrom [] b) (leb (length (renderFrom [] b)) 65536) (ap (validFrom []) q ∙ v) (le-leb (length (renderFrom [] b)) 65536 (let l : length s ≤ 65536 = ltb-false 65536 (length s) (t .0) in omega (arith, ap length r))), r))
+    (either (ltb 65536 (length s)) (turnedDown 1 0) (linesFrom s (length s) 0 0 []) b e)
+  where
+    late : turnedDown 1 0 ≡ accepted b → _≡_ {A = ℕ} 0 1
+    late q = cc
+
+-- and a valid book is accepted as it is written
+pub reading-complete : (b : Book) → valid b ≡ true → reading (render b) ≡ accepted b
+unfolding reading valid render
+reading-complete b v =
+    let s = renderFrom [] b in
+    ap (λ (t : Bool). cond t (turnedDown 1 0) (linesFrom (renderFrom [] b) (length (renderFrom [] b)) 0 0 [])) (le-ltb 65536 (length (renderFrom [] b)) (leb-true (length (renderFrom [] b)) 65536 (and-right (validFrom [] b) (leb (length (renderFrom [] b)) 65536) v)))
+    ∙ lines-complete (renderFrom [] b) b (length (renderFrom [] b)) 0 0 [] sane-start (omega arith) (and-left (validFrom [] b) (leb (length (renderFrom [] b)) 65536) v) (span-whole (renderFrom [] b))
+
+-- the reading accepts s as b exactly when b is valid and renders to s
+pub reading-iff : (s : List ℕ) (b : Book) → (reading s ≡ accepted b) ↔ ((valid b ≡ true) × (render b ≡ s))
+reading-iff s b = (reading-sound s b, λ p. ap reading (sym (p .1)) ∙ reading-complete b (p .0))
+
+-- so a text is read in one way only
+pub one-book : (a b : Book) → valid a ≡ true → valid b ≡ true → render a ≡ render b → a ≡ b
+one-book a b v w e = accepted-book (sym (reading-complete a v) ∙ ap reading e ∙ reading-complete b w)
+
+-- and a refusal is given only where no valid book renders to s
+pub refused-only : (s : List ℕ) (k line : ℕ) → reading s ≡ turnedDown k line → (b : Book) → valid b ≡ true → render b ≡ s → ⊥
+refused-only s k line e b v r = let q : turnedDown k line ≡ accepted b = sym e ∙ ap reading (sym r) ∙ reading-complete b v in let z : _≡_ {A = ℕ} 0 1 = cc in omega arith

@@ -1,0 +1,4 @@
+pub mod Writing
+pub mod Valid
+pub mod Syntax
+pub mod Reading

@@ -1,0 +1,22 @@
+-- Tables are well formed where their counts and all their parts are right.
+use Prim.Native.Nat.{ℕ}
+use mathlib.Core.List.{List}
+use mathlib.Core.Bool.{Bool, true, false, _&&_}
+use mathlib.Core.Path.{_≡_, refl}
+use Rattle.base.specs.Bounded.{every}
+use Rattle.tables.specs.WellFormed.{countsOk, wellFormed}
+use Rattle.tablecheck.specs.Parts.{partCount, partOk}
+use Rattle.tablecheck.specs.declared.Part.{Part}
+use Rattle.tablecheck.specs.declared.Part.the-variants.{Nodes, Facts, Paths, Forms, Shapes, Rules}
+
+module _ (cs : List ℕ) where
+  abbrev pub allOk : Part → Bool
+  allOk part = every (partOk cs part) (partCount cs part)
+
+  pub counts-fail : countsOk cs ≡ false → false ≡ wellFormed cs
+  unfolding wellFormed
+  counts-fail h = rw h
+
+  pub parts-ok : countsOk cs ≡ true → (allOk Nodes && (allOk Facts && (allOk Paths && (allOk Forms && (allOk Shapes && allOk Rules))))) ≡ wellFormed cs
+  unfolding wellFormed partOk partCount
+  parts-ok h = rw h

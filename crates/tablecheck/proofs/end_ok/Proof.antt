@@ -1,0 +1,17 @@
+use Rattle.tables.specs.WellFormed.{endOk}
+use borrow.Author.Needs.{needs}
+use Rattle.tablecheck.proofs.end_ok.Statement.{statement}
+use Rattle.tablecheck.proofs.end_ok.Tie as tie
+
+path-count-requires : tie.Need-path-count-requires
+path-count-requires c κs = search needs
+
+below-requires : tie.Need-below-requires
+below-requires c κs = search needs
+
+returns : tie.Need-returns
+unfolding endOk
+returns c = cc
+
+pub end-ok-spec : {M : Type 1} → statement M
+end-ok-spec = tie.close (tie.spec path-count-requires below-requires returns)

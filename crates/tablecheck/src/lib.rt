@@ -1,0 +1,218 @@
+// Refusal 9: whether tables that somebody lends are well formed. Operations: well_formed; it takes any content of any length,
+// and reads some fifty thousand cells at the most.
+use tables::layout::NO_NUMBER;
+use tables::reads;
+ghost use mathlib.Core.Path.{_≡_};
+ghost use mathlib.Core.List.{[]};
+ghost use mathlib.Core.Bool.{_&&_};
+ghost use Prim.Native.Nat.{_+_};
+ghost use lib.Dec.{ltb, leb};
+ghost use Rattle.base.specs.Bounded.{every};
+ghost use Rattle.tables.specs.Layout.{rootAt, shapeCount, itemAt};
+ghost use Rattle.tables.specs.Decode.{pathEntryAt, entryAt};
+ghost use Rattle.tables.specs.Entries.{Entry};
+ghost use Rattle.tables.specs.WellFormed.{countsOk, nodeOk, factOk, pathEntryOk, itemsOk, endOk, entryOk, ruleOk, wellFormed};
+ghost use Rattle.tablecheck.specs.Parts.{partCount, partOk};
+
+fn below(x: u16, n: usize) -> bool
+    ensures { λ r. ⌜ r ≡ ltb x n ⌝ }
+{
+    reads::wide(x) < n
+}
+
+fn counts_ok(cells: &[u16]) -> bool
+    ensures { λ r. ⌜ r ≡ countsOk (now (cells .entry)) ⌝ }
+{
+    (reads::node_count(cells) <= model::MAX_NODES)
+        & ((reads::link_count(cells) <= model::MAX_LINKS)
+            & ((reads::type_count(cells) <= model::MAX_TYPES)
+                & ((reads::lang_count(cells) <= model::MAX_LANGS)
+                    & ((reads::shape_count(cells) <= model::MAX_SHAPES)
+                        & ((reads::fact_count(cells) <= model::MAX_FACTS)
+                            & ((reads::path_count(cells) <= model::MAX_PATHS)
+                                & ((reads::form_count(cells) <= model::MAX_FORMS)
+                                    & ((reads::item_count(cells) <= model::MAX_ITEMS)
+                                        & (reads::rule_count(cells) <= model::MAX_RULES)))))))))
+}
+
+fn node_ok(cells: &[u16], v: usize) -> bool
+    ensures { λ r. ⌜ r ≡ nodeOk (now (cells .entry)) v ⌝ }
+{
+    match reads::node_kind(cells, v) {
+        0 | 1 => true,
+        2 | 3 => below(reads::node_type(cells, v), reads::type_count(cells)),
+        4 => below(reads::node_lang(cells, v), reads::lang_count(cells)),
+        5..=65535 => false,
+    }
+}
+
+fn fact_ok(cells: &[u16], i: usize) -> bool
+    ensures { λ r. ⌜ r ≡ factOk (now (cells .entry)) i ⌝ }
+{
+    let n = reads::node_count(cells);
+    let s = reads::subject(cells, i);
+    let p = reads::predicate(cells, i);
+    let o = reads::object(cells, i);
+    below(s.0, n) & (below(p.0, reads::link_count(cells)) & below(o.0, n))
+}
+
+fn path_ok(cells: &[u16], e: usize) -> bool
+    ensures { λ r. ⌜ r ≡ pathEntryOk (now (cells .entry)) e (pathEntryAt (now (cells .entry)) e) ⌝ }
+{
+    let a = reads::path_first(cells, e);
+    let b = reads::path_second(cells, e);
+    match reads::path_code(cells, e) {
+        0 => a < reads::link_count(cells),
+        1 => a < e,
+        2 | 3 => (a < e) & (b < e),
+        4..=65535 => false,
+    }
+}
+
+// n items from number i on are there, each below a bound.
+fn items_ok(cells: &[u16], bound: usize, i: u16, n: u16) -> bool
+    ensures { λ r. ⌜ r ≡ itemsOk (now (cells .entry)) bound i n ⌝ }
+{
+    let from = reads::wide(i);
+    let count = reads::wide(n);
+    if reads::item_count(cells) < from + count {
+        return false;
+    }
+    for k in 0..count {
+        if !below(reads::item(cells, from + k), bound) {
+            return false;
+        }
+    }
+    true
+}
+
+// Shape s begins with an entry before e.
+fn shape_before(cells: &[u16], s: u16, e: usize) -> bool
+    ensures { λ r. ⌜ r ≡ (ltb s (shapeCount (now (cells .entry))) && ltb (rootAt (now (cells .entry)) s) e) ⌝ }
+{
+    below(s, reads::shape_count(cells)) & (reads::root(cells, reads::wide(s)) < e)
+}
+
+fn end_ok(cells: &[u16], p: u16) -> bool
+    ensures { λ r. ⌜ r ≡ endOk (now (cells .entry)) p ⌝ }
+{
+    below(p, reads::path_count(cells)) | (p == NO_NUMBER)
+}
+
+// The operands of `count`: a path entry, a form entry, LO and HI.
+fn count_ok(cells: &[u16], e: usize, p: u16, a: u16, lo: u16, hi: u16) -> bool
+    ensures { λ r. ⌜ r ≡ entryOk (now (cells .entry)) e (Entry.count p a lo hi) ⌝ }
+{
+    (below(p, reads::path_count(cells)) & below(a, e))
+        & ((reads::wide(lo) <= model::MAX_COUNT)
+            & ((reads::wide(hi) <= model::MAX_COUNT) | (hi == NO_NUMBER)))
+}
+
+fn entry_ok(cells: &[u16], e: usize) -> bool
+    ensures { λ r. ⌜ r ≡ entryOk (now (cells .entry)) e (entryAt (now (cells .entry)) [] e) ⌝ }
+{
+    let a = reads::form_first(cells, e);
+    let b = reads::form_second(cells, e);
+    match reads::form_code(cells, e) {
+        0 => true,
+        1 => below(a, reads::node_count(cells)),
+        2 => shape_before(cells, a, e),
+        3 | 4 => below(a, e) & below(b, e),
+        5 => below(a, e),
+        6 => a < 3,
+        7 => below(a, reads::type_count(cells)),
+        8 => items_ok(cells, reads::lang_count(cells), a, b),
+        9..=12 => true,
+        13 => count_ok(
+            cells,
+            e,
+            a,
+            b,
+            reads::form_third(cells, e),
+            reads::form_fourth(cells, e),
+        ),
+        14 => below(a, reads::path_count(cells)) & below(b, e),
+        15 | 16 => end_ok(cells, a) & below(b, reads::link_count(cells)),
+        17 => items_ok(cells, reads::link_count(cells), a, b),
+        18 | 19 => below(a, reads::path_count(cells)) & below(b, reads::link_count(cells)),
+        20 => below(a, reads::path_count(cells)),
+        21..=65535 => false,
+    }
+}
+
+fn rule_ok(cells: &[u16], k: usize) -> bool
+    ensures { λ r. ⌜ r ≡ ruleOk (now (cells .entry)) k ⌝ }
+{
+    if reads::shape_count(cells) <= reads::rule_shape(cells, k) {
+        return false;
+    }
+    let c = reads::rule_node(cells, k);
+    let p = reads::rule_link(cells, k);
+    match reads::rule_target(cells, k) {
+        0 | 3 => below(c.0, reads::node_count(cells)),
+        1 | 2 => below(p.0, reads::link_count(cells)),
+        4..=65535 => false,
+    }
+}
+
+// What is looked at number by number.
+enum Part {
+    Nodes,
+    Facts,
+    Paths,
+    Forms,
+    Shapes,
+    Rules,
+}
+
+fn part_count(cells: &[u16], part: Part) -> usize
+    ensures { λ r. ⌜ r ≡ partCount (now (cells .entry)) part ⌝ }
+{
+    match part {
+        Part::Nodes => reads::node_count(cells),
+        Part::Facts => reads::fact_count(cells),
+        Part::Paths => reads::path_count(cells),
+        Part::Forms => reads::form_count(cells),
+        Part::Shapes => reads::shape_count(cells),
+        Part::Rules => reads::rule_count(cells),
+    }
+}
+
+fn part_ok(cells: &[u16], part: Part, i: usize) -> bool
+    ensures { λ r. ⌜ r ≡ partOk (now (cells .entry)) part i ⌝ }
+{
+    match part {
+        Part::Nodes => node_ok(cells, i),
+        Part::Facts => fact_ok(cells, i),
+        Part::Paths => path_ok(cells, i),
+        Part::Forms => entry_ok(cells, i),
+        Part::Shapes => reads::root(cells, i) < reads::form_count(cells),
+        Part::Rules => rule_ok(cells, i),
+    }
+}
+
+fn all_ok(cells: &[u16], part: Part) -> bool
+    ensures { λ r. ⌜ r ≡ every (partOk (now (cells .entry)) part) (partCount (now (cells .entry)) part) ⌝ }
+{
+    let n = part_count(cells, part);
+    for i in 0..n {
+        if !part_ok(cells, part, i) {
+            return false;
+        }
+    }
+    true
+}
+
+// Refusal 9 is for tables of which this is false. The counts are looked at first: no loop is longer than its limit.
+pub fn well_formed(cells: &[u16]) -> bool
+    ensures { λ r. ⌜ r ≡ wellFormed (now (cells .entry)) ⌝ }
+{
+    if !counts_ok(cells) {
+        return false;
+    }
+    all_ok(cells, Part::Nodes)
+        & (all_ok(cells, Part::Facts)
+            & (all_ok(cells, Part::Paths)
+                & (all_ok(cells, Part::Forms)
+                    & (all_ok(cells, Part::Shapes) & all_ok(cells, Part::Rules)))))
+}

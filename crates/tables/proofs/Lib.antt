@@ -1,0 +1,5 @@
+pub mod Places
+pub mod Blank
+pub mod WellFormed
+pub mod Decode
+pub mod Sizes
