@@ -4,7 +4,7 @@
 // 64 * j + k. Going from the targets backwards, a fact or-s the word of its object into the word of its subject. No function
 // scans the facts for each start node.
 //
-// For the crates above, which show that the facts lie between nodes and that path entries use entries before them:
+// For the crates above, which show that the facts lie between n nodes and that the path entries' tables are well formed:
 //   all_ends         the rows become the ends, whatever they held
 //   all_table_ends   the same over the facts of the tables
 use nodeset::insert;
@@ -12,8 +12,12 @@ use nodeset::put_word;
 use nodeset::word;
 use paths::End;
 use paths::follow;
-use paths::reads::fact_count;
-use paths::reads::node_count;
+use tables::layout::OBJECTS;
+use tables::layout::PATH_CODES;
+use tables::layout::PREDICATES;
+use tables::layout::SUBJECTS;
+use tables::reads::fact_count;
+use tables::reads::node_count;
 ghost use mathlib.Core.Path.{_≡_};
 ghost use mathlib.Core.Bool.{true};
 ghost use Prim.Native.Nat.{ℕ, _*_, _<_, _≤_};
@@ -23,7 +27,7 @@ ghost use Rattle.model.specs.Paths.{endsOf};
 ghost use Rattle.tables.specs.Layout.{nodeCount, cellCount};
 ghost use Rattle.tables.specs.Decode.{triplesAt};
 ghost use Rattle.tables.specs.WellFormed.{wellFormed};
-ghost use Rattle.paths.specs.Facts.{FactsOk, pathsOk, triplesOf};
+ghost use Rattle.paths.specs.Facts.{FactsOk, triplesOf};
 ghost use Rattle.paths.specs.Ends.{endIn, endOk};
 ghost use Rattle.rows.specs.Rows.{rowsOf, columnOf, unitOf, withColumn};
 
@@ -53,31 +57,19 @@ fn pass(
     j: usize,
     end: End,
     cells: &[u16],
-    subjects: &[u16],
-    predicates: &[u16],
-    objects: &[u16],
+    s: &[u16],
+    p: &[u16],
+    o: &[u16],
     count: usize,
     n: usize,
 )
-    requires { ⌜ FactsOk (now subjects) (now predicates) (now objects) count n × (pathsOk (now cells) ≡ true) × (endOk (now cells) end ≡ true) × (j < 16) ⌝ }
-    ensures { λ _. ⌜ now (rows .exit) ≡ withColumn (now (rows .entry)) j (columnOf n (endsOf n (triplesOf (now (subjects .entry)) (now (predicates .entry)) (now (objects .entry)) count) (endIn (now (cells .entry)) end)) j) ⌝ }
+    requires { ⌜ FactsOk (now s) (now p) (now o) count n × (wellFormed (now cells) ≡ true) × (endOk (now cells) end ≡ true) × (j < 16) ⌝ }
+    ensures { λ _. ⌜ now (rows .exit) ≡ withColumn (now (rows .entry)) j (columnOf n (endsOf n (triplesOf (now (s .entry)) (now (p .entry)) (now (o .entry)) count) (endIn (now (cells .entry)) end)) j) ⌝ }
 {
     let mut t = [0u64; 1024];
     unit(&mut t, j);
     let mut m = [0u64; 1024];
-    follow(
-        &mut m,
-        end,
-        true,
-        true,
-        &t,
-        cells,
-        subjects,
-        predicates,
-        objects,
-        count,
-        n,
-    );
+    follow(&mut m, end, true, true, &t, cells, s, p, o, count, n);
     store_column(rows, j, &m);
 }
 
@@ -86,17 +78,17 @@ pub fn all_ends(
     rows: &mut [u64],
     end: End,
     cells: &[u16],
-    subjects: &[u16],
-    predicates: &[u16],
-    objects: &[u16],
+    s: &[u16],
+    p: &[u16],
+    o: &[u16],
     count: usize,
     n: usize,
 )
-    requires { ⌜ FactsOk (now subjects) (now predicates) (now objects) count n × (pathsOk (now cells) ≡ true) × (endOk (now cells) end ≡ true) × (length (now rows) ≡ 16384) ⌝ }
-    ensures { λ _. ⌜ now (rows .exit) ≡ rowsOf n (endsOf n (triplesOf (now (subjects .entry)) (now (predicates .entry)) (now (objects .entry)) count) (endIn (now (cells .entry)) end)) ⌝ }
+    requires { ⌜ FactsOk (now s) (now p) (now o) count n × (wellFormed (now cells) ≡ true) × (endOk (now cells) end ≡ true) × (length (now rows) ≡ 16384) ⌝ }
+    ensures { λ _. ⌜ now (rows .exit) ≡ rowsOf n (endsOf n (triplesOf (now (s .entry)) (now (p .entry)) (now (o .entry)) count) (endIn (now (cells .entry)) end)) ⌝ }
 {
     for j in 0..16 {
-        pass(rows, j, end, cells, subjects, predicates, objects, count, n);
+        pass(rows, j, end, cells, s, p, o, count, n);
     }
 }
 
@@ -107,14 +99,8 @@ pub fn all_table_ends(rows: &mut [u64], end: End, cells: &[u16])
 {
     let n = node_count(cells);
     let count = fact_count(cells);
-    all_ends(
-        rows,
-        end,
-        cells,
-        &cells[3082..7178],
-        &cells[7178..11274],
-        &cells[11274..15370],
-        count,
-        n,
-    );
+    let s = &cells[SUBJECTS..PREDICATES];
+    let p = &cells[PREDICATES..OBJECTS];
+    let o = &cells[OBJECTS..PATH_CODES];
+    all_ends(rows, end, cells, s, p, o, count, n);
 }

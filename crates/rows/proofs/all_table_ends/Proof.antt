@@ -5,73 +5,58 @@ use mathlib.Core.Path.{ap₂, _∙_}
 use Rattle.model.specs.Graph.{Triple}
 use Rattle.model.specs.Paths.{endsOf}
 use Rattle.paths.specs.Ends.{endIn}
-use Rattle.paths.proofs.Parts.{lent-ok, lent-triples, paths-ok}
+use Rattle.paths.proofs.Parts.{lent-ok, lent-triples}
 use Rattle.rows.specs.Rows.{rowsOf}
 use borrow.Author.Needs.{needs}
 use Rattle.rows.proofs.all_table_ends.Statement.{statement}
 use Rattle.rows.proofs.all_table_ends.Tie as tie
 use Rattle.rows.proofs.all_table_ends.Reads as reads
 use Rattle.rows.proofs.all_table_ends.Lts as lts
-use Rattle.paths.proofs.reads.fact_count.Reads as fact-count-reads
-use Rattle.paths.proofs.reads.node_count.Reads as node-count-reads
 use Rattle.rows.proofs.all_ends.Reads as all-ends-reads
+use Rattle.tables.proofs.reads.fact_count.Reads as fact-count-reads
+use Rattle.tables.proofs.reads.node_count.Reads as node-count-reads
 
--- src/lib.rt:96:9
 node-count-requires : tie.Need-node-count-requires
 node-count-requires c κs = search needs
 
--- src/lib.rt:97:9
 fact-count-requires : tie.Need-fact-count-requires
 fact-count-requires c κs = search needs
 
--- src/lib.rt:98:32
-sub-all-ends : tie.Need-sub-all-ends
-sub-all-ends c = search needs
+sub-s : tie.Need-sub-s
+sub-s c = search needs
 
--- src/lib.rt:98:32
-part-all-ends-start : tie.Need-part-all-ends-start
-part-all-ends-start c = search needs
+part-s-start : tie.Need-part-s-start
+part-s-start c = search needs
 
--- src/lib.rt:98:32
-part-all-ends-end : tie.Need-part-all-ends-end
-part-all-ends-end c = search needs
+part-s-end : tie.Need-part-s-end
+part-s-end c = search needs
 
--- src/lib.rt:98:52
-sub-all-ends-2 : tie.Need-sub-all-ends-2
-sub-all-ends-2 c = search needs
+sub-p : tie.Need-sub-p
+sub-p c = search needs
 
--- src/lib.rt:98:52
-part-all-ends-start-2 : tie.Need-part-all-ends-start-2
-part-all-ends-start-2 c = search needs
+part-p-start : tie.Need-part-p-start
+part-p-start c = search needs
 
--- src/lib.rt:98:52
-part-all-ends-end-2 : tie.Need-part-all-ends-end-2
-part-all-ends-end-2 c = search needs
+part-p-end : tie.Need-part-p-end
+part-p-end c = search needs
 
--- src/lib.rt:98:73
-sub-all-ends-3 : tie.Need-sub-all-ends-3
-sub-all-ends-3 c = search needs
+sub-o : tie.Need-sub-o
+sub-o c = search needs
 
--- src/lib.rt:98:73
-part-all-ends-start-3 : tie.Need-part-all-ends-start-3
-part-all-ends-start-3 c = search needs
+part-o-start : tie.Need-part-o-start
+part-o-start c = search needs
 
--- src/lib.rt:98:73
-part-all-ends-end-3 : tie.Need-part-all-ends-end-3
-part-all-ends-end-3 c = search needs
+part-o-end : tie.Need-part-o-end
+part-o-end c = search needs
 
--- src/lib.rt:98:5
 all-ends-requires : tie.Need-all-ends-requires
 all-ends-requires c κs =
     let pre = c .before .before .before .before .before .before .before .before .pre in
-    let cs = c .before .before .before .before .before .before .before .before .args .cells .now in
-    (lent-ok cs (pre .1) (pre .0) (c .before .before .before .before .before .node-count .ensures) (c .before .before .before .before .fact-count .ensures), paths-ok cs (pre .1), pre .2, pre .3)
+    (lent-ok (c .before .before .before .before .before .before .before .before .args .cells .now) (pre .1) (pre .0) (c .before .before .before .before .before .node-count .ensures) (c .before .before .before .before .fact-count .ensures), pre .1, pre .2, pre .3)
 
--- src/lib.rt:92:1
 same-length : tie.Need-same-length
 same-length c = search needs
 
--- src/lib.rt:92:1
 returns : tie.Need-returns
 returns c =
     let a = c .before .before .before .before .before .before .before .before .before .before .before .args in
@@ -85,15 +70,15 @@ all-table-ends-spec =
     (tie.spec
     node-count-requires
     fact-count-requires
-    sub-all-ends
-    part-all-ends-start
-    part-all-ends-end
-    sub-all-ends-2
-    part-all-ends-start-2
-    part-all-ends-end-2
-    sub-all-ends-3
-    part-all-ends-start-3
-    part-all-ends-end-3
+    sub-s
+    part-s-start
+    part-s-end
+    sub-p
+    part-p-start
+    part-p-end
+    sub-o
+    part-o-start
+    part-o-end
     all-ends-requires
     same-length
     returns)

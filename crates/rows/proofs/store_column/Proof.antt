@@ -19,46 +19,36 @@ Inv-loop rows₀ j m v₀ rows v = (v ≤ 1024) × (length rows ≡ length rows�
 abbrev μ-loop : tie.MeasureT-loop
 μ-loop rows₀ j m v₀ rows v = 1024 - v
 
--- src/lib.rt:43:5
 loop-holds : tie.Need-loop-holds Inv-loop μ-loop
 loop-holds c = let a = c .before .before .args in (search needs, refl, stored-none (a .rows .now) (a .j) (a .m .now))
 
--- src/lib.rt:44:24
 mul-put-word : tie.Need-mul-put-word Inv-loop μ-loop
 mul-put-word c = search needs
 
--- src/lib.rt:44:24
 add-put-word : tie.Need-add-put-word Inv-loop μ-loop
 add-put-word c = search needs
 
--- src/lib.rt:44:36
 word-requires : tie.Need-word-requires Inv-loop μ-loop
 word-requires c κs = search needs
 
--- src/lib.rt:44:9
 put-word-requires : tie.Need-put-word-requires Inv-loop μ-loop
 put-word-requires c κs = search needs
 
--- src/lib.rt:43:9
 add-v : tie.Need-add-v Inv-loop μ-loop
 add-v c = search needs
 
--- src/lib.rt:43:5
 loop-less : tie.Need-loop-less Inv-loop μ-loop
 loop-less c = search needs
 
--- src/lib.rt:43:5
 loop-again : tie.Need-loop-again Inv-loop μ-loop
 loop-again c =
     let a = c .before .before .before .before .before .before .before .before .before .args in
     let t = c .before .before .before .before .before .before .loop in
     (search needs, c .before .before .put-word .kept .0 ∙ t .inv .1, c .before .before .put-word .ensures ∙ ap (set (t .rows) (16 * t .v + a .j)) (c .before .before .before .word .ensures) ∙ stored-more (a .rows .now) (a .j) (a .m .now) (t .v) (c .before .before .before .before .before .before .before .before .before .pre) (t .inv .2))
 
--- src/lib.rt:39:1
 same-length : tie.Need-same-length Inv-loop μ-loop
 same-length c = search needs
 
--- src/lib.rt:39:1
 returns : tie.Need-returns Inv-loop μ-loop
 returns c = let a = c .before .before .before .before .args in stored-all (a .rows .now) (a .j) (a .m .now) (c .before .loop .v) (omega arith) (c .before .loop .inv .2)
 

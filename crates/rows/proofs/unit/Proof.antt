@@ -18,49 +18,38 @@ Inv-loop t₀ j k₀ t k = (k ≤ 64) × (length t ≡ length t₀) × (t ≡ wo
 abbrev μ-loop : tie.MeasureT-loop
 μ-loop t₀ j k₀ t k = 64 - k
 
--- src/lib.rt:33:5
 loop-holds : tie.Need-loop-holds Inv-loop μ-loop
 loop-holds c = (search needs, refl, targets-none (c .before .args .j) (c .before .pre .0))
 
--- src/lib.rt:34:20
 mul-insert : tie.Need-mul-insert Inv-loop μ-loop
 mul-insert c = search needs
 
--- src/lib.rt:34:20
 add-insert : tie.Need-add-insert Inv-loop μ-loop
 add-insert c = search needs
 
--- src/lib.rt:34:19
 mul-insert-2 : tie.Need-mul-insert-2 Inv-loop μ-loop
 mul-insert-2 c = search needs
 
--- src/lib.rt:34:19
 add-insert-2 : tie.Need-add-insert-2 Inv-loop μ-loop
 add-insert-2 c = search needs
 
--- src/lib.rt:34:9
 insert-requires : tie.Need-insert-requires Inv-loop μ-loop
 insert-requires c κs = search needs
 
--- src/lib.rt:33:9
 add-k : tie.Need-add-k Inv-loop μ-loop
 add-k c = search needs
 
--- src/lib.rt:33:5
 loop-less : tie.Need-loop-less Inv-loop μ-loop
 loop-less c = search needs
 
--- src/lib.rt:33:5
 loop-again : tie.Need-loop-again Inv-loop μ-loop
 loop-again c =
     let t = c .before .before .before .before .before .loop in
     (search needs, c .before .before .insert .kept .0 ∙ t .inv .1, c .before .before .insert .ensures ∙ targets-more (c .before .before .before .before .before .before .before .args .j) (t .k) (search needs) (t .inv .2))
 
--- src/lib.rt:29:1
 same-length : tie.Need-same-length Inv-loop μ-loop
 same-length c = search needs
 
--- src/lib.rt:29:1
 returns : tie.Need-returns Inv-loop μ-loop
 returns c = targets-all (c .before .before .before .args .j) (c .before .loop .k) (omega arith) (c .before .loop .inv .2)
 
