@@ -11,3 +11,5 @@ pub mod Grounds
 pub mod GroundsLeaves
 pub mod GroundsReaders
 pub mod GroundsBooks
+pub mod Edges
+pub mod BookB
