@@ -19,7 +19,7 @@ use Rattle.grammar.proofs.Exact.{never-refused, got-value, got-next}
 use Rattle.grammar.proofs.Lines.{line-sound, line-complete}
 use Rattle.grammar.proofs.Books.{Sane, sane-start, sane-more, pools-of, fit-of, longer}
 use Rattle.grammar.proofs.GroundsLocal.{Agree, agree-less, agree-inside, stop, stop-past}
-use Rattle.grammar.proofs.Grounds.{Ground, ground-from, ground-number}
+use Rattle.grammar.proofs.Grounds.{Ground, ground-numbered}
 use Rattle.grammar.proofs.GroundsReaders.{line-settled}
 
 -- the text s is refused by number r at line k
@@ -84,9 +84,9 @@ module _ (s : List ℕ) where
   lines-grounds (suc fuel) at line a S h w n r k e = ⊎-elim
       (λ t. ⊎-elim
       (λ u.
-      let L = line-settled s a at (pools-of a S) (fit-of s a S) in
+      let L = line-settled s a at (pools-of a S) (fit-of s a S) h in
       let (p, g, lt, f) = L .ground r (u .0) in
-      let i = ground-from s a at g in
+      let i = ground-numbered s a at g .from in
       let j = u .1 in (
         record { above = a; counted = omega arith; right = S .valid-above; at = at; written = w; refuses = u .0; place = p; inside = i; ground = g },
         i,
@@ -98,7 +98,7 @@ module _ (s : List ℕ) where
       let m = longer s at nx (writeLine a l) (v .0) in
       let (G, i, none) = lines-grounds fuel nx (line + 1) (a ++ (l ∷ [])) (sane-more a l S (v .1)) (v .0 .within) (subst (λ (x : List ℕ). Span s 0 nx x) (sym (render-snoc [] a l)) (span-join w (v .0))) (omega (arith, length-append a (l ∷ []))) r k d in
       let o = stop-past s (G .place) in
-      let (_, f) = line-settled s a at (pools-of a S) (fit-of s a S) .held l nx q in (
+      let (_, f) = line-settled s a at (pools-of a S) (fit-of s a S) h .held l nx q in (
         G,
         omega arith,
         goes-on at (stop s (G .place)) a S (ltb-true at (length s) (t .0)) (omega arith)
@@ -125,10 +125,10 @@ refusal-ground s r k e = ⊎-elim
 pub too-long : (s : List ℕ) (k : ℕ) → (reading s ≡ turnedDown 1 k) ↔ ((k ≡ 0) × (maxBytes < length s))
 unfolding reading
 too-long s k = (
-  λ e. ⊎-elim (λ t. (t .1, t .2)) (λ t. absurd (let G = t .1 in let z = ground-number s (G .above) (G .at) (G .ground) in let y : ⊥ = omega arith in y)) (refusal-ground s 1 k e),
+  λ e. ⊎-elim (λ t. (t .1, t .2)) (λ t. absurd (let G = t .1 in let z = ground-numbered s (G .above) (G .at) (G .ground) .least in let y : ⊥ = omega arith in y)) (refusal-ground s 1 k e),
   λ p. ap (λ (b : Bool). cond b (turnedDown 1 0) (linesFrom s (length s) 0 0 [])) (lt-ltb 65536 (length s) (p .1)) ∙ ap (turnedDown 1) (sym (p .0)),
 )
 
 -- every other refusal is 2 to 7
 pub other-refusals : (s : List ℕ) (r k : ℕ) → reading s ≡ turnedDown r k → (r ≡ 1 → ⊥) → (2 ≤ r) × (r ≤ 7)
-other-refusals s r k e n = ⊎-elim (λ t. absurd (n (t .0))) (λ t. let G = t .1 in ground-number s (G .above) (G .at) (G .ground)) (refusal-ground s r k e)
+other-refusals s r k e n = ⊎-elim (λ t. absurd (n (t .0))) (λ t. let G = t .1 in let z = ground-numbered s (G .above) (G .at) (G .ground) in (z .least, z .greatest)) (refusal-ground s r k e)

@@ -75,54 +75,53 @@ then-refused : {A B : Type 0} (r : Read A) (k : A → ℕ → Read B) (q : ℕ) 
 then-refused (got x nx) k q e = inr (x, nx, refl, e)
 then-refused (refused r) k q e = inl (ap refused (let z : r ≡ q = cc in z))
 
--- s: the text; G r p: the ground of refusal r at position p
-module _ (s : List ℕ) (G : ℕ → ℕ → Type 0) where
-  -- m t: what is read in the text t, from low on or after that
-  pub record Settled {A : Type 0} (low : ℕ) (m : List ℕ → Read A) : Type 0 where
-    pub held : (x : A) (nx : ℕ) → m s ≡ got x nx → (low ≤ nx) × ((t : List ℕ) → Agree (nx + 1) t s → m t ≡ got x nx)
-    pub ground : (r : ℕ) → m s ≡ refused r → (p : ℕ) × G r p × (low < stop s p) × ((t : List ℕ) → Agree (stop s p) t s → m t ≡ refused r)
+-- s: the text; G r p: the ground of refusal r at position p; m t: what is read in the text t. What m says of s, it says of
+-- every text that agrees with s up to the byte after what was read, or after the refused item; and no earlier than `low`
+pub record Settled (s : List ℕ) (G : ℕ → ℕ → Type 0) {A : Type 0} (low : ℕ) (m : List ℕ → Read A) : Type 0 where
+  pub held : (x : A) (nx : ℕ) → m s ≡ got x nx → (low ≤ nx) × ((t : List ℕ) → Agree (nx + 1) t s → m t ≡ got x nx)
+  pub ground : (r : ℕ) → m s ≡ refused r → (p : ℕ) × G r p × (low < stop s p) × ((t : List ℕ) → Agree (stop s p) t s → m t ≡ refused r)
 
+module _ {s : List ℕ} {G : ℕ → ℕ → Type 0} where
   module _ {A : Type 0} where
-    pub settled-got : (x : A) (nx : ℕ) → Settled nx (λ t. got x nx)
+    pub settled-got : (x : A) (nx : ℕ) → Settled s G nx (λ t. got x nx)
     settled-got x nx = record { held = λ y ny e. let z : nx ≡ ny = got-next e in (omega arith, λ t g. e); ground = λ r e. absurd (never-refused (sym e)) }
 
-    pub settled-refused : (r p low : ℕ) → G r p → low < stop s p → Settled {A = A} low (λ t. refused r)
-    settled-refused r p low g l =
-        record { held = λ y ny e. absurd (never-refused e); ground = λ q e. let z : r ≡ q = cc in (p, subst (λ (k : ℕ). G k p) z g, l, λ t a. e) }
+    pub settled-refused : {low r : ℕ} (p : ℕ) → G r p → low < stop s p → Settled s G {A = A} low (λ t. refused r)
+    settled-refused {low} {r} p g l = record { held = λ y ny e. absurd (never-refused e); ground = λ q e. let z : r ≡ q = cc in (p, subst (λ (k : ℕ). G k p) z g, l, λ t a. e) }
 
-    pub settled-lower : {m : List ℕ → Read A} (low less : ℕ) → less ≤ low → Settled low m → Settled less m
-    settled-lower low less h M =
+    pub settled-lower : {low less : ℕ} {m : List ℕ → Read A} → less ≤ low → Settled s G low m → Settled s G less m
+    settled-lower {low} {less} h M =
         record {
           held = λ x nx e. let (l, f) = M .held x nx e in (omega arith, f);
           ground = λ r e. let (p, g, l, f) = M .ground r e in (p, g, omega arith, f);
         }
 
     -- what is read the same way, as far as the texts agree
-    pub settled-same : {m : List ℕ → Read A} (low : ℕ) (k : List ℕ → Read A) → ((t : List ℕ) → Agree (low + 1) t s → k t ≡ m t) → Settled low m → Settled low k
-    settled-same {m} low k h M =
+    pub settled-same : {low : ℕ} {m : List ℕ → Read A} (k : List ℕ → Read A) → ((t : List ℕ) → Agree (low + 1) t s → k t ≡ m t) → Settled s G low m → Settled s G low k
+    settled-same {low} {m} k h M =
         record {
           held = λ x nx e. let (l, f) = M .held x nx (sym (h s refl) ∙ e) in (l, λ t g. h t (agree-less (low + 1) (nx + 1) t s (omega arith) g) ∙ f t g);
           ground = λ r e. let (p, g, l, f) = M .ground r (sym (h s refl) ∙ e) in (p, g, l, λ t a. h t (agree-less (low + 1) (stop s p) t s (omega arith) a) ∙ f t a);
         }
 
     -- by a test
-    pub settled-cond : {m k : List ℕ → Read A} (low : ℕ) (b : Bool) → (b ≡ true → Settled low m) → (b ≡ false → Settled low k) → Settled low (λ t. cond b (m t) (k t))
-    settled-cond low true M K = M refl
-    settled-cond low false M K = K refl
+    pub settled-cond : {low : ℕ} {m k : List ℕ → Read A} (b : Bool) → (b ≡ true → Settled s G low m) → (b ≡ false → Settled s G low k) → Settled s G low (λ t. cond b (m t) (k t))
+    settled-cond true M K = M refl
+    settled-cond false M K = K refl
 
     -- by a byte
-    pub settled-byte : (low i c : ℕ) (m k : List ℕ → Read A) → i ≤ low → (getD s i 0 ≡ c → Settled low m) → ((getD s i 0 ≡ c → ⊥) → Settled low k) → Settled low (λ t. cond (eqb (getD t i 0) c) (m t) (k t))
-    settled-byte low i c m k h M K =
-        settled-same low (λ t. cond (eqb (getD t i 0) c) (m t) (k t)) (λ t g. ap (λ (x : ℕ). cond (eqb x c) (m t) (k t)) (agree-byte (low + 1) i t s (omega arith) g))
-        (settled-cond low (eqb (getD s i 0) c) (λ e. M (eqb-true (getD s i 0) c e)) (λ e. K (eqb-false (getD s i 0) c e)))
+    pub settled-byte : {low : ℕ} {m k : List ℕ → Read A} (i c : ℕ) → i ≤ low → (getD s i 0 ≡ c → Settled s G low m) → ((getD s i 0 ≡ c → ⊥) → Settled s G low k) → Settled s G low (λ t. cond (eqb (getD t i 0) c) (m t) (k t))
+    settled-byte {low} {m} {k} i c h M K =
+        settled-same (λ t. cond (eqb (getD t i 0) c) (m t) (k t)) (λ t g. ap (λ (x : ℕ). cond (eqb x c) (m t) (k t)) (agree-byte (low + 1) i t s (omega arith) g))
+        (settled-cond (eqb (getD s i 0) c) (λ e. M (eqb-true (getD s i 0) c e)) (λ e. K (eqb-false (getD s i 0) c e)))
 
     -- by an item and its end
-    pub settled-item : (p : ℕ) (f : List ℕ → List ℕ → ℕ → Read A) → Settled (itemEnd s p) (λ t. f t (slice p (itemEnd s p) s) (itemEnd s p)) → Settled (itemEnd s p) (λ t. f t (slice p (itemEnd t p) t) (itemEnd t p))
-    settled-item p f M = settled-same (itemEnd s p) (λ t. f t (slice p (itemEnd t p) t) (itemEnd t p)) (λ t g. ap₂ (λ (w : List ℕ) (e : ℕ). f t w e) (agree-item p t s g) (agree-end p t s g)) M
+    pub settled-item : (p : ℕ) (f : List ℕ → List ℕ → ℕ → Read A) → Settled s G (itemEnd s p) (λ t. f t (slice p (itemEnd s p) s) (itemEnd s p)) → Settled s G (itemEnd s p) (λ t. f t (slice p (itemEnd t p) t) (itemEnd t p))
+    settled-item p f M = settled-same (λ t. f t (slice p (itemEnd t p) t) (itemEnd t p)) (λ t g. ap₂ (λ (w : List ℕ) (e : ℕ). f t w e) (agree-item p t s g) (agree-end p t s g)) M
 
   -- one reader after the other
-  pub settled-then : {A B : Type 0} {m : List ℕ → Read A} {k : List ℕ → A → ℕ → Read B} (low : ℕ) → Settled low m → ((x : A) (nx : ℕ) → m s ≡ got x nx → Settled nx (λ t. k t x nx)) → Settled low (λ t. andThen (m t) (k t))
-  settled-then {A} {B} {m} {k} low M K =
+  pub settled-then : {A B : Type 0} {low : ℕ} {m : List ℕ → Read A} {k : List ℕ → A → ℕ → Read B} → Settled s G low m → ((x : A) (nx : ℕ) → m s ≡ got x nx → Settled s G nx (λ t. k t x nx)) → Settled s G low (λ t. andThen (m t) (k t))
+  settled-then {A} {B} {low} {m} {k} M K =
       record {
         held = λ y ny e.
             let (x, nx, a, b) = thens (m s) (k s) e in
