@@ -97,11 +97,11 @@ valid-more a (k ∷ c) l v e =
     and-both (validLine a k) (validFrom (a ++ (k ∷ [])) (c ++ (l ∷ []))) (and-left (validLine a k) (validFrom (a ++ (k ∷ [])) c) v)
     (valid-more (a ++ (k ∷ [])) c l (and-right (validLine a k) (validFrom (a ++ (k ∷ [])) c) v) (ap (λ (b : Book). validLine b l) (append-assoc a (k ∷ []) c) ∙ e))
 
-sane-start : Sane []
+pub sane-start : Sane []
 unfolding validFrom
 sane-start = record { valid-above = refl; pools-above = start-pool }
 
-sane-more : (a : Book) (l : Line) → Sane a → validLine a l ≡ true → Sane (a ++ (l ∷ []))
+pub sane-more : (a : Book) (l : Line) → Sane a → validLine a l ≡ true → Sane (a ++ (l ∷ []))
 unfolding validLine
 sane-more a l S e =
     record {
@@ -160,7 +160,7 @@ module _ (s : List ℕ) where
     subst (λ (t : List ℕ). Span s at (length s) t) (append-assoc (writeLine a l) (10 ∷ []) (renderFrom (a ++ (l ∷ [])) c)) (span-join p q),
   )
 
-  longer : (at nx : ℕ) (w : List ℕ) → Span s at nx (w ++ (10 ∷ [])) → at < nx
+  pub longer : (at nx : ℕ) (w : List ℕ) → Span s at nx (w ++ (10 ∷ [])) → at < nx
   longer at nx w p = omega (arith, span-length p, length-append w (10 ∷ []), p .from)
 
   lines-sound : (fuel at line : ℕ) (a : Book) → Sane a → at ≤ length s → length s ≤ at + fuel → (b : Book) → linesFrom s fuel at line a ≡ accepted b → Rest at a b
