@@ -1,8 +1,8 @@
 -- The three answers, and how many cells they need.
 use Prim.Native.Nat.{ℕ, _≤_, _<_}
 use mathlib.Core.List.{List, _++_}
-use mathlib.Core.Bool.{Bool, true, false, cond, _&&_, and-false}
-use mathlib.Core.Path.{_≡_, refl, sym, ap, ap₂, _∙_}
+use mathlib.Core.Bool.{Bool, true, false, _&&_, and-false}
+use mathlib.Core.Path.{_≡_, ap, _∙_}
 use lib.Dec.{leb}
 use lib.IntN.{ℤ}
 use lib.ListN.{length, take, drop}
@@ -13,9 +13,9 @@ use Rattle.tables.specs.Sizes.{longEnough}
 use Rattle.tables.specs.WellFormed.{wellFormed}
 use Rattle.tables.proofs.WellFormed.{sound}
 use Rattle.plan.specs.Layout.{planCount}
-use Rattle.compiler.specs.Compile.{stepsOf, planOf}
+use Rattle.translation.specs.Compile.{stepsOf, planOf}
 use Rattle.compiler.specs.Stores.{Fits}
-use Rattle.compiler.specs.Answers.{Answer, refused, accepted, lentOk, cellsOk, compileAnswer, planAfter}
+use Rattle.compiler.specs.Answers.{Answer, refused, accepted, lentOk, compileAnswer, planAfter}
 
 module _ (ns cs : List ℕ) (vs : List ℤ) (ps : List ℕ) where
   abbrev Answered : Answer → List ℕ → Type 0

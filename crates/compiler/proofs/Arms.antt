@@ -5,14 +5,14 @@ use mathlib.Core.Path.{_≡_, refl, sym, ap, _∙_, subst}
 use mathlib.Core.Logic.{⊎-elim}
 use native.Mathlib.Nat.{eq-or-lt-of-le, add-zero}
 use native.Mathlib.Omega.{arith}
-use lib.ListN.{getD, length, List·getD-eq-default}
+use lib.ListN.{getD, List·getD-eq-default}
 use Rattle.tables.specs.Layout.{formCodeAt, formFirstAt, formSecondAt, formThirdAt, formFourthAt, limitAt, rootAt}
 use Rattle.tables.specs.Entries.{Entry, entryOf}
 use Rattle.tables.specs.Decode.{entryAt}
 use Rattle.tablecheck.proofs.Codes.{Each}
 use Rattle.plan.specs.Steps.{Step, numbersOf}
 use Rattle.plan.specs.Layout.{withSteps}
-use Rattle.compiler.specs.Compile.{Part, taken, two, countPart, entryPart}
+use Rattle.translation.specs.Compile.{Part, taken, two, countPart, entryPart}
 use Rattle.compiler.specs.Stores.{numberIn, TwoAdded, Added}
 use Rattle.compiler.proofs.Laws.{two-added}
 
@@ -107,4 +107,13 @@ module _ (cs ps qs ks bs : List ℕ) (e n code next k m : ℕ) (ec : code ≡ fo
 
   pub arm-unknown : 21 ≤ code → qs ≡ ps → next ≡ n → k ≡ 0 → m ≡ 0 → Done (part (entryAt cs [] e))
   unfolding entryOf entryPart
-  arm-unknown l q en ek em = arm-taken code 0 0 refl (rw List·getD-eq-default) q en ek em
+  arm-unknown l q en ek em = arm-taken code 0 0 refl (ap part (List·getD-eq-default list Entry.bad l)) q en ek em
+    where
+      a : ℕ
+      a = formFirstAt cs e
+
+      b : ℕ
+      b = formSecondAt cs e
+
+      list : List Entry
+      list = Entry.top ∷ Entry.is a ∷ Entry.shape a ∷ Entry.conj a b ∷ Entry.disj a b ∷ Entry.neg a ∷ Entry.kind a ∷ Entry.datatype a ∷ Entry.lang a b ∷ Entry.from (limitAt [] e) ∷ Entry.above (limitAt [] e) ∷ Entry.to (limitAt [] e) ∷ Entry.under (limitAt [] e) ∷ Entry.count a b (formThirdAt cs e) (formFourthAt cs e) ∷ Entry.all a b ∷ Entry.equal a b ∷ Entry.apart a b ∷ Entry.closed a b ∷ Entry.less a b ∷ Entry.lesseq a b ∷ Entry.onelang a ∷ []

@@ -1,15 +1,13 @@
 -- What the code stores for one entry is what the table says.
-use Prim.Native.Nat.{ℕ, zero, suc, _+_, _-_, _≤_, _<_}
+use Prim.Native.Nat.{ℕ, _+_, _-_}
 use mathlib.Core.List.{List, [], _∷_}
-use mathlib.Core.Path.{_≡_, refl, sym, ap, ap₂, _∙_, subst}
+use mathlib.Core.Path.{_≡_, refl, sym, ap, _∙_, subst}
 use native.Mathlib.Omega.{arith}
-use lib.Dec.{eqb}
-use lib.ListN.{getD, length}
 use borrow.Author.Tests.{eq-eqb, ne-eqb}
 use Rattle.tables.specs.Layout.{noNumber}
 use Rattle.plan.specs.Steps.{Step, numbersOf}
 use Rattle.plan.specs.Layout.{withNumbers, withSteps}
-use Rattle.compiler.specs.Compile.{Part, two, countPart}
+use Rattle.translation.specs.Compile.{Part, two, countWay, countPart}
 use Rattle.compiler.specs.Stores.{TwoAdded, Added}
 
 module _ (ps p1 p2 : List ℕ) (n : ℕ) where
@@ -32,19 +30,19 @@ module _ (ps p1 p2 : List ℕ) (n p j lo hi k m : ℕ) (first : p1 ≡ withNumbe
   one-more t e g em = way p2 (n + 2) m (two n (Step.count p j lo hi) t) e (two-added ps p2 n (Step.count p j lo hi) t (n + 2) k m (two-law ps p1 p2 n (numbersOf (Step.count p j lo hi)) (numbersOf t) k m first g ek em))
 
   pub count-none : lo ≡ 0 → hi ≡ noNumber → p2 ≡ withNumbers p1 (n + 1) (1 ∷ 0 ∷ 0 ∷ 0 ∷ 0 ∷ []) → m ≡ n + 1 → Added ps p2 n (countPart n p j lo hi) (n + 2) k m
-  unfolding countPart numbersOf
+  unfolding countPart countWay numbersOf
   count-none z t g em = one-more Step.none (rw (eq-eqb lo 0 z, eq-eqb hi noNumber t)) g em
 
   pub count-high : lo ≡ 0 → (hi ≡ noNumber → ⊥) → p2 ≡ withNumbers p1 (n + 1) (8 ∷ p ∷ j ∷ (hi + 1) ∷ noNumber ∷ []) → m ≡ n + 1 → Added ps p2 n (countPart n p j lo hi) (n + 2) k m
-  unfolding countPart numbersOf
+  unfolding countPart countWay numbersOf
   count-high z t g em = one-more (Step.count p j (hi + 1) noNumber) (rw (eq-eqb lo 0 z, ne-eqb hi noNumber t)) g em
 
   pub count-low : (lo ≡ 0 → ⊥) → hi ≡ noNumber → p2 ≡ withNumbers p1 (n + 1) (8 ∷ p ∷ j ∷ 0 ∷ (lo - 1) ∷ []) → m ≡ n + 1 → Added ps p2 n (countPart n p j lo hi) (n + 2) k m
-  unfolding countPart numbersOf
+  unfolding countPart countWay numbersOf
   count-low z t g em = one-more (Step.count p j 0 (lo - 1)) (rw (ne-eqb lo 0 z, eq-eqb hi noNumber t)) g em
 
   pub count-both : (p3 p4 : List ℕ) (x y : ℕ) → (lo ≡ 0 → ⊥) → (hi ≡ noNumber → ⊥) → p2 ≡ withNumbers p1 (n + 1) (8 ∷ p ∷ j ∷ 0 ∷ (lo - 1) ∷ []) → p3 ≡ withNumbers p2 (n + 2) (8 ∷ p ∷ j ∷ (hi + 1) ∷ noNumber ∷ []) → p4 ≡ withNumbers p3 (n + 3) (7 ∷ x ∷ y ∷ 0 ∷ 0 ∷ []) → x ≡ n + 1 → y ≡ n + 2 → m ≡ n + 3 → Added ps p4 n (countPart n p j lo hi) (n + 4) k m
-  unfolding countPart numbersOf withSteps
+  unfolding countPart countWay numbersOf withSteps
   count-both p3 p4 x y z t g h i ex ey em =
       let at2 : n + 2 ≡ n + 1 + 1 = omega arith in
       let at3 : n + 3 ≡ n + 1 + 1 + 1 = omega arith in

@@ -1,7 +1,3 @@
-pub mod Right
-pub mod Whole
-pub mod WellMade
-pub mod Plans
 pub mod Laws
 pub mod Arms
 pub mod Loops

@@ -1,5 +1,5 @@
 -- Zeros, one more entry, one more rule.
-use Prim.Native.Nat.{ℕ, zero, suc, _+_, _*_, _≤_, _<_}
+use Prim.Native.Nat.{ℕ, zero, suc, _+_, _≤_, _<_}
 use mathlib.Core.Bool.{Bool, true, false, cond}
 use mathlib.Core.List.{List, [], _∷_, _++_}
 use mathlib.Core.Path.{_≡_, refl, sym, ap, ap₂, _∙_}
@@ -12,7 +12,6 @@ use lib.Seq.{getD-set-same, getD-set-other}
 use borrow.Author.Tests.{eqb-true, eqb-false}
 use Rattle.base.specs.Lists.{values}
 use Rattle.base.proofs.Lists.{length-valuesFrom, valuesFrom-snoc}
-use Rattle.model.specs.Rules.{Target, targetNode, subjectsOf, objectsOf, targetClass}
 use Rattle.tables.specs.Layout.{formCount, ruleCount, rootAt, ruleShapeAt, ruleTargetAt, ruleOperandAt}
 use Rattle.tables.specs.Decode.{entryAt, targetOf, ruleAt}
 use Rattle.tables.specs.Sizes.{blank}
@@ -20,9 +19,9 @@ use Rattle.tables.proofs.Blank.{blank-front}
 use Rattle.plan.specs.Steps.{Step, numbersOf}
 use Rattle.plan.specs.Layout.{planCount, laid, withNumbers, withSteps, planCells}
 use Rattle.plan.proofs.Stores.{store-rule, store-count, store-steps, laid-none}
-use Rattle.compiler.specs.Compile.{Part, entryPart, putAt, more, made, targetStep, ruleSteps, stepsTo, stepsOf, ruleStep, planOf}
+use Rattle.translation.specs.Compile.{Part, entryPart, putAt, more, made, targetStep, ruleSteps, stepsTo, stepsOf, ruleStep, planOf}
 use Rattle.compiler.specs.Stores.{numberIn, Added, FormsAdded, ruleStored}
-use Rattle.compiler.proofs.Whole.{length-to}
+use Rattle.translation.proofs.Whole.{length-to}
 
 -- ---- zeros
 pub zeros : (n j : ℕ) → _≡_ {A = ℕ} (getD (replicate n 0) j 0) 0

@@ -10,7 +10,7 @@ use Rattle.tables.specs.Layout.{cellCount}
 use Rattle.tables.specs.Sizes.{longEnough}
 use Rattle.tables.specs.WellFormed.{wellFormed}
 use Rattle.plan.specs.Layout.{planCount}
-use Rattle.compiler.specs.Compile.{stepsOf, planOf}
+use Rattle.translation.specs.Compile.{stepsOf, planOf}
 use Rattle.compiler.specs.declared.Compiled.{Compiled}
 use Rattle.compiler.specs.declared.Compiled.the-variants.{Steps, Refused}
 

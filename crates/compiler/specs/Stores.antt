@@ -8,7 +8,7 @@ use Rattle.tables.specs.Layout.{formCount, ruleCount}
 use Rattle.tables.specs.Decode.{ruleAt}
 use Rattle.plan.specs.Steps.{Step}
 use Rattle.plan.specs.Layout.{planCount, ruleSteps, withNumbers, withSteps}
-use Rattle.compiler.specs.Compile.{Part, made, targetStep}
+use Rattle.translation.specs.Compile.{Part, made, targetStep}
 
 -- the number at j, 0 past the end
 unfoldable pub numberIn : List ℕ → ℕ → ℕ

@@ -32,7 +32,7 @@ ghost use Rattle.tables.specs.Layout.{formCount, ruleCount, formFirstAt, formSe
 ghost use Rattle.tables.specs.Decode.{entryAt, ruleAt};
 ghost use Rattle.plan.specs.Steps.{numbersOf};
 ghost use Rattle.plan.specs.Layout.{planCount, withNumbers, laid};
-ghost use Rattle.compiler.specs.Compile.{countPart, entryPart, made, targetStep, stepsTo, stepsOf, ruleStep, planOf};
+ghost use Rattle.translation.specs.Compile.{countPart, entryPart, made, targetStep, stepsTo, stepsOf, ruleStep, planOf};
 ghost use Rattle.compiler.specs.Stores.{numberIn, TwoAdded, Added, FormsAdded, ruleStored, Fits};
 ghost use Rattle.compiler.specs.Answers.{answerOf, compileAnswer, planAfter};
 

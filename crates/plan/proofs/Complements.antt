@@ -1,5 +1,5 @@
 -- A node breaks a condition where it does not keep it: each breaking condition is the contrary of the keeping one.
-use Prim.Native.Nat.{ℕ, zero, suc, _+_, _-_, _≤_, _<_}
+use Prim.Native.Nat.{ℕ, zero, suc, _+_, _-_, _≤_}
 use mathlib.Core.List.{List, [], _∷_}
 use mathlib.Core.Option.{Option}
 use mathlib.Core.Bool.{Bool, true, false, not, cond, _&&_, _||_, Bool·not-not}
@@ -8,10 +8,10 @@ use native.Mathlib.Omega.{arith}
 use lib.Dec.{eqb, leb, ltb}
 use lib.IntN.{ℤ, pos, negsuc}
 use lib.Signed.{ltZ, leZ}
-use borrow.Author.Tests.{eq-eqb, ne-eqb, le-leb, lt-leb, leb-true, leb-false, le-ltb, lt-ltb}
+use borrow.Author.Tests.{eq-eqb, ne-eqb, le-leb, leb-true, leb-false, le-ltb, lt-ltb}
 use Rattle.base.specs.Bounded.{_⇒_, some, every, one, size}
 use Rattle.base.specs.Lists.{member, anyb, allb}
-use Rattle.base.proofs.Bools.{bool-cases, not-and, not-or}
+use Rattle.base.proofs.Bools.{bool-cases, not-and}
 use Rattle.base.proofs.Bounded.{not-every, some-or}
 use Rattle.model.specs.Graph.{Term, iri, blankNode, numeric, plain, tagged, Triple, valueOf, datatypeOf, languageOf, holds}
 use Rattle.model.specs.Shapes.{Kind, anIri, aBlank, aLiteral, isKind, Test, nodeKind, datatype, languageIn, minInclusive, minExclusive, maxInclusive, maxExclusive, satisfies, Upper, atMost, unbounded, within, subset, noneShared, allPairs, less, lessEq, sameLang}

@@ -1,3 +1,4 @@
 pub mod Complements
+pub mod Contraries
 pub mod Stores
 pub mod ReadBack

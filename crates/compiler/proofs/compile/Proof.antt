@@ -1,59 +1,40 @@
--- uses:
-use Prim.Native.Nat.{ℕ, _≤_, _<_}
 use mathlib.Core.Bool.{true}
 use mathlib.Core.Path.{_≡_, sym, _∙_}
 use denote.Ref.{now}
-use native.Mathlib.Omega.{arith}
-use lib.ListN.{length, take}
+use lib.ListN.{take}
 use lib.Seq.{length-take-le}
 use borrow.Author.Tests.{not-true, not-false}
 use Rattle.tables.specs.Sizes.{longEnough}
-use Rattle.tables.specs.WellFormed.{wellFormed}
 use Rattle.tables.proofs.Sizes.{long}
 use Rattle.compiler.proofs.Answers.{short-tables, short-plan, malformed, compiled, fits}
--- end
 use borrow.Author.Needs.{needs}
 use Rattle.compiler.proofs.compile.Statement.{statement}
 use Rattle.compiler.proofs.compile.Tie as tie
-use Rattle.compiler.proofs.compile.Reads as reads
-use Rattle.compiler.proofs.compile.Lts as lts
-use Rattle.compiler.proofs.make_plan.Reads as make-plan-reads
-use Rattle.tablecheck.proofs.well_formed.Reads as well-formed-reads
-use Rattle.tables.proofs.lent.enough.Reads as enough-reads
 
--- src/lib.rt:352:9
 enough-requires : tie.Need-enough-requires
 enough-requires c κs = search needs
 
--- src/lib.rt:353:9
 returns : tie.Need-returns
 returns c = let a = c .before .before .before .before .before .args in short-tables (now (a .names)) (now (a .cells)) (now (a .values)) (now (a .plan)) (sym (c .before .enough .ensures) ∙ not-true (c .before .enough .result) (c .if1 .taken))
 
--- src/lib.rt:356:9
 returns-2 : tie.Need-returns-2
 returns-2 c = let a = c .before .before .before .before .before .before .args in short-plan (now (a .names)) (now (a .cells)) (now (a .values)) (now (a .plan)) (c .if2 .taken)
 
--- src/lib.rt:358:9
 slice-aggregate-part : tie.Need-slice-aggregate-part
 slice-aggregate-part c = let a = c .before .before .before .before .before .before .before .args in let e : longEnough (now (a .names)) (now (a .cells)) (now (a .values)) ≡ true = sym (c .before .before .before .enough .ensures) ∙ not-false (c .before .before .before .enough .result) (c .before .before .if1 .left) in sym (length-take-le 16602 (now (a .cells)) (long (now (a .names)) (now (a .cells)) (now (a .values)) e .cells))
 
--- src/lib.rt:359:9
 well-formed-requires : tie.Need-well-formed-requires
 well-formed-requires c κs = search needs
 
--- src/lib.rt:360:9
 returns-3 : tie.Need-returns-3
 returns-3 c = let a = c .before .before .before .before .before .before .before .before .before .args in let e : longEnough (now (a .names)) (now (a .cells)) (now (a .values)) ≡ true = sym (c .before .before .before .before .before .enough .ensures) ∙ not-false (c .before .before .before .before .before .enough .result) (c .before .before .before .before .if1 .left) in malformed (now (a .names)) (now (a .cells)) (now (a .values)) (now (a .plan)) e (c .before .before .before .if2 .left) (sym (c .before .well-formed .ensures) ∙ not-true (c .before .well-formed .result) (c .if3 .taken))
 
--- src/lib.rt:362:21
 make-plan-requires : tie.Need-make-plan-requires
 make-plan-requires c κs = let a = c .before .before .before .before .before .before .before .before .before .before .args in fits (take 16602 (now (a .cells))) (now (a .plan)) (sym (c .before .before .well-formed .ensures) ∙ not-false (c .before .before .well-formed .result) (c .before .if3 .left)) (c .before .before .before .before .if2 .left)
 
--- src/lib.rt:348:1
 same-length : tie.Need-same-length
 same-length c = search needs
 
--- src/lib.rt:348:1
 returns-4 : tie.Need-returns-4
 returns-4 c = let a = c .before .before .before .before .before .before .before .before .before .before .before .before .before .args in let e : longEnough (now (a .names)) (now (a .cells)) (now (a .values)) ≡ true = sym (c .before .before .before .before .before .before .before .before .before .enough .ensures) ∙ not-false (c .before .before .before .before .before .before .before .before .before .enough .result) (c .before .before .before .before .before .before .before .before .if1 .left) in compiled (now (a .names)) (now (a .cells)) (now (a .values)) (now (a .plan)) e (c .before .before .before .before .before .before .before .if2 .left) (sym (c .before .before .before .before .before .well-formed .ensures) ∙ not-false (c .before .before .before .before .before .well-formed .result) (c .before .before .before .before .if3 .left)) (c .before .before .make-plan .result) (c .before .before .make-plan .last .0) (c .before .before .make-plan .ensures .0) (c .before .before .make-plan .ensures .1)
 

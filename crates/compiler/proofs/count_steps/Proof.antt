@@ -1,138 +1,99 @@
--- uses:
-use Prim.Native.Nat.{ℕ, _+_}
-use mathlib.Core.Path.{_≡_, refl, sym, ap, _∙_}
 use denote.Ref.{now}
 use Rattle.compiler.proofs.Laws.{count-none, count-high, count-low, count-both}
--- end
 use borrow.Author.Needs.{needs}
 use Rattle.compiler.proofs.count_steps.Statement.{statement}
 use Rattle.compiler.proofs.count_steps.Tie as tie
-use Rattle.compiler.proofs.count_steps.Reads as reads
-use Rattle.compiler.proofs.count_steps.Lts as lts
-use Rattle.compiler.proofs.narrow.Reads as narrow-reads
-use Rattle.plan.proofs.put_step.Reads as put-step-reads
 
--- src/lib.rt:165:15
 add-put-step : tie.Need-add-put-step
 add-put-step c = search needs
 
--- src/lib.rt:166:15
 narrow-requires : tie.Need-narrow-requires
 narrow-requires c κs = search needs
 
--- src/lib.rt:167:21
 add-narrow : tie.Need-add-narrow
 add-narrow c = search needs
 
--- src/lib.rt:167:14
 narrow-requires-2 : tie.Need-narrow-requires-2
 narrow-requires-2 c κs = search needs
 
--- src/lib.rt:169:5
 put-step-requires : tie.Need-put-step-requires
 put-step-requires c κs = search needs
 
--- src/lib.rt:172:28
 add-put-step-2 : tie.Need-add-put-step-2
 add-put-step-2 c = search needs
 
--- src/lib.rt:172:13
 put-step-requires-2 : tie.Need-put-step-requires-2
 put-step-requires-2 c κs = search needs
 
--- src/lib.rt:173:13
 same-length : tie.Need-same-length
 same-length c = search needs
 
--- src/lib.rt:173:13
 returns : tie.Need-returns
 returns c = let a = c .before .before .before .before .before .before .before .before .before .before .before .before .before .args in count-none (now (a .plan)) (c .before .before .before .before .before .before .before .before .put-step .last .0) (c .before .before .put-step2 .last .0) (a .n) (a .p) (a .j) (a .lo) (a .hi) (c .before .before .before .before .before .before .before .before .before .before .before .narrow .result) (c .before .before .before .before .before .before .before .before .before .before .narrow2 .result) (c .before .before .before .before .before .before .before .before .put-step .ensures) (c .before .before .before .before .before .before .before .before .before .before .before .narrow .ensures) (c .before .before .before .before .before .if1 .taken) (c .before .before .before .before .if2 .taken) (c .before .before .put-step2 .ensures) (c .before .before .before .before .before .before .before .before .before .before .narrow2 .ensures)
 
--- src/lib.rt:175:24
 add-put-step-3 : tie.Need-add-put-step-3
 add-put-step-3 c = search needs
 
--- src/lib.rt:175:40
 add-put-step-4 : tie.Need-add-put-step-4
 add-put-step-4 c = search needs
 
--- src/lib.rt:175:9
 put-step-requires-3 : tie.Need-put-step-requires-3
 put-step-requires-3 c κs = search needs
 
--- src/lib.rt:176:9
 same-length-2 : tie.Need-same-length-2
 same-length-2 c = search needs
 
--- src/lib.rt:176:9
 returns-2 : tie.Need-returns-2
 returns-2 c = let a = c .before .before .before .before .before .before .before .before .before .before .before .before .before .args in count-high (now (a .plan)) (c .before .before .before .before .before .before .before .before .put-step .last .0) (c .before .before .put-step3 .last .0) (a .n) (a .p) (a .j) (a .lo) (a .hi) (c .before .before .before .before .before .before .before .before .before .before .before .narrow .result) (c .before .before .before .before .before .before .before .before .before .before .narrow2 .result) (c .before .before .before .before .before .before .before .before .put-step .ensures) (c .before .before .before .before .before .before .before .before .before .before .before .narrow .ensures) (c .before .before .before .before .before .if1 .taken) (c .before .before .before .before .if2 .left) (c .before .before .put-step3 .ensures) (c .before .before .before .before .before .before .before .before .before .before .narrow2 .ensures)
 
--- src/lib.rt:178:20
 add-put-step-5 : tie.Need-add-put-step-5
 add-put-step-5 c = search needs
 
--- src/lib.rt:178:39
 sub-put-step : tie.Need-sub-put-step
 sub-put-step c = search needs
 
--- src/lib.rt:178:5
 put-step-requires-4 : tie.Need-put-step-requires-4
 put-step-requires-4 c κs = search needs
 
--- src/lib.rt:180:9
 same-length-3 : tie.Need-same-length-3
 same-length-3 c = search needs
 
--- src/lib.rt:180:9
 returns-3 : tie.Need-returns-3
 returns-3 c = let a = c .before .before .before .before .before .before .before .before .before .before .before .before .before .args in count-low (now (a .plan)) (c .before .before .before .before .before .before .before .before .put-step .last .0) (c .before .before .before .put-step4 .last .0) (a .n) (a .p) (a .j) (a .lo) (a .hi) (c .before .before .before .before .before .before .before .before .before .before .before .narrow .result) (c .before .before .before .before .before .before .before .before .before .before .narrow2 .result) (c .before .before .before .before .before .before .before .before .put-step .ensures) (c .before .before .before .before .before .before .before .before .before .before .before .narrow .ensures) (c .before .before .before .before .before .if1 .left) (c .if3 .taken) (c .before .before .before .put-step4 .ensures) (c .before .before .before .before .before .before .before .before .before .before .narrow2 .ensures)
 
--- src/lib.rt:182:20
 add-put-step-6 : tie.Need-add-put-step-6
 add-put-step-6 c = search needs
 
--- src/lib.rt:182:36
 add-put-step-7 : tie.Need-add-put-step-7
 add-put-step-7 c = search needs
 
--- src/lib.rt:182:5
 put-step-requires-5 : tie.Need-put-step-requires-5
 put-step-requires-5 c κs = search needs
 
--- src/lib.rt:183:20
 add-put-step-8 : tie.Need-add-put-step-8
 add-put-step-8 c = search needs
 
--- src/lib.rt:183:46
 add-narrow-2 : tie.Need-add-narrow-2
 add-narrow-2 c = search needs
 
--- src/lib.rt:183:39
 narrow-requires-3 : tie.Need-narrow-requires-3
 narrow-requires-3 c κs = search needs
 
--- src/lib.rt:183:5
 put-step-requires-6 : tie.Need-put-step-requires-6
 put-step-requires-6 c κs = search needs
 
--- src/lib.rt:185:15
 add-t8 : tie.Need-add-t8
 add-t8 c = search needs
 
--- src/lib.rt:187:21
 add-narrow-3 : tie.Need-add-narrow-3
 add-narrow-3 c = search needs
 
--- src/lib.rt:187:14
 narrow-requires-4 : tie.Need-narrow-requires-4
 narrow-requires-4 c κs = search needs
 
--- src/lib.rt:160:1
 same-length-4 : tie.Need-same-length-4
 same-length-4 c = search needs
 
--- src/lib.rt:160:1
 returns-4 : tie.Need-returns-4
 returns-4 c = let a = c .before .before .before .before .before .before .before .before .before .before .before .before .before .before .before .before .before .before .before .before .before .before .before .args in count-both (now (a .plan)) (c .before .before .before .before .before .before .before .before .before .before .before .before .before .before .before .before .before .before .put-step .last .0) (c .before .before .before .before .before .before .before .before .before .before .before .before .before .put-step4 .last .0) (a .n) (a .p) (a .j) (a .lo) (a .hi) (c .before .before .before .before .before .before .before .before .before .before .before .before .before .before .before .before .before .before .before .before .before .narrow .result) (c .narrow4 .result) (c .before .before .before .before .before .before .before .before .before .before .before .before .before .before .before .before .before .before .put-step .ensures) (c .before .before .before .before .before .before .before .before .before .before .before .before .before .before .before .before .before .before .before .before .before .narrow .ensures) (c .before .before .before .before .before .before .before .before .put-step5 .last .0) (c .before .before .before .put-step6 .last .0) (c .before .before .before .before .before .before .before .before .before .before .before .before .before .before .before .before .before .before .before .before .narrow2 .result) (c .before .before .before .before .narrow3 .result) (c .before .before .before .before .before .before .before .before .before .before .before .before .before .before .before .if1 .left) (c .before .before .before .before .before .before .before .before .before .before .if3 .left) (c .before .before .before .before .before .before .before .before .before .before .before .before .before .put-step4 .ensures) (c .before .before .before .before .before .before .before .before .put-step5 .ensures) (c .before .before .before .put-step6 .ensures) (c .before .before .before .before .before .before .before .before .before .before .before .before .before .before .before .before .before .before .before .before .narrow2 .ensures) (c .before .before .before .before .narrow3 .ensures) (c .narrow4 .ensures)
 

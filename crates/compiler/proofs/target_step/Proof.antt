@@ -1,80 +1,53 @@
--- uses:
-use Prim.Native.Nat.{ℕ, _+_, _-_, _≤_, _<_, zero-le}
-use mathlib.Core.List.{List, [], _∷_, _++_}
-use mathlib.Core.Path.{_≡_, refl, sym, ap, _∙_, subst}
+use Prim.Native.Nat.{zero-le}
 use denote.Ref.{now}
-use native.Mathlib.Omega.{arith}
-use lib.ListN.{getD, length, set, replicate, drop, length-set, length-replicate}
 use Rattle.tablecheck.proofs.Codes.{next}
 use Rattle.compiler.proofs.Loops.{target-node, target-subjects, target-objects, target-class}
--- end
 use borrow.Author.Needs.{needs}
 use Rattle.compiler.proofs.target_step.Statement.{statement}
 use Rattle.compiler.proofs.target_step.Tie as tie
-use Rattle.compiler.proofs.target_step.Reads as reads
-use Rattle.compiler.proofs.target_step.Lts as lts
-use Rattle.plan.proofs.put_step.Reads as put-step-reads
-use Rattle.tables.proofs.reads.rule_link.Reads as rule-link-reads
-use Rattle.tables.proofs.reads.rule_node.Reads as rule-node-reads
-use Rattle.tables.proofs.reads.rule_target.Reads as rule-target-reads
 
--- src/lib.rt:294:9
 rule-node-requires : tie.Need-rule-node-requires
 rule-node-requires c κs = search needs
 
--- src/lib.rt:295:9
 rule-link-requires : tie.Need-rule-link-requires
 rule-link-requires c κs = search needs
 
--- src/lib.rt:296:9
 rule-target-requires : tie.Need-rule-target-requires
 rule-target-requires c κs = search needs
 
--- src/lib.rt:298:14
 put-step-requires : tie.Need-put-step-requires
 put-step-requires c κs = search needs
 
--- src/lib.rt:299:14
 put-step-requires-2 : tie.Need-put-step-requires-2
 put-step-requires-2 c κs = search needs
 
--- src/lib.rt:300:14
 put-step-requires-3 : tie.Need-put-step-requires-3
 put-step-requires-3 c κs = search needs
 
--- src/lib.rt:301:22
 put-step-requires-4 : tie.Need-put-step-requires-4
 put-step-requires-4 c κs = search needs
 
--- src/lib.rt:290:1
 same-length : tie.Need-same-length
 same-length c = search needs
 
--- src/lib.rt:290:1
 returns : tie.Need-returns
 returns c = let a = c .before .before .before .before .before .before .before .before .before .before .args in target-node (now (a .cells)) (now (a .plan)) (c .before .before .put-step .last .0) (a .r) (a .n) (c .before .before .before .before .before .rule-target .result) (c .before .before .before .before .before .before .before .rule-node .result .0) (c .before .before .before .before .before .rule-target .ensures) (c .before .before .before .before .before .before .before .rule-node .ensures) (c .before .before .before .before .match .keys1) (c .before .before .put-step .ensures)
 
--- src/lib.rt:290:1
 same-length-2 : tie.Need-same-length-2
 same-length-2 c = search needs
 
--- src/lib.rt:290:1
 returns-2 : tie.Need-returns-2
 returns-2 c = let a = c .before .before .before .before .before .before .before .before .before .before .args in target-subjects (now (a .cells)) (now (a .plan)) (c .before .before .put-step2 .last .0) (a .r) (a .n) (c .before .before .before .before .before .rule-target .result) (c .before .before .before .before .before .before .rule-link .result .0) (c .before .before .before .before .before .rule-target .ensures) (c .before .before .before .before .before .before .rule-link .ensures) (c .before .before .before .before .match .keys2) (c .before .before .put-step2 .ensures)
 
--- src/lib.rt:290:1
 same-length-3 : tie.Need-same-length-3
 same-length-3 c = search needs
 
--- src/lib.rt:290:1
 returns-3 : tie.Need-returns-3
 returns-3 c = let a = c .before .before .before .before .before .before .before .before .before .before .args in target-objects (now (a .cells)) (now (a .plan)) (c .before .before .put-step3 .last .0) (a .r) (a .n) (c .before .before .before .before .before .rule-target .result) (c .before .before .before .before .before .before .rule-link .result .0) (c .before .before .before .before .before .rule-target .ensures) (c .before .before .before .before .before .before .rule-link .ensures) (c .before .before .before .before .match .keys3) (c .before .before .put-step3 .ensures)
 
--- src/lib.rt:290:1
 same-length-4 : tie.Need-same-length-4
 same-length-4 c = search needs
 
--- src/lib.rt:290:1
 returns-4 : tie.Need-returns-4
 returns-4 c = let a = c .before .before .before .before .before .before .before .before .before .before .args in target-class (now (a .cells)) (now (a .plan)) (c .before .before .put-step4 .last .0) (a .r) (a .n) (c .before .before .before .before .before .rule-target .result) (c .before .before .before .before .before .before .before .rule-node .result .0) (c .before .before .before .before .before .rule-target .ensures) (c .before .before .before .before .before .before .before .rule-node .ensures) (next 2 (c .before .before .before .before .before .rule-target .result) (next 1 (c .before .before .before .before .before .rule-target .result) (next 0 (c .before .before .before .before .before .rule-target .result) zero-le (c .before .before .before .before .match .rest .0 .0 .1)) (c .before .before .before .before .match .rest .0 .1)) (c .before .before .before .before .match .rest .1)) (c .before .before .put-step4 .ensures)
 

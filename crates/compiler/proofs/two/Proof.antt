@@ -1,54 +1,34 @@
--- uses:
-use Prim.Native.Nat.{ℕ, _+_}
-use mathlib.Core.List.{List, [], _∷_}
-use mathlib.Core.Path.{_≡_, refl, sym, ap, _∙_}
+use mathlib.Core.List.{[], _∷_}
 use denote.Ref.{now}
-use native.Mathlib.Omega.{arith}
-use lib.ListN.{getD, List·getD-eq-default}
-use Rattle.tables.specs.Layout.{rootAt}
 use Rattle.compiler.proofs.Laws.{two-law}
--- end
 use borrow.Author.Needs.{needs}
 use Rattle.compiler.proofs.two.Statement.{statement}
 use Rattle.compiler.proofs.two.Tie as tie
-use Rattle.compiler.proofs.two.Reads as reads
-use Rattle.compiler.proofs.two.Lts as lts
-use Rattle.compiler.proofs.narrow.Reads as narrow-reads
-use Rattle.plan.proofs.put_step.Reads as put-step-reads
 
--- src/lib.rt:59:5
 put-step-requires : tie.Need-put-step-requires
 put-step-requires c κs = search needs
 
--- src/lib.rt:60:20
 add-put-step : tie.Need-add-put-step
 add-put-step c = search needs
 
--- src/lib.rt:60:5
 put-step-requires-2 : tie.Need-put-step-requires-2
 put-step-requires-2 c κs = search needs
 
--- src/lib.rt:62:15
 add-t14 : tie.Need-add-t14
 add-t14 c = search needs
 
--- src/lib.rt:63:15
 narrow-requires : tie.Need-narrow-requires
 narrow-requires c κs = search needs
 
--- src/lib.rt:64:21
 add-narrow : tie.Need-add-narrow
 add-narrow c = search needs
 
--- src/lib.rt:64:14
 narrow-requires-2 : tie.Need-narrow-requires-2
 narrow-requires-2 c κs = search needs
 
--- src/lib.rt:55:1
 same-length : tie.Need-same-length
 same-length c = search needs
 
--- src/lib.rt:55:1
 returns : tie.Need-returns
 returns c = let a = c .before .before .before .before .before .before .before .before .before .before .before .args in two-law (now (a .plan)) (c .before .before .before .before .before .before .before .before .put-step .last .0) (c .before .before .before .before .put-step2 .last .0) (a .n) (a .c ∷ a .a ∷ a .b ∷ 0 ∷ 0 ∷ []) (a .d ∷ a .x ∷ a .y ∷ 0 ∷ 0 ∷ []) (c .before .narrow .result) (c .narrow2 .result) (c .before .before .before .before .before .before .before .before .put-step .ensures) (c .before .before .before .before .put-step2 .ensures) (c .before .narrow .ensures) (c .narrow2 .ensures)
 

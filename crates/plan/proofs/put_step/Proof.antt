@@ -6,74 +6,55 @@ use borrow.Author.Needs.{needs}
 use Rattle.plan.specs.Layout.{withNumbers}
 use Rattle.plan.proofs.put_step.Statement.{statement}
 use Rattle.plan.proofs.put_step.Tie as tie
-use Rattle.plan.proofs.put_step.Reads as reads
-use Rattle.plan.proofs.put_step.Lts as lts
 
--- src/lib.rt:29:10
 add-plan : tie.Need-add-plan
 add-plan c = search needs
 
--- src/lib.rt:29:5
 mul-plan : tie.Need-mul-plan
 mul-plan c = search needs
 
--- src/lib.rt:29:5
 slice-write-plan : tie.Need-slice-write-plan
 slice-write-plan c = search needs
 
--- src/lib.rt:30:10
 add-plan-2 : tie.Need-add-plan-2
 add-plan-2 c = search needs
 
--- src/lib.rt:30:5
 mul-plan-2 : tie.Need-mul-plan-2
 mul-plan-2 c = search needs
 
--- src/lib.rt:30:5
 slice-write-plan-2 : tie.Need-slice-write-plan-2
 slice-write-plan-2 c = simp length-set (omega arith)
 
--- src/lib.rt:31:10
 add-plan-3 : tie.Need-add-plan-3
 add-plan-3 c = search needs
 
--- src/lib.rt:31:5
 mul-plan-3 : tie.Need-mul-plan-3
 mul-plan-3 c = search needs
 
--- src/lib.rt:31:5
 slice-write-plan-3 : tie.Need-slice-write-plan-3
 slice-write-plan-3 c = simp length-set (omega arith)
 
--- src/lib.rt:32:10
 add-plan-4 : tie.Need-add-plan-4
 add-plan-4 c = search needs
 
--- src/lib.rt:32:5
 mul-plan-4 : tie.Need-mul-plan-4
 mul-plan-4 c = search needs
 
--- src/lib.rt:32:5
 slice-write-plan-4 : tie.Need-slice-write-plan-4
 slice-write-plan-4 c = simp length-set (omega arith)
 
--- src/lib.rt:33:10
 add-plan-5 : tie.Need-add-plan-5
 add-plan-5 c = search needs
 
--- src/lib.rt:33:5
 mul-plan-5 : tie.Need-mul-plan-5
 mul-plan-5 c = search needs
 
--- src/lib.rt:33:5
 slice-write-plan-5 : tie.Need-slice-write-plan-5
 slice-write-plan-5 c = simp length-set (omega arith)
 
--- src/lib.rt:25:1
 same-length : tie.Need-same-length
 same-length c = search needs
 
--- src/lib.rt:25:1
 returns : tie.Need-returns
 unfolding withNumbers
 returns c = refl

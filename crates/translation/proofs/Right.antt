@@ -1,35 +1,30 @@
 -- One entry is right where the earlier ones are: the set of its keeping step is the nodes that conform to its shape, and that
 -- of its breaking step the nodes that do not.
-use Prim.Native.Nat.{ℕ, zero, suc, _+_, _-_, _≤_, _<_}
-use mathlib.Core.Bool.{Bool, true, false, not, _&&_, _||_, cond, true≢false, Bool·not-not}
-use mathlib.Core.List.{List, [], _∷_, _++_}
+use Prim.Native.Nat.{ℕ, _+_, _-_, _≤_, _<_}
+use mathlib.Core.Bool.{Bool, true, false, not, _&&_, _||_, true≢false, Bool·not-not}
+use mathlib.Core.List.{List, [], _∷_}
 use mathlib.Core.Option.{Option}
-use mathlib.Core.Path.{_≡_, refl, sym, ap, ap₂, _∙_, subst}
+use mathlib.Core.Path.{_≡_, refl, sym, ap, ap₂, _∙_}
 use native.Mathlib.Omega.{arith}
 use lib.Dec.{eqb, ltb, leb}
 use lib.ListN.{length}
 use lib.IntN.{ℤ}
 use borrow.Author.Tests.{eqb-true, eqb-false, ltb-true, leb-true}
 use Rattle.base.specs.Bounded.{_⇒_, every, size}
-use Rattle.base.specs.Lists.{member, allb}
 use Rattle.base.specs.Numbered.{below}
 use Rattle.base.proofs.Bools.{and-left, and-right, not-and, not-or}
 use Rattle.base.proofs.Numbered.{at-number, below-number}
 use Rattle.model.specs.Graph.{Graph, holds}
-use Rattle.model.specs.Shapes.{Shape, Test, satisfies, within, unbounded, less, lessEq, sameLang, from, objects, starts, conforms}
+use Rattle.model.specs.Shapes.{Shape, Test, satisfies, within, less, from, conforms}
 use Rattle.tables.specs.Layout.{noNumber, shapeCount, pathCount, rootAt}
 use Rattle.tables.specs.Entries.{Entry}
-use Rattle.tables.specs.Decode.{graphAt, pathAt, endAt, upperOf, itemsAt, shapeOf, entryAt}
+use Rattle.tables.specs.Decode.{graphAt, pathAt, upperOf, itemsAt, shapeOf, entryAt}
 use Rattle.tables.specs.WellFormed.{entryOk, upperOk}
 use Rattle.plan.specs.Steps.{Step}
-use Rattle.plan.specs.Conditions.{failsTest, someUnlisted}
 use Rattle.plan.specs.Sets.{testOf, linksOf, inStep, setBy}
-use Rattle.plan.proofs.Complements.{not-satisfies, not-less, not-lessEq, not-clash, not-equal, not-apart, not-pairs, not-closed, not-all, broken-none, broken-high, broken-low, broken-both}
-use Rattle.compiler.specs.Compile.{Part, two, countPart, entryPart}
-
--- two sets with the same members
-pub ext : {p q : ℕ → Bool} → ((v : ℕ) → p v ≡ q v) → p ≡ q
-ext h = λ i v. h v i
+use Rattle.plan.proofs.Complements.{not-all, broken-none, broken-high, broken-low, broken-both}
+use Rattle.plan.proofs.Contraries.{ext, Contrary, all-none, is-isnot, equal-unequal, apart-meet, less-notless, lesseq-notlesseq, onelang-manylang, test-set, test-untest, closed-set, closed-opened}
+use Rattle.translation.specs.Compile.{countWay, countPart, entryPart}
 
 -- the plan has these steps from number s on
 abbrev pub Has : (ℕ → Step) → ℕ → List Step → Type 0
@@ -88,23 +83,19 @@ module _ (cs : List ℕ) (vs : List ℤ) (at : ℕ → Step) where
     before a l = h a (ltb-true a e l)
 
     -- two steps, the second the contrary of the first
-    right-two : (x y : Step) (p q : ℕ → Bool) → Has at s (x ∷ y ∷ []) → inStep cs vs x (lower s) ≡ p → inStep cs vs y (lower (s + 1)) ≡ q → ((v : ℕ) → not (p v) ≡ q v) → Sets cs vs at (s + 2) s (s + 1) p
-    right-two x y p q a f g n = record { keepLow = omega arith; breakLow = omega arith; keeps = set-at s x (a .0) ∙ f; breaks = set-at (s + 1) y (a .1 .0) ∙ g ∙ ext (λ v. sym (n v)) }
+    right-two : (x y : Step) (p : ℕ → Bool) → Has at s (x ∷ y ∷ []) → inStep cs vs x (lower s) ≡ p → Contrary cs vs (lower s) (lower (s + 1)) x y → Sets cs vs at (s + 2) s (s + 1) p
+    right-two x y p a f n = record { keepLow = omega arith; breakLow = omega arith; keeps = set-at s x (a .0) ∙ f; breaks = set-at (s + 1) y (a .1 .0) ∙ n ∙ ap (λ (q : ℕ → Bool). λ v. not (q v)) f }
 
     right-test : (t : Test) → testOf cs (entryAt cs vs e) ≡ Option.some t → Has at s (Step.test e ∷ Step.untest e ∷ []) → Sets cs vs at (s + 2) s (s + 1) (λ v. satisfies t (g .term v))
-    unfolding inStep holds
-    right-test t q st = right-two (Step.test e) (Step.untest e) (λ v. satisfies t (g .term v)) (λ v. failsTest t (g .term v)) st (ap (λ (o : Option Test). λ v. holds (λ t. satisfies t (g .term v)) o) q) (ap (λ (o : Option Test). λ v. holds (λ t. failsTest t (g .term v)) o) q) (λ v. not-satisfies t (g .term v))
+    right-test t q st = right-two (Step.test e) (Step.untest e) (λ v. satisfies t (g .term v)) st (test-set cs vs (lower s) (lower (s + 1)) e t q) (test-untest cs vs (lower s) (lower (s + 1)) e t q)
 
     right-count : (p a lo hi : ℕ) → Sets cs vs at s (keep a) (brk a) (conforms g (sh a)) → lo ≤ 1024 → Has at s (countPart s p (keep a) lo hi .steps)
         → Sets cs vs at (s + length (countPart s p (keep a) lo hi .steps)) (countPart s p (keep a) lo hi .keep) (countPart s p (keep a) lo hi .brk) (λ v. within lo (upperOf hi) (counted p (conforms g (sh a)) v))
-    unfolding countPart inStep
+    unfolding countPart countWay inStep
     right-count p a lo hi r low st = go (eqb lo 0) refl (eqb hi noNumber) refl st
       where
         n : ℕ → ℕ
         n v = counted p (conforms g (sh a)) v
-
-        own : Bool → Bool → Part
-        own z t = cond z (cond t (two s (Step.count p (keep a) lo hi) Step.none) (two s (Step.count p (keep a) lo hi) (Step.count p (keep a) (hi + 1) noNumber))) (cond t (two s (Step.count p (keep a) lo hi) (Step.count p (keep a) 0 (lo - 1))) (record { steps = Step.count p (keep a) lo hi ∷ Step.count p (keep a) 0 (lo - 1) ∷ Step.count p (keep a) (hi + 1) noNumber ∷ Step.either (s + 1) (s + 2) ∷ []; keep = s; brk = s + 3 }))
 
         -- the step of the count itself, and another count of the same members
         first : at s ≡ Step.count p (keep a) lo hi → setBy cs vs at s ≡ (λ v. within lo (upperOf hi) (n v))
@@ -113,7 +104,7 @@ module _ (cs : List ℕ) (vs : List ℤ) (at : ℕ → Step) where
         later : (k lo hi : ℕ) → s ≤ k → at k ≡ Step.count p (keep a) lo hi → setBy cs vs at k ≡ (λ v. within lo (upperOf hi) (n v))
         later k lo hi l x = set-count k (keep a) (conforms g (sh a)) (let m : keep a < s = r .keepLow in omega arith) (r .keeps) p lo hi x
 
-        go : (z : Bool) → eqb lo 0 ≡ z → (t : Bool) → eqb hi noNumber ≡ t → Has at s (own z t .steps) → Sets cs vs at (s + length (own z t .steps)) (own z t .keep) (own z t .brk) (λ v. within lo (upperOf hi) (n v))
+        go : (z : Bool) → eqb lo 0 ≡ z → (t : Bool) → eqb hi noNumber ≡ t → Has at s (countWay s z t p (keep a) lo hi .steps) → Sets cs vs at (s + length (countWay s z t p (keep a) lo hi .steps)) (countWay s z t p (keep a) lo hi .keep) (countWay s z t p (keep a) lo hi .brk) (λ v. within lo (upperOf hi) (n v))
         go true ez true et st = record { keepLow = omega arith; breakLow = omega arith; keeps = first (st .0); breaks = set-at (s + 1) Step.none (st .1 .0) ∙ ext (λ v. sym (broken-none lo hi (n v) (eqb-true lo 0 ez) (eqb-true hi noNumber et))) }
         go true ez false et st = record { keepLow = omega arith; breakLow = omega arith; keeps = first (st .0); breaks = later (s + 1) (hi + 1) noNumber (omega arith) (st .1 .0) ∙ ext (λ v. sym (broken-high lo hi (n v) (eqb-true lo 0 ez) (eqb-false hi noNumber et))) }
         go false ez true et st = record { keepLow = omega arith; breakLow = omega arith; keeps = first (st .0); breaks = later (s + 1) 0 (lo - 1) (omega arith) (st .1 .0) ∙ ext (λ v. sym (broken-low lo hi (n v) (eqb-false lo 0 ez) low (eqb-true hi noNumber et))) }
@@ -126,8 +117,8 @@ module _ (cs : List ℕ) (vs : List ℤ) (at : ℕ → Step) where
 
     pub entry-right : (x : Entry) → entryAt cs vs e ≡ x → entryOk cs e x ≡ true → Has at s (entryPart cs keep brk s e x .steps) → Sets cs vs at (s + length (entryPart cs keep brk s e x .steps)) (entryPart cs keep brk s e x .keep) (entryPart cs keep brk s e x .brk) (conforms g (shapeOf cs x sh))
     unfolding entryPart shapeOf conforms entryOk inStep testOf linksOf holds
-    entry-right Entry.top z ok st = right-two Step.all Step.none (λ v. true) (λ v. false) st refl refl (λ v. refl)
-    entry-right (Entry.is c) z ok st = right-two (Step.is c) (Step.isnot c) (λ v. eqb v c) (λ v. not (eqb v c)) st refl refl (λ v. refl)
+    entry-right Entry.top z ok st = right-two Step.all Step.none (λ v. true) st refl (all-none cs vs (lower s) (lower (s + 1)))
+    entry-right (Entry.is c) z ok st = right-two (Step.is c) (Step.isnot c) (λ v. eqb v c) st refl (is-isnot cs vs (lower s) (lower (s + 1)) c)
     entry-right (Entry.shape n) z ok st =
         let r = before (rootAt cs n) (and-right (ltb n (shapeCount cs)) (ltb (rootAt cs n) e) ok) in
         record { keepLow = let l : keep (rootAt cs n) < s = r .keepLow in omega arith; breakLow = let l : brk (rootAt cs n) < s = r .breakLow in omega arith; keeps = r .keeps; breaks = r .breaks }
@@ -156,10 +147,10 @@ module _ (cs : List ℕ) (vs : List ℤ) (at : ℕ → Step) where
     entry-right (Entry.all p a) z ok st =
         let r = before a (and-right (ltb p (pathCount cs)) (ltb a e) ok) in
         record { keepLow = omega arith; breakLow = omega arith; keeps = set-every s (keep a) (conforms g (sh a)) (r .keepLow) (r .keeps) p (st .0); breaks = set-count (s + 1) (brk a) (λ v. not (conforms g (sh a) v)) (let l : brk a < s = r .breakLow in omega arith) (r .breaks) p 1 noNumber (st .1 .0) ∙ ext (λ v. sym (not-all (g .nodes) (from g (pathAt cs p) v) (conforms g (sh a)))) }
-    entry-right (Entry.equal f l) z ok st = right-two (Step.equal f l) (Step.unequal f l) _ _ st refl refl (λ v. not-equal (g .nodes) (starts g (endAt cs f) v) (objects g l v))
-    entry-right (Entry.apart f l) z ok st = right-two (Step.apart f l) (Step.meet f l) _ _ st refl refl (λ v. not-apart (g .nodes) (starts g (endAt cs f) v) (objects g l v))
-    entry-right (Entry.closed i n) z ok st = right-two (Step.closed e) (Step.opened e) _ (λ v. someUnlisted (g .triples) (itemsAt cs i n) v) st (ap (λ (o : Option (List ℕ)). λ v. holds (λ ps. allb (λ t. eqb (t .subject) v ⇒ member (t .predicate) ps) (g .triples)) o) (ap (linksOf cs) z)) (ap (λ (o : Option (List ℕ)). λ v. holds (λ ps. someUnlisted (g .triples) ps v) o) (ap (linksOf cs) z)) (λ v. not-closed (g .triples) (itemsAt cs i n) v)
-    entry-right (Entry.less p l) z ok st = right-two (Step.less p l) (Step.notless p l) _ _ st refl refl (λ v. not-pairs (g .nodes) (from g (pathAt cs p) v) (objects g l v) _ _ (λ x y. not-less (g .term x) (g .term y)))
-    entry-right (Entry.lesseq p l) z ok st = right-two (Step.lesseq p l) (Step.notlesseq p l) _ _ st refl refl (λ v. not-pairs (g .nodes) (from g (pathAt cs p) v) (objects g l v) _ _ (λ x y. not-lessEq (g .term x) (g .term y)))
-    entry-right (Entry.onelang p) z ok st = right-two (Step.onelang p) (Step.manylang p) _ _ st refl refl (λ v. not-pairs (g .nodes) (from g (pathAt cs p) v) (from g (pathAt cs p) v) _ _ (λ x y. not-clash (g .term) x y))
+    entry-right (Entry.equal f l) z ok st = right-two (Step.equal f l) (Step.unequal f l) _ st refl (equal-unequal cs vs (lower s) (lower (s + 1)) f l)
+    entry-right (Entry.apart f l) z ok st = right-two (Step.apart f l) (Step.meet f l) _ st refl (apart-meet cs vs (lower s) (lower (s + 1)) f l)
+    entry-right (Entry.closed i n) z ok st = right-two (Step.closed e) (Step.opened e) _ st (closed-set cs vs (lower s) (lower (s + 1)) e (itemsAt cs i n) (ap (linksOf cs) z)) (closed-opened cs vs (lower s) (lower (s + 1)) e (itemsAt cs i n) (ap (linksOf cs) z))
+    entry-right (Entry.less p l) z ok st = right-two (Step.less p l) (Step.notless p l) _ st refl (less-notless cs vs (lower s) (lower (s + 1)) p l)
+    entry-right (Entry.lesseq p l) z ok st = right-two (Step.lesseq p l) (Step.notlesseq p l) _ st refl (lesseq-notlesseq cs vs (lower s) (lower (s + 1)) p l)
+    entry-right (Entry.onelang p) z ok st = right-two (Step.onelang p) (Step.manylang p) _ st refl (onelang-manylang cs vs (lower s) (lower (s + 1)) p)
     entry-right Entry.bad z ok st = absurd (true≢false (sym ok))

@@ -1,9 +1,9 @@
 -- The plan of well-formed tables, read back from its cells: it is right, it is well formed, and it is small. t is what lies
 -- past the cells of a plan.
-use Prim.Native.Nat.{ℕ, zero, suc, _+_, _*_, _≤_, _<_}
-use mathlib.Core.Bool.{Bool, true, not, _&&_}
-use mathlib.Core.List.{List, [], _∷_, _++_}
-use mathlib.Core.Path.{_≡_, refl, sym, ap, _∙_}
+use Prim.Native.Nat.{ℕ, _+_, _*_, _≤_, _<_}
+use mathlib.Core.Bool.{true, not, _&&_}
+use mathlib.Core.List.{List, _++_}
+use mathlib.Core.Path.{_≡_, ap, _∙_}
 use native.Mathlib.Omega.{arith}
 use lib.Dec.{ltb, leb}
 use lib.ListN.{getD, length}
@@ -21,14 +21,14 @@ use Rattle.tables.specs.Decode.{graphAt, shapeAt, schemaAt, ruleAt}
 use Rattle.tables.specs.WellFormed.{wellFormed}
 use Rattle.tables.proofs.WellFormed.{Sound, sound}
 use Rattle.plan.specs.Steps.{Step}
-use Rattle.plan.specs.Layout.{planCount, stepCount, ruleStepAt, stepAt, planCells}
+use Rattle.plan.specs.Layout.{planCount, stepCount, ruleStepAt, stepAt}
 use Rattle.plan.specs.Sets.{setBy, setAt}
 use Rattle.plan.specs.WellFormed.{stepOk, planWellFormed}
 use Rattle.plan.proofs.ReadBack.{length-plan, read-count, read-rule, read-step}
-use Rattle.compiler.specs.Compile.{made, stepsTo, stepsOf, ruleStep, planOf}
-use Rattle.compiler.proofs.Right.{Has}
-use Rattle.compiler.proofs.Whole.{has-all, entry-sets, rule-set, rule-low}
-use Rattle.compiler.proofs.WellMade.{steps-few, steps-fine}
+use Rattle.translation.specs.Compile.{made, stepsOf, ruleStep, planOf}
+use Rattle.translation.proofs.Right.{Has}
+use Rattle.translation.proofs.Whole.{has-all, entry-sets, rule-set, rule-low}
+use Rattle.translation.proofs.WellMade.{steps-few, steps-fine}
 
 pub length-planOf : (cs : List ℕ) → length (planOf cs) ≡ planCount
 unfolding planOf

@@ -1,7 +1,7 @@
 -- The plan of the tables: document 01's table. For every form entry, in stored order, the keeping and then the breaking
 -- steps; then for every rule its target's step, and Both of it and the shape's breaks.
 use Prim.Native.Nat.{ℕ, zero, suc, _+_, _-_}
-use mathlib.Core.Bool.{cond}
+use mathlib.Core.Bool.{Bool, true, false, cond}
 use mathlib.Core.List.{List, [], _∷_, _++_}
 use lib.Dec.{eqb}
 use lib.ListN.{length}
@@ -29,20 +29,20 @@ module _ (s : ℕ) where
   abbrev pub two : Step → Step → Part
   two x y = record { steps = x ∷ y ∷ []; keep = s; brk = s + 1 }
 
-  -- a count of the members of step j; how it breaks: never, above HI, below LO, or one of the two
+  -- a count of the members of step j and how it breaks, by whether LO is 0 and whether HI is `*`: never; above HI; below LO;
+  -- below LO or above HI
+  unfoldable pub countWay : Bool → Bool → ℕ → ℕ → ℕ → ℕ → Part
+  countWay true true p j lo hi = two (Step.count p j lo hi) Step.none
+  countWay true false p j lo hi = two (Step.count p j lo hi) (Step.count p j (hi + 1) noNumber)
+  countWay false true p j lo hi = two (Step.count p j lo hi) (Step.count p j 0 (lo - 1))
+  countWay false false p j lo hi = record {
+    steps = Step.count p j lo hi ∷ Step.count p j 0 (lo - 1) ∷ Step.count p j (hi + 1) noNumber ∷ Step.either (s + 1) (s + 2) ∷ [];
+    keep = s;
+    brk = s + 3;
+  }
+
   unfoldable pub countPart : ℕ → ℕ → ℕ → ℕ → Part
-  countPart p j lo hi =
-      cond (eqb lo 0)
-      (cond (eqb hi noNumber)
-      (two (Step.count p j lo hi) Step.none)
-      (two (Step.count p j lo hi) (Step.count p j (hi + 1) noNumber)))
-      (cond (eqb hi noNumber)
-      (two (Step.count p j lo hi) (Step.count p j 0 (lo - 1)))
-      (record {
-        steps = Step.count p j lo hi ∷ Step.count p j 0 (lo - 1) ∷ Step.count p j (hi + 1) noNumber ∷ Step.either (s + 1) (s + 2) ∷ [];
-        keep = s;
-        brk = s + 3;
-      }))
+  countPart p j lo hi = countWay (eqb lo 0) (eqb hi noNumber) p j lo hi
 
 -- keep and brk: the two step numbers of each earlier entry; s: the number of the next step; e: the entry's own number
 module _ (cs : List ℕ) (keep brk : ℕ → ℕ) (s e : ℕ) where

@@ -1,21 +1,17 @@
 -- The steps of well-formed tables: at most four for an entry and two for a rule, and each well formed, so it uses lower ones only.
 use Prim.Native.Nat.{ℕ, zero, suc, _+_, _-_, _*_, _≤_, _<_}
-use mathlib.Core.Bool.{Bool, true, false, _&&_, _||_, cond, true≢false}
+use mathlib.Core.Bool.{Bool, true, false, _&&_, _||_, true≢false}
 use mathlib.Core.List.{List, [], _∷_, _++_}
 use mathlib.Core.Option.{Option}
-use mathlib.Core.Path.{_≡_, refl, sym, ap, ap₂, _∙_, subst}
+use mathlib.Core.Path.{_≡_, refl, sym, ap, _∙_, subst}
 use native.Mathlib.Nat.{le-of-suc-le-suc}
 use native.Mathlib.Omega.{arith}
 use lib.Dec.{eqb, ltb, leb}
 use lib.ListN.{getD, length}
 use borrow.Author.Tests.{ne-eqb, eqb-false, ltb-true, lt-ltb, leb-true, le-leb}
-use Rattle.base.specs.Bounded.{every}
 use Rattle.base.proofs.Bools.{and-left, and-right, and-both, or-cases, never-both}
-use Rattle.base.proofs.Bounded.{every-all}
 use Rattle.model.specs.Graph.{holds}
-use Rattle.model.specs.Limits.{maxCount}
 use Rattle.model.specs.Shapes.{Test}
-use Rattle.model.specs.Rules.{Target, targetNode, subjectsOf, objectsOf, targetClass}
 use Rattle.tables.specs.Layout.{noNumber, nodeCount, linkCount, pathCount, formCount, shapeCount, ruleCount, rootAt, ruleShapeAt, ruleTargetAt, ruleOperandAt}
 use Rattle.tables.specs.Entries.{Entry}
 use Rattle.tables.specs.Decode.{entryAt, targetOf, ruleAt}
@@ -24,13 +20,12 @@ use Rattle.tables.proofs.WellFormed.{Sound}
 use Rattle.plan.specs.Steps.{Step}
 use Rattle.plan.specs.Sets.{testOf, linksOf}
 use Rattle.plan.specs.WellFormed.{testOk, closedOk, stepOk}
-use Rattle.compiler.specs.Compile.{Part, two, countPart, entryPart, more, made, targetStep, ruleSteps, stepsTo, stepsOf}
-use Rattle.compiler.proofs.Right.{Has}
-use Rattle.compiler.proofs.Whole.{has-all, start, own, start-more, right, length-to, forms-first, rule-shape}
+use Rattle.translation.specs.Compile.{countWay, countPart, entryPart, more, made, targetStep, ruleSteps, stepsTo, stepsOf}
+use Rattle.translation.proofs.Whole.{has-all, start, own, start-more, right, length-to, forms-first, rule-shape}
 
 -- an entry has at most four steps
 pub entry-four : (cs : List ℕ) (keep brk : ℕ → ℕ) (s e : ℕ) (x : Entry) → length (entryPart cs keep brk s e x .steps) ≤ 4
-unfolding entryPart countPart
+unfolding entryPart countPart countWay
 entry-four cs keep brk s e Entry.top = omega arith
 entry-four cs keep brk s e (Entry.is c) = omega arith
 entry-four cs keep brk s e (Entry.shape n) = omega arith
@@ -46,7 +41,7 @@ entry-four cs keep brk s e (Entry.to x) = omega arith
 entry-four cs keep brk s e (Entry.under x) = omega arith
 entry-four cs keep brk s e (Entry.count p a lo hi) = ways (eqb lo 0) (eqb hi noNumber)
   where
-    ways : (z t : Bool) → length (cond z (cond t (two s (Step.count p (keep a) lo hi) Step.none) (two s (Step.count p (keep a) lo hi) (Step.count p (keep a) (hi + 1) noNumber))) (cond t (two s (Step.count p (keep a) lo hi) (Step.count p (keep a) 0 (lo - 1))) (record { steps = Step.count p (keep a) lo hi ∷ Step.count p (keep a) 0 (lo - 1) ∷ Step.count p (keep a) (hi + 1) noNumber ∷ Step.either (s + 1) (s + 2) ∷ []; keep = s; brk = s + 3 })) .steps) ≤ 4
+    ways : (z t : Bool) → length (countWay s z t p (keep a) lo hi .steps) ≤ 4
     ways true true = omega arith
     ways true false = omega arith
     ways false true = omega arith
@@ -128,7 +123,7 @@ module _ (cs : List ℕ) where
     high-star = refl
 
     counts-fine : (p j lo hi : ℕ) → ltb p (pathCount cs) ≡ true → j < s → lo ≤ 1024 → upperOk cs hi ≡ true → Fine s (countPart s p j lo hi .steps)
-    unfolding countPart stepOk
+    unfolding countPart countWay stepOk
     counts-fine p j lo hi o l a b = ways (eqb lo 0) (eqb hi noNumber) refl
       where
         first : stepOk cs s (Step.count p j lo hi) ≡ true
@@ -140,7 +135,7 @@ module _ (cs : List ℕ) where
         under : stepOk cs (s + 1) (Step.count p j 0 (lo - 1)) ≡ true
         under = count-fine (s + 1) p j 0 (lo - 1) o (omega arith) (omega arith) (high-small (lo - 1) (omega arith))
 
-        ways : (z t : Bool) → eqb hi noNumber ≡ t → Fine s (cond z (cond t (two s (Step.count p j lo hi) Step.none) (two s (Step.count p j lo hi) (Step.count p j (hi + 1) noNumber))) (cond t (two s (Step.count p j lo hi) (Step.count p j 0 (lo - 1))) (record { steps = Step.count p j lo hi ∷ Step.count p j 0 (lo - 1) ∷ Step.count p j (hi + 1) noNumber ∷ Step.either (s + 1) (s + 2) ∷ []; keep = s; brk = s + 3 })) .steps)
+        ways : (z t : Bool) → eqb hi noNumber ≡ t → Fine s (countWay s z t p j lo hi .steps)
         ways true true et = (first, (refl, tt))
         ways true false et = (first, (above (s + 1) (omega arith) (eqb-false hi noNumber et), tt))
         ways false true et = (first, (under, tt))

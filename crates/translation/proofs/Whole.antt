@@ -1,12 +1,12 @@
 -- Every entry of a plan is right, and every rule's step.
-use Prim.Native.Nat.{ℕ, zero, suc, _+_, _-_, _*_, _≤_, _<_}
-use mathlib.Core.Bool.{Bool, true, false, not, _&&_, cond}
+use Prim.Native.Nat.{ℕ, zero, suc, _+_, _≤_, _<_}
+use mathlib.Core.Bool.{Bool, true, not, _&&_, cond}
 use mathlib.Core.List.{List, [], _∷_, _++_}
-use mathlib.Core.Path.{_≡_, refl, sym, ap, ap₂, _∙_, subst}
+use mathlib.Core.Path.{_≡_, refl, sym, ap, _∙_, subst}
 use mathlib.Core.Logic.{⊎-elim}
 use native.Mathlib.Nat.{eq-or-lt-of-le, le-of-suc-le-suc, le-of-eq}
 use native.Mathlib.Omega.{arith}
-use lib.Dec.{eqb, ltb}
+use lib.Dec.{ltb}
 use lib.ListN.{getD, length, length-append, List·getD-map}
 use lib.IntN.{ℤ}
 use borrow.Author.Tests.{eq-eqb, ne-eqb, ltb-true}
@@ -24,8 +24,8 @@ use Rattle.tables.proofs.WellFormed.{Sound}
 use Rattle.tables.proofs.Decode.{shape-number}
 use Rattle.plan.specs.Steps.{Step}
 use Rattle.plan.specs.Sets.{inStep, setBy}
-use Rattle.compiler.specs.Compile.{Part, entryPart, Made, putAt, more, made, targetStep, ruleSteps, stepsTo, stepsOf, ruleStep}
-use Rattle.compiler.proofs.Right.{Has, Sets, entry-right, set-at, set-both, ext}
+use Rattle.translation.specs.Compile.{Part, entryPart, putAt, more, made, targetStep, ruleSteps, stepsTo, stepsOf, ruleStep}
+use Rattle.translation.proofs.Right.{Has, Sets, entry-right, set-at, set-both}
 
 -- the steps of two lists, one after the other
 module _ (at : ℕ → Step) where

@@ -1,0 +1,4 @@
+pub mod Right
+pub mod Whole
+pub mod WellMade
+pub mod Plans
