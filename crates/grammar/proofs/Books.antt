@@ -29,9 +29,9 @@ use Rattle.grammar.proofs.Args.{Fit}
 use Rattle.grammar.proofs.Lines.{line-sound, line-complete}
 
 -- ---- the names of a valid book are well made and differ
-record PoolOk (p : Pool) (ws : List Name) : Type 0 where
-  made : (k : ℕ) → k < length ws → wellNamed p (getD ws k []) ≡ true
-  differ : (j k : ℕ) → j < k → k < length ws → getD ws j [] ≡ getD ws k [] → ⊥
+pub record PoolOk (p : Pool) (ws : List Name) : Type 0 where
+  pub made : (k : ℕ) → k < length ws → wellNamed p (getD ws k []) ≡ true
+  pub differ : (j k : ℕ) → j < k → k < length ws → getD ws j [] ≡ getD ws k [] → ⊥
 
 -- one more name
 pool-snoc : (p : Pool) (ws : List Name) (n : Name) → PoolOk p ws → wellNamed p n ≡ true → anyb (eql n) ws ≡ false → PoolOk p (ws ++ (n ∷ []))
@@ -88,7 +88,7 @@ start-pool shapes = nothing shapes
 -- ---- the lines above: valid, so their names differ and their entries are within the limits
 pub record Sane (a : Book) : Type 0 where
   pub valid-above : validFrom [] a ≡ true
-  pools-above : (p : Pool) → PoolOk p (names p a)
+  pub pools-above : (p : Pool) → PoolOk p (names p a)
 
 valid-more : (a c : Book) (l : Line) → validFrom a c ≡ true → validLine (a ++ c) l ≡ true → validFrom a (c ++ (l ∷ [])) ≡ true
 unfolding validFrom
@@ -97,11 +97,11 @@ valid-more a (k ∷ c) l v e =
     and-both (validLine a k) (validFrom (a ++ (k ∷ [])) (c ++ (l ∷ []))) (and-left (validLine a k) (validFrom (a ++ (k ∷ [])) c) v)
     (valid-more (a ++ (k ∷ [])) c l (and-right (validLine a k) (validFrom (a ++ (k ∷ [])) c) v) (ap (λ (b : Book). validLine b l) (append-assoc a (k ∷ []) c) ∙ e))
 
-sane-start : Sane []
+pub sane-start : Sane []
 unfolding validFrom
 sane-start = record { valid-above = refl; pools-above = start-pool }
 
-sane-more : (a : Book) (l : Line) → Sane a → validLine a l ≡ true → Sane (a ++ (l ∷ []))
+pub sane-more : (a : Book) (l : Line) → Sane a → validLine a l ≡ true → Sane (a ++ (l ∷ []))
 unfolding validLine
 sane-more a l S e =
     record {
@@ -110,7 +110,7 @@ sane-more a l S e =
     }
 
 -- a valid book is admissible
-admissible-from : (a b : Book) → validFrom a b ≡ true → admissibleFrom a b ≡ true
+pub admissible-from : (a b : Book) → validFrom a b ≡ true → admissibleFrom a b ≡ true
 unfolding validFrom admissibleFrom validLine
 admissible-from a [] v = refl
 admissible-from a (l ∷ b) v =
@@ -160,7 +160,7 @@ module _ (s : List ℕ) where
     subst (λ (t : List ℕ). Span s at (length s) t) (append-assoc (writeLine a l) (10 ∷ []) (renderFrom (a ++ (l ∷ [])) c)) (span-join p q),
   )
 
-  longer : (at nx : ℕ) (w : List ℕ) → Span s at nx (w ++ (10 ∷ [])) → at < nx
+  pub longer : (at nx : ℕ) (w : List ℕ) → Span s at nx (w ++ (10 ∷ [])) → at < nx
   longer at nx w p = omega (arith, span-length p, length-append w (10 ∷ []), p .from)
 
   lines-sound : (fuel at line : ℕ) (a : Book) → Sane a → at ≤ length s → length s ≤ at + fuel → (b : Book) → linesFrom s fuel at line a ≡ accepted b → Rest at a b

@@ -34,6 +34,12 @@ within-list (x ∷ l) (suc k) d e h = within-list l k d e (omega arith)
 abbrev pub Placed : {A : Type 0} (F : Family A) → F .Code → Type 0
 Placed F c = (k : ℕ) × (indexOf (map (F .word) (F .codes)) (F .word c) ≡ Found.At k) × (getD (F .codes) k (F .other) ≡ c) × (allb plain (F .word c) ≡ true) × (proper (F .slots c) ≡ true)
 
+-- the word of the number that was found
+pub word-of : {A : Type 0} (F : Family A) (w : List ℕ) (k : ℕ) → indexOf (map (F .word) (F .codes)) w ≡ Found.At k → w ≡ F .word (getD (F .codes) k (F .other))
+word-of F w k e =
+    let f = index-at (map (F .word) (F .codes)) w k .0 e in
+    sym (f .1) ∙ within-list (map (F .word) (F .codes)) k [] (F .word (F .other)) (f .0) ∙ List·getD-map (F .word) (F .codes) k (F .other)
+
 module _ (s : List ℕ) (above : Book) (N : Pools above) {A : Type 0} (F : Family A) (placed : (c : F .Code) → Placed F c) (R : Readers) (d : ℕ) (deep full : Bool) (room : F .Code → Bool) (n : Begun)
     (X : deep ≡ false → Exacts s above R d) (fit : full ≡ false → Fit n) where
   abbrev written : (c : F .Code) → Args (F .slots c) → List ℕ
@@ -49,12 +55,6 @@ module _ (s : List ℕ) (above : Book) (N : Pools above) {A : Type 0} (F : Famil
     pub roomy : room code ≡ true
     pub span : Span s at nx (written code args)
     pub good : AllGood above d n (F .slots code) args
-
-  -- the word of the number that was found
-  word-of : (w : List ℕ) (k : ℕ) → indexOf (map (F .word) (F .codes)) w ≡ Found.At k → w ≡ F .word (getD (F .codes) k (F .other))
-  word-of w k e =
-      let f = index-at (map (F .word) (F .codes)) w k .0 e in
-      sym (f .1) ∙ within-list (map (F .word) (F .codes)) k [] (F .word (F .other)) (f .0) ∙ List·getD-map (F .word) (F .codes) k (F .other)
 
   body-sound : (c : F .Code) → deep ≡ false → full ≡ false → (at : ℕ) → at ≤ length s → (x : A) (nx : ℕ) → bodyAt s above F R room c n at ≡ got x nx
       → (xs : Args (F .slots c)) × (F .build c xs ≡ x) × (room c ≡ true) × Span s at nx (writeArgs above (F .slots c) xs ++ (41 ∷ [])) × AllGood above d n (F .slots c) xs
@@ -83,7 +83,7 @@ module _ (s : List ℕ) (above : Book) (N : Pools above) {A : Type 0} (F : Famil
         shallow = p .0;
         begins = q .0;
         roomy = ro;
-        span = span-join sp (span-join (subst (λ (w : List ℕ). Span s (at + 1) (itemEnd s (at + 1)) w) (word-of (slice (at + 1) (itemEnd s (at + 1)) s) k i) it) sq);
+        span = span-join sp (span-join (subst (λ (w : List ℕ). Span s (at + 1) (itemEnd s (at + 1)) w) (word-of F (slice (at + 1) (itemEnd s (at + 1)) s) k i) it) sq);
         good = al;
       }
 

@@ -92,15 +92,20 @@ module _ (s : List ℕ) (above : Book) where
   unknown-at Found.Nothing y n nx q = (refl, q)
 
   -- ---- a name that is defined above
+  -- what is accepted is one of the pool's names
+  pub used-only : (p : Pool) (w : List ℕ) (e k nx : ℕ) → cond (wellNamed p w) (known s above (indexOf (names p above) w) e) (refused 2) ≡ got k nx → (w ≡ nameOf above p k) × (e ≡ nx) × (defined above p k ≡ true)
+  unfolding defined nameOf
+  used-only p w e k nx q =
+      let t = passes (wellNamed p w) 2 (known s above (indexOf (names p above) w) e) q in
+      let u = known-at (indexOf (names p above) w) e k nx (t .1) in
+      let f = index-at (names p above) w k .0 (u .0) in
+      (sym (f .1), u .1, lt-ltb k (length (names p above)) (f .0))
+
   module _ (N : Pools above) where
     pub used-exact : (p : Pool) → Exact s (Edge s) (usedAt s above p) (nameOf above p) (λ k. defined above p k ≡ true)
     unfolding usedAt defined nameOf
     used-exact p = item-exact s (λ w e. cond (wellNamed p w) (known s above (indexOf (names p above) w) e) (refused 2)) (nameOf above p) (λ k. defined above p k ≡ true)
-        (λ w e k nx q.
-        let t = passes (wellNamed p w) 2 (known s above (indexOf (names p above) w) e) q in
-        let u = known-at (indexOf (names p above) w) e k nx (t .1) in
-        let f = index-at (names p above) w k .0 (u .0) in
-        (sym (f .1), u .1, lt-ltb k (length (names p above)) (f .0)))
+        (used-only p)
         (λ k d e.
         let l : k < length (names p above) = ltb-true k (length (names p above)) d in
         ap₂ (λ (b : Bool) (r : Found). cond b (known s above r e) (refused 2)) (N .named p k l) (index-at (names p above) (nameOf above p k) k .1 (l, refl, λ j h q. N .distinct p j k h l q)))

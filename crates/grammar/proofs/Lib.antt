@@ -6,3 +6,10 @@ pub mod Rows
 pub mod Nesting
 pub mod Lines
 pub mod Books
+pub mod GroundsLocal
+pub mod Grounds
+pub mod GroundsLeaves
+pub mod GroundsReaders
+pub mod GroundsBooks
+pub mod Edges
+pub mod BookB

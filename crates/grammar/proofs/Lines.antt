@@ -181,12 +181,17 @@ module _ (s : List ℕ) (above : Book) (N : Pools above) (f : Fit (begunAbove s 
             (le-leb (lineDepth (lineFamily .build (O .code) (O .args))) 32 (omega arith)),
       )
 
+  -- a line without its LF
+  pub bracket-line : (at : ℕ) → at ≤ length s → (l : Line) (nx : ℕ) → bracketAt s above lineFamily (readersAt s above 31) false false (lineRoom s above) (refused 2) (begunAbove s above) at ≡ got l nx → Span s at nx (writeLine above l) × (validLine above l ≡ true)
+  bracket-line at h l nx r =
+      ⊎-elim (λ b. absurd (never-refused b)) (opened-valid l at nx) (bracket-sound s above N lineFamily line-placed (readersAt s above 31) 31 false false (lineRoom s above) (begunAbove s above) (λ _. readers-exact s above N 31) (λ _. f) (refused 2) at h l nx r)
+
   pub line-sound : (at : ℕ) → at ≤ length s → (l : Line) (nx : ℕ) → lineAt s above at ≡ got l nx → Span s at nx (writeLine above l ++ (10 ∷ [])) × (validLine above l ≡ true)
   unfolding lineAt
   line-sound at h l nx e =
       let (k, m, r, g) = thens (bracketAt s above lineFamily (readersAt s above 31) false false (lineRoom s above) (refused 2) (begunAbove s above) at) (λ l next. cond (eqb (getD s next 0) 10) (got l (next + 1)) (refused 2)) e in
       let p = passes (eqb (getD s m 0) 10) 2 (got k (m + 1)) g in
-      let u = ⊎-elim (λ b. absurd (never-refused b)) (opened-valid k at m) (bracket-sound s above N lineFamily line-placed (readersAt s above 31) 31 false false (lineRoom s above) (begunAbove s above) (λ _. readers-exact s above N 31) (λ _. f) (refused 2) at h k m r) in
+      let u = bracket-line at h k m r in
       subst (λ (l : Line). Span s at nx (writeLine above l ++ (10 ∷ [])) × (validLine above l ≡ true)) (got-value (p .1))
       (subst (λ (j : ℕ). Span s at j (writeLine above k ++ (10 ∷ []))) (got-next (p .1)) (span-join (u .0) (span-byte s m 9 (eqb-true (getD s m 0) 10 (p .0)))), u .1)
 

@@ -2,3 +2,4 @@ pub mod Writing
 pub mod Valid
 pub mod Syntax
 pub mod Reading
+pub mod Cases

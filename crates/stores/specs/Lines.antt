@@ -14,7 +14,7 @@ use Rattle.tables.specs.Layout.{nodeKinds, nodeTypes, nodeLangs, subjects, pred
 use Rattle.encoding.specs.Rows.{nodeRow, targetCode, targetOperand}
 use Rattle.encoding.specs.Encode.{countsOf}
 use Rattle.grammar.specs.Syntax.{form}
-use Rattle.grammar.specs.Reading.{Begun, after, begunAbove}
+use Rattle.grammar.specs.Reading.{Begun, after}
 use Rattle.stores.specs.Entries.{shapeCells, shapeValues}
 
 -- where a pool begins among the names

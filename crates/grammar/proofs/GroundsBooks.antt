@@ -1,0 +1,134 @@
+-- No refusal is given without its ground.
+use Prim.Native.Nat.{ℕ, zero, suc, _+_, _≤_, _<_}
+use mathlib.Core.Path.{_≡_, refl, sym, ap, _∙_, subst}
+use mathlib.Core.List.{List, [], _∷_, _++_, append-nil, append-assoc}
+use mathlib.Core.Bool.{Bool, true, false, cond}
+use mathlib.Core.Logic.{_⊎_, inl, inr, ⊎-elim, _↔_}
+use native.Mathlib.Omega.{arith}
+use lib.Dec.{ltb}
+use lib.ListN.{length, length-append}
+use borrow.Author.Tests.{ltb-true, ltb-false, lt-ltb}
+use Rattle.base.proofs.Bools.{and-left, and-right}
+use Rattle.text.proofs.Spans.{Span, span-join, span-split, span-none, span-nothing, span-whole}
+use Rattle.model.specs.Limits.{maxBytes}
+use Rattle.model.specs.Books.{Line, Book}
+use Rattle.grammar.specs.Writing.{writeLine, renderFrom, render}
+use Rattle.grammar.specs.Valid.{validLine, validFrom}
+use Rattle.grammar.specs.Reading.{Read, got, refused, lineAt, Outcome, accepted, turnedDown, follow, linesFrom, reading}
+use Rattle.grammar.proofs.Exact.{never-refused, got-value, got-next}
+use Rattle.grammar.proofs.Lines.{line-sound, line-complete}
+use Rattle.grammar.proofs.Books.{Sane, sane-start, sane-more, pools-of, fit-of, longer}
+use Rattle.grammar.proofs.GroundsLocal.{Agree, agree-less, agree-inside, stop, stop-past}
+use Rattle.grammar.proofs.Grounds.{Ground, ground-numbered}
+use Rattle.grammar.proofs.GroundsReaders.{line-settled}
+
+-- the text s is refused by number r at line k
+pub record Grounded (s : List ℕ) (r k : ℕ) : Type 0 where
+  -- the lines above are those of a valid book, written up to `at`
+  pub above : Book
+  pub counted : suc (length above) ≡ k
+  pub right : validFrom [] above ≡ true
+  pub at : ℕ
+  pub written : Span s 0 at (renderFrom [] above)
+  -- the line that begins there is refused, at the item at `place`
+  pub refuses : lineAt s above at ≡ refused r
+  pub place : ℕ
+  pub inside : at ≤ place
+  pub ground : Ground s above at r place
+
+-- no valid book's text, of whatever length, begins with the bytes up to the end of the item at p and the byte after it. (Where
+-- s ends there, its end stands for that byte: no valid book's text is s.)
+abbrev pub NoneBegins : List ℕ → ℕ → Type 0
+NoneBegins s p = (b : Book) → validFrom [] b ≡ true → Agree (stop s p) (render b) s → ⊥
+
+-- one more line
+render-snoc : (a b : Book) (l : Line) → renderFrom a (b ++ (l ∷ [])) ≡ renderFrom a b ++ (writeLine (a ++ b) l ++ (10 ∷ []))
+unfolding renderFrom
+render-snoc a [] l = ap (λ (c : Book). writeLine c l ++ (10 ∷ [])) (sym (append-nil a))
+render-snoc a (k ∷ b) l =
+    ap (λ (w : List ℕ). writeLine a k ++ (10 ∷ w)) (render-snoc (a ++ (k ∷ [])) b l ∙ ap (λ (c : Book). renderFrom (a ++ (k ∷ [])) b ++ (writeLine c l ++ (10 ∷ []))) (append-assoc a (k ∷ []) b))
+    ∙ sym (append-assoc (writeLine a k) (10 ∷ renderFrom (a ++ (k ∷ [])) b) (writeLine (a ++ (k ∷ b)) l ++ (10 ∷ [])))
+
+-- what a refusal tells of the tests that led to it
+never-accepted : {b : Book} {r k : ℕ} → accepted b ≡ turnedDown r k → ⊥
+never-accepted e = let z : _≡_ {A = ℕ} 0 1 = cc in omega arith
+
+refusal-number : {q r j k : ℕ} → turnedDown q j ≡ turnedDown r k → (q ≡ r) × (j ≡ k)
+refusal-number e = (cc, cc)
+
+either : (b : Bool) (x y : Outcome) (r k : ℕ) → cond b x y ≡ turnedDown r k → ((b ≡ true) × (x ≡ turnedDown r k)) ⊎ ((b ≡ false) × (y ≡ turnedDown r k))
+either true x y r k e = inl (refl, e)
+either false x y r k e = inr (refl, e)
+
+follows : (line : ℕ) (m : Read Line) (f : Line → ℕ → Outcome) (r k : ℕ) → follow line m f ≡ turnedDown r k → ((m ≡ refused r) × (line ≡ k)) ⊎ ((l : Line) × (nx : ℕ) × (m ≡ got l nx) × (f l nx ≡ turnedDown r k))
+follows line (got l nx) f r k e = inr (l, nx, refl, e)
+follows line (refused q) f r k e = let z = refusal-number e in inl (ap refused (z .0), z .1)
+
+module _ (s : List ℕ) where
+  -- from `at` on, after the book a: no text that agrees with s up to e goes on as valid lines
+  abbrev NoneFrom : ℕ → Book → ℕ → Type 0
+  NoneFrom at a e = (t : List ℕ) → Agree e t s → (c : Book) → validFrom a c ≡ true → Span t at (length t) (renderFrom a c) → ⊥
+
+  -- a text that agrees with s up to where s goes on has lines there, and its next one is read as a valid line
+  goes-on : (at e : ℕ) (a : Book) → Sane a → at < length s → at < e → ((t : List ℕ) → Agree e t s → (l : Line) (nx : ℕ) → lineAt t a at ≡ got l nx → (c : Book) → validFrom (a ++ (l ∷ [])) c ≡ true → Span t nx (length t) (renderFrom (a ++ (l ∷ [])) c) → ⊥) → NoneFrom at a e
+  unfolding validFrom renderFrom
+  goes-on at e a S h k f t g [] v p = let z = span-none p in let i = agree-inside e at t s k h g in omega arith
+  goes-on at e a S h k f t g (l ∷ c) v p =
+      let sp = span-split (writeLine a l ++ (10 ∷ [])) (renderFrom (a ++ (l ∷ [])) c) (subst (λ (w : List ℕ). Span t at (length t) w) (sym (append-assoc (writeLine a l) (10 ∷ []) (renderFrom (a ++ (l ∷ [])) c))) p) in
+      let nx : ℕ = at + length (writeLine a l ++ (10 ∷ [])) in
+      f t g l nx (line-complete t a (pools-of a S) (fit-of t a S) at nx l (sp .0) (and-left (validLine a l) (validFrom (a ++ (l ∷ [])) c) v)) c (and-right (validLine a l) (validFrom (a ++ (l ∷ [])) c) v) (sp .1)
+
+  lines-grounds : (fuel at line : ℕ) (a : Book) → Sane a → at ≤ length s → Span s 0 at (renderFrom [] a) → length a ≡ line → (r k : ℕ) → linesFrom s fuel at line a ≡ turnedDown r k → (G : Grounded s r k) × (at ≤ G .place) × NoneFrom at a (stop s (G .place))
+  unfolding linesFrom
+  lines-grounds zero at line a S h w n r k e = absurd (never-accepted e)
+  lines-grounds (suc fuel) at line a S h w n r k e = ⊎-elim
+      (λ t. ⊎-elim
+      (λ u.
+      let L = line-settled s a at (pools-of a S) (fit-of s a S) h in
+      let (p, g, lt, f) = L .ground r (u .0) in
+      let i = ground-numbered s a at g .from in
+      let j = u .1 in (
+        record { above = a; counted = omega arith; right = S .valid-above; at = at; written = w; refuses = u .0; place = p; inside = i; ground = g },
+        i,
+        goes-on at (stop s p) a S (ltb-true at (length s) (t .0)) lt (λ t a l nx q _ _ _. never-refused (sym (f t a) ∙ q)),
+      ))
+      (λ u.
+      let (l, nx, q, d) = u in
+      let v = line-sound s a (pools-of a S) (fit-of s a S) at h l nx q in
+      let m = longer s at nx (writeLine a l) (v .0) in
+      let (G, i, none) = lines-grounds fuel nx (line + 1) (a ++ (l ∷ [])) (sane-more a l S (v .1)) (v .0 .within) (subst (λ (x : List ℕ). Span s 0 nx x) (sym (render-snoc [] a l)) (span-join w (v .0))) (omega (arith, length-append a (l ∷ []))) r k d in
+      let o = stop-past s (G .place) in
+      let (_, f) = line-settled s a at (pools-of a S) (fit-of s a S) h .held l nx q in (
+        G,
+        omega arith,
+        goes-on at (stop s (G .place)) a S (ltb-true at (length s) (t .0)) (omega arith)
+            (λ t g l′ nx′ q′ c v′ p.
+            let x = sym (f t (agree-less (nx + 1) (stop s (G .place)) t s (omega arith) g)) ∙ q′ in
+            none t g c (subst (λ (l : Line). validFrom (a ++ (l ∷ [])) c ≡ true) (sym (got-value x)) v′) (subst (λ (j : ℕ). Span t j (length t) (renderFrom (a ++ (l ∷ [])) c)) (sym (got-next x)) (subst (λ (l : Line). Span t nx′ (length t) (renderFrom (a ++ (l ∷ [])) c)) (sym (got-value x)) p))),
+      ))
+      (follows (line + 1) (lineAt s a at) (λ l next. linesFrom s fuel next (line + 1) (a ++ (l ∷ []))) r k (t .1)))
+      (λ t. absurd (never-accepted (t .1)))
+      (either (ltb at (length s)) (follow (line + 1) (lineAt s a at) (λ l next. linesFrom s fuel next (line + 1) (a ++ (l ∷ [])))) (accepted a) r k e)
+
+-- ---- the theorems
+-- a text is refused because it is too long, by 1 at line 0; or at an item of a line, with its ground
+pub refusal-ground : (s : List ℕ) (r k : ℕ) → reading s ≡ turnedDown r k → ((r ≡ 1) × (k ≡ 0) × (maxBytes < length s)) ⊎ ((length s ≤ maxBytes) × (G : Grounded s r k) × NoneBegins s (G .place))
+unfolding reading render renderFrom
+refusal-ground s r k e = ⊎-elim
+    (λ t. let z = refusal-number (t .1) in inl (sym (z .0), sym (z .1), ltb-true 65536 (length s) (t .0)))
+    (λ t.
+    let (G, _, none) = lines-grounds s (length s) 0 0 [] sane-start (omega arith) (span-nothing s 0 (omega arith)) refl r k (t .1) in
+    inr (ltb-false 65536 (length s) (t .0), G, λ b v g. none (renderFrom [] b) g b v (span-whole (renderFrom [] b))))
+    (either (ltb 65536 (length s)) (turnedDown 1 0) (linesFrom s (length s) 0 0 []) r k e)
+
+-- 1 exactly when the text is longer than 65,536 bytes, and at line 0
+pub too-long : (s : List ℕ) (k : ℕ) → (reading s ≡ turnedDown 1 k) ↔ ((k ≡ 0) × (maxBytes < length s))
+unfolding reading
+too-long s k = (
+  λ e. ⊎-elim (λ t. (t .1, t .2)) (λ t. absurd (let G = t .1 in let z = ground-numbered s (G .above) (G .at) (G .ground) .least in let y : ⊥ = omega arith in y)) (refusal-ground s 1 k e),
+  λ p. ap (λ (b : Bool). cond b (turnedDown 1 0) (linesFrom s (length s) 0 0 [])) (lt-ltb 65536 (length s) (p .1)) ∙ ap (turnedDown 1) (sym (p .0)),
+)
+
+-- every other refusal is 2 to 7
+pub other-refusals : (s : List ℕ) (r k : ℕ) → reading s ≡ turnedDown r k → (r ≡ 1 → ⊥) → (2 ≤ r) × (r ≤ 7)
+other-refusals s r k e n = ⊎-elim (λ t. absurd (n (t .0))) (λ t. let G = t .1 in let z = ground-numbered s (G .above) (G .at) (G .ground) in (z .least, z .greatest)) (refusal-ground s r k e)

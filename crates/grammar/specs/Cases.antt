@@ -1,0 +1,83 @@
+-- Texts and what they are read as: book B of document 01, and its edges.
+use Prim.Native.Nat.{ℕ, zero, suc}
+use Prim.Native.String.{String}
+use mathlib.Core.List.{List, [], _∷_, _++_}
+use lib.IntN.{pos, negsuc}
+use Rattle.base.specs.Bytes.{bytes}
+use Rattle.model.specs.Graph.{iri, numeric}
+use Rattle.model.specs.Paths.{Path, predicate, inverse}
+use Rattle.model.specs.Shapes.{Shape, top, neg, uniqueLang}
+use Rattle.model.specs.Books.{Book, type, node, shape}
+use Rattle.grammar.specs.Reading.{Outcome, accepted, turnedDown}
+
+-- lines, each ended by LF
+abbrev pub textOf : List String → List ℕ
+textOf [] = []
+textOf (l ∷ ls) = bytes l ++ (10 ∷ textOf ls)
+
+-- ---- book B
+abbrev pub textB : List ℕ
+textB =
+    textOf
+    ("(link mount)"
+    ∷ "(link twin)"
+    ∷ "(type mm)"
+    ∷ "(thing left)"
+    ∷ "(thing right)"
+    ∷ "(number h240 mm 240)"
+    ∷ "(number h215 mm 215)"
+    ∷ "(fact left mount h240)"
+    ∷ "(fact right mount h215)"
+    ∷ "(fact left twin right)"
+    ∷ "(shape level (equal (seq twin mount) mount))"
+    ∷ "(rule level (subjects twin))"
+    ∷ [])
+
+-- ---- edges
+pub record Case : Type 0 where
+  pub text : List ℕ
+  pub outcome : Outcome
+
+abbrev pub reads : List String → Book → Case
+reads ls b = record { text = textOf ls; outcome = accepted b }
+
+abbrev pub gives : List String → ℕ → ℕ → Case
+gives ls r line = record { text = textOf ls; outcome = turnedDown r line }
+
+-- n times `not` before `true`, and `inv` before the link `a`
+abbrev pub nots : ℕ → List ℕ
+nots zero = bytes "true"
+nots (suc n) = bytes "(not " ++ (nots n ++ bytes ")")
+
+abbrev pub invs : ℕ → List ℕ
+invs zero = bytes "a"
+invs (suc n) = bytes "(inv " ++ (invs n ++ bytes ")")
+
+abbrev pub negations : ℕ → Shape
+negations zero = top
+negations (suc n) = neg (negations n)
+
+abbrev pub inverses : ℕ → Path
+inverses zero = predicate 0
+inverses (suc n) = inverse (inverses n)
+
+abbrev pub shapeLine : List ℕ → List ℕ
+shapeLine w = bytes "(shape x " ++ (w ++ (bytes ")" ++ (10 ∷ [])))
+
+abbrev pub edges : List Case
+edges =
+    reads ("(type mm)" ∷ "(number x mm 9223372036854775807)" ∷ []) (type (bytes "mm") ∷ node (bytes "x") (numeric 1 (pos 9223372036854775807)) ∷ [])
+    ∷ gives ("(type mm)" ∷ "(number x mm 9223372036854775808)" ∷ []) 3 2
+    ∷ reads ("(type mm)" ∷ "(number x mm -9223372036854775808)" ∷ []) (type (bytes "mm") ∷ node (bytes "x") (numeric 1 (negsuc 9223372036854775807)) ∷ [])
+    ∷ gives ("(type mm)" ∷ "(number x mm -9223372036854775809)" ∷ []) 3 2
+    ∷ gives ("(type mm)" ∷ "(number x mm -0)" ∷ []) 2 2
+    ∷ gives ("(type mm)" ∷ "(number x mm +1)" ∷ []) 2 2
+    ∷ gives ("(type mm)" ∷ "(number x mm 01)" ∷ []) 2 2
+    ∷ reads ("(thing abcdefghijklmnopqrstuvwxyz12345)" ∷ []) (node (bytes "abcdefghijklmnopqrstuvwxyz12345") iri ∷ [])
+    ∷ gives ("(thing abcdefghijklmnopqrstuvwxyz123456)" ∷ []) 2 1
+    -- 32 brackets open together, and 33
+    ∷ record { text = shapeLine (nots 31); outcome = accepted (shape (bytes "x") (negations 31) ∷ []) }
+    ∷ record { text = shapeLine (nots 32); outcome = turnedDown 4 1 }
+    ∷ record { text = shapeLine (bytes "(onelang " ++ (invs 30 ++ bytes ")")); outcome = accepted (shape (bytes "x") (uniqueLang (inverses 30)) ∷ []) }
+    ∷ record { text = shapeLine (bytes "(onelang " ++ (invs 31 ++ bytes ")")); outcome = turnedDown 4 1 }
+    ∷ []

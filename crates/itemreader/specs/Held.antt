@@ -1,0 +1,45 @@
+-- The names and counts that the reader holds, for the lines that it has read.
+use Prim.Native.Nat.{ℕ, _+_, _≤_, _<_}
+use mathlib.Core.Path.{_≡_}
+use mathlib.Core.List.{List}
+use mathlib.Core.Bool.{true}
+use lib.Dec.{leb}
+use lib.ListN.{length, getD}
+use Rattle.text.specs.Pool.{find, indexOf}
+use Rattle.model.specs.Graph.{iri}
+use Rattle.model.specs.Books.{Name, Book, Pool, nodes, links, types, langs, shapes, names, collect, newTerms, newTriples, rules}
+use Rattle.model.specs.Sizes.{formsIn, pathsIn, itemsIn}
+use Rattle.model.specs.Valid.{isResource}
+use Rattle.tables.specs.Layout.{nodeKinds}
+use Rattle.grammar.specs.Valid.{wellNamed}
+use Rattle.stores.specs.Lines.{poolBase}
+use Rattle.itemreader.specs.declared.Counts.{Counts}
+
+abbrev pub countOf : Counts → Pool → ℕ
+countOf n nodes = n .nodes
+countOf n links = n .links
+countOf n types = n .types
+countOf n langs = n .langs
+countOf n shapes = n .shapes
+
+-- the counts are within the limits
+pub record Limits (n : Counts) : Type 0 where
+  pub node-limit : n .nodes ≤ 1024
+  pub link-limit : n .links ≤ 256
+  pub type-limit : n .types ≤ 32
+  pub lang-limit : n .langs ≤ 32
+  pub shape-limit : n .shapes ≤ 64
+
+-- the table of names and the counts are those of the lines above
+pub record Held (ns : List ℕ) (n : Counts) (above : Book) : Type 0 where
+  pub finds : (p : Pool) (w : Name) → wellNamed p w ≡ true → find ns (poolBase p) (countOf n p) w ≡ indexOf (names p above) w
+  pub name-count : (p : Pool) → countOf n p ≡ length (names p above)
+  pub fact-count : n .facts ≡ length (collect newTriples above)
+  pub rule-count : n .rules ≡ length (rules above)
+  pub form-count : n .forms ≡ formsIn above
+  pub path-count : n .paths ≡ pathsIn above
+  pub item-count : n .items ≡ itemsIn above
+
+-- the kinds of the nodes among the cells: 0 and 1 are things and blank nodes
+abbrev pub Kinds : List ℕ → Book → Type 0
+Kinds cs above = (v : ℕ) → v < length (names nodes above) → leb (getD cs (nodeKinds + v) 0) 1 ≡ isResource (getD (collect newTerms above) v iri)

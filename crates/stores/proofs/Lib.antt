@@ -1,0 +1,7 @@
+pub mod Columns
+pub mod Prefixes
+pub mod Entries
+pub mod Lines
+pub mod Names
+pub mod Books
+pub mod Lookups
