@@ -14,6 +14,7 @@ use Rattle.plan.specs.Steps.{Step, numbersOf}
 use Rattle.plan.specs.Layout.{withSteps}
 use Rattle.translation.specs.Compile.{Part, taken, two, countPart, entryPart}
 use Rattle.compiler.specs.Stores.{numberIn, TwoAdded, Added}
+use Rattle.translation.proofs.Whole.{byCode}
 use Rattle.compiler.proofs.Laws.{two-added}
 
 in-range : (P : ℕ → Type 0) (m n k : ℕ) → m ≤ k → k < m + n → Each P m n → P k
@@ -107,13 +108,4 @@ module _ (cs ps qs ks bs : List ℕ) (e n code next k m : ℕ) (ec : code ≡ fo
 
   pub arm-unknown : 21 ≤ code → qs ≡ ps → next ≡ n → k ≡ 0 → m ≡ 0 → Done (part (entryAt cs [] e))
   unfolding entryOf entryPart
-  arm-unknown l q en ek em = arm-taken code 0 0 refl (ap part (List·getD-eq-default list Entry.bad l)) q en ek em
-    where
-      a : ℕ
-      a = formFirstAt cs e
-
-      b : ℕ
-      b = formSecondAt cs e
-
-      list : List Entry
-      list = Entry.top ∷ Entry.is a ∷ Entry.shape a ∷ Entry.conj a b ∷ Entry.disj a b ∷ Entry.neg a ∷ Entry.kind a ∷ Entry.datatype a ∷ Entry.lang a b ∷ Entry.from (limitAt [] e) ∷ Entry.above (limitAt [] e) ∷ Entry.to (limitAt [] e) ∷ Entry.under (limitAt [] e) ∷ Entry.count a b (formThirdAt cs e) (formFourthAt cs e) ∷ Entry.all a b ∷ Entry.equal a b ∷ Entry.apart a b ∷ Entry.closed a b ∷ Entry.less a b ∷ Entry.lesseq a b ∷ Entry.onelang a ∷ []
+  arm-unknown l q en ek em = arm-taken code 0 0 refl (ap part (List·getD-eq-default (byCode (formFirstAt cs e) (formSecondAt cs e) (formThirdAt cs e) (formFourthAt cs e) (limitAt [] e)) Entry.bad l)) q en ek em

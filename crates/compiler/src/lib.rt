@@ -1,4 +1,4 @@
-// Tables to a plan.
+// Tables to a plan: the code for the definition of translation. Operations: compile.
 use model::Refusal;
 use plan::PLAN_CELLS;
 use plan::RULE_STEPS;

@@ -45,6 +45,13 @@ module _ (at : ℕ → Step) where
   has-all s [] h = tt
   has-all s (x ∷ xs) h = (ap at (let z : s ≡ s + 0 = omega arith in z) ∙ h 0 (omega arith), has-all (s + 1) xs (λ i l. ap at (let z : s + 1 + i ≡ s + suc i = omega arith in z) ∙ h (suc i) (omega arith)))
 
+-- the entries by their codes
+abbrev pub byCode : ℕ → ℕ → ℕ → ℕ → ℤ → List Entry
+byCode a b c d x =
+    Entry.top ∷ Entry.is a ∷ Entry.shape a ∷ Entry.conj a b ∷ Entry.disj a b ∷ Entry.neg a ∷ Entry.kind a ∷ Entry.datatype a ∷ Entry.lang a b
+    ∷ Entry.from x ∷ Entry.above x ∷ Entry.to x ∷ Entry.under x ∷ Entry.count a b c d ∷ Entry.all a b ∷ Entry.equal a b ∷ Entry.apart a b
+    ∷ Entry.closed a b ∷ Entry.less a b ∷ Entry.lesseq a b ∷ Entry.onelang a ∷ []
+
 put-same : (f : ℕ → ℕ) (n x j : ℕ) → j ≡ n → putAt f n x j ≡ x
 unfolding putAt
 put-same f n x j e = ap (λ (b : Bool). cond b x (f j)) (eq-eqb j n e)
@@ -79,19 +86,10 @@ module _ (cs : List ℕ) where
     -- V makes no difference to the steps
     own-free : (n : ℕ) → entryPart cs (made cs n .keep) (made cs n .brk) (start n) n (entryAt cs vs n) ≡ own n
     unfolding entryPart entryAt entryOf
-    own-free n = sym (List·getD-map part (list (limitAt vs n)) (formCodeAt cs n) Entry.bad) ∙ List·getD-map part (list (limitAt [] n)) (formCodeAt cs n) Entry.bad
-      where
-        part : Entry → Part
-        part = entryPart cs (made cs n .keep) (made cs n .brk) (start n) n
-
-        a : ℕ
-        a = formFirstAt cs n
-
-        b : ℕ
-        b = formSecondAt cs n
-
-        list : ℤ → List Entry
-        list x = Entry.top ∷ Entry.is a ∷ Entry.shape a ∷ Entry.conj a b ∷ Entry.disj a b ∷ Entry.neg a ∷ Entry.kind a ∷ Entry.datatype a ∷ Entry.lang a b ∷ Entry.from x ∷ Entry.above x ∷ Entry.to x ∷ Entry.under x ∷ Entry.count a b (formThirdAt cs n) (formFourthAt cs n) ∷ Entry.all a b ∷ Entry.equal a b ∷ Entry.apart a b ∷ Entry.closed a b ∷ Entry.less a b ∷ Entry.lesseq a b ∷ Entry.onelang a ∷ []
+    own-free n =
+        let part : Entry → Part = entryPart cs (made cs n .keep) (made cs n .brk) (start n) n in
+        let list : ℤ → List Entry = byCode (formFirstAt cs n) (formSecondAt cs n) (formThirdAt cs n) (formFourthAt cs n) in
+        sym (List·getD-map part (list (limitAt vs n)) (formCodeAt cs n) Entry.bad) ∙ List·getD-map part (list (limitAt [] n)) (formCodeAt cs n) Entry.bad
 
     -- one more entry
     right-more : (n : ℕ) → entryOk cs n (entryAt cs vs n) ≡ true → Has at 0 (made cs (suc n) .steps) → ((j : ℕ) → j < n → RightAt n j) → (e : ℕ) → e < suc n → RightAt (suc n) e
