@@ -5,3 +5,4 @@ pub mod Entries
 pub mod Codes
 pub mod Parts
 pub mod Ends
+pub mod Nodes

@@ -1,4 +1,4 @@
--- Facts in three lent columns, subjects, predicates and objects, with their number; and what is asked of them and of path entries.
+-- Facts in three lent columns, subjects, predicates and objects, with their number; and what is asked of them.
 use Prim.Native.Nat.{ℕ, _≤_}
 use mathlib.Core.List.{List}
 use mathlib.Core.Bool.{Bool, true, _&&_, cond}
@@ -8,9 +8,6 @@ use lib.ListN.{length, getD}
 use Rattle.base.specs.Bounded.{some, every}
 use Rattle.base.specs.Lists.{values}
 use Rattle.model.specs.Graph.{Triple}
-use Rattle.tables.specs.Layout.{pathCount}
-use Rattle.tables.specs.Decode.{pathEntryAt}
-use Rattle.tables.specs.WellFormed.{pathEntryOk}
 
 module _ (ss ps os : List ℕ) where
   -- fact i
@@ -36,7 +33,3 @@ pub record FactsOk (ss ps os : List ℕ) (count n : ℕ) : Type 0 where
   pub objects : count ≤ length os
   pub nodes : n ≤ 1024
   pub between : every (λ i. ltb (getD ss i 0) n && ltb (getD os i 0) n) count ≡ true
-
--- each path entry has a known code, and uses entries before it
-unfoldable pub pathsOk : List ℕ → Bool
-pathsOk cs = every (λ e. pathEntryOk cs e (pathEntryAt cs e)) (pathCount cs)

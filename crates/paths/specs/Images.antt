@@ -30,9 +30,9 @@ withImages width n r from into = wordsOf (λ x. has into x || image n r (λ v. h
 unfoldable pub joined : ℕ → ℕ → ℕ → List ℕ → List ℕ → List ℕ
 joined width near far from into = wordsOf (λ x. has into x || (has from (near * width + x % width) && eqb far (x / width))) (length into)
 
--- how many sets: one, or 64 where wide
+-- how many sets stand side by side: one, or 64 where many
 abbrev pub abreast : Bool → ℕ
-abreast wide = cond wide 64 1
+abreast many = cond many 64 1
 
 -- the sets of `into` with the ends of a path, read backwards where back, over n nodes and the triples ts
 unfoldable pub withEnds : ℕ → ℕ → List Triple → Path → Bool → List ℕ → List ℕ → List ℕ

@@ -4,13 +4,13 @@ use mathlib.Core.Bool.{true, not, cond}
 use mathlib.Core.List.{List}
 use mathlib.Core.Path.{_≡_, refl, sym, ap, ap₂, _∙_, subst}
 use native.Mathlib.Omega.{arith}
-use lib.ListN.{replicate}
 use borrow.Author.Needs.{needs}
 use borrow.Fn.Kinds.{In}
 use borrow.Fn.PlainCycle.{Measures, is, falls, and}
 use Rattle.tables.specs.Layout.{pathCount, pathCodeAt, pathFirstAt, pathSecondAt}
 use Rattle.tables.specs.Decode.{pathAt}
-use Rattle.paths.specs.Facts.{FactsOk, pathsOk, triplesOf, hops}
+use Rattle.tables.specs.WellFormed.{wellFormed}
+use Rattle.paths.specs.Facts.{FactsOk, triplesOf, hops}
 use Rattle.paths.specs.Images.{abreast, withImages, withEnds}
 use Rattle.paths.proofs.Joins.{cond-lt}
 use Rattle.paths.proofs.Entries.{inv-below, seq-below, alt-below}
@@ -20,10 +20,10 @@ use Rattle.paths.proofs.spread.Kinds as spread-kinds
 use Rattle.paths.proofs.+spread.Lts-spread as spread-lts
 use Rattle.paths.proofs.join_link.Reads as join-link-reads
 use Rattle.paths.proofs.pick.Reads as pick-reads
-use Rattle.paths.proofs.reads.path_code.Reads as path-code-reads
-use Rattle.paths.proofs.reads.path_first.Reads as path-first-reads
-use Rattle.paths.proofs.reads.path_link.Reads as path-link-reads
-use Rattle.paths.proofs.reads.path_second.Reads as path-second-reads
+use Rattle.tables.proofs.reads.path_code.Reads as path-code-reads
+use Rattle.tables.proofs.reads.path_first.Reads as path-first-reads
+use Rattle.tables.proofs.reads.path_link.Reads as path-link-reads
+use Rattle.tables.proofs.reads.path_second.Reads as path-second-reads
 use Rattle.paths.proofs.+spread.{statement}
 use Rattle.paths.proofs.+spread.Tie.{close}
 
@@ -38,51 +38,48 @@ spread-below t = and 6 spread-kinds.ps (falls 6 spread-kinds.ps _<_ μ-spread t)
 
 -- what is asked of each callee, and what it tells
 abbrev calls : ℕ → spread-lts.Claims
-calls t = (path-code-reads.Asked, path-code-reads.Learnt, path-link-reads.Asked, path-link-reads.Learnt, join-link-reads.Asked, join-link-reads.Learnt, path-first-reads.Asked, path-first-reads.Learnt, spread-below t, spread.Post, path-second-reads.Asked, path-second-reads.Learnt, pick-reads.Asked, pick-reads.Learnt)
+calls t = (path-code-reads.Asked, path-code-reads.Learnt, path-first-reads.Asked, path-first-reads.Learnt, path-second-reads.Asked, path-second-reads.Learnt, path-link-reads.Asked, path-link-reads.Learnt, join-link-reads.Asked, join-link-reads.Learnt, spread-below t, spread.Post, pick-reads.Asked, pick-reads.Learnt)
 
 -- a call at an entry below
-lower : {t e x : ℕ} (ss ps os : List ℕ) (count n : ℕ) (cs : List ℕ) → e ≡ t → (FactsOk ss ps os count n × (pathsOk cs ≡ true) × (e < pathCount cs)) → x < e → (x < t) × (FactsOk ss ps os count n × (pathsOk cs ≡ true) × (x < pathCount cs))
-lower ss ps os count n cs q pre l = (omega arith, (pre .0, pre .1, omega (arith, pre .2)))
+lower : {t e x y : ℕ} (s p o : List ℕ) (count n : ℕ) (cs : List ℕ) → e ≡ t → (FactsOk s p o count n × (wellFormed cs ≡ true) × (e < pathCount cs)) → x ≡ y → y < e → (x < t) × (FactsOk s p o count n × (wellFormed cs ≡ true) × (x < pathCount cs))
+lower s p o count n cs q pre f l = (omega arith, (pre .0, pre .1, omega (arith, pre .2)))
 
 spread-path-code-requires : (t : ℕ) → spread-lts.Need-path-code-requires (calls t) (spread-at t) spread.Post
 spread-path-code-requires t c κs = search needs
+
+spread-path-first-requires : (t : ℕ) → spread-lts.Need-path-first-requires (calls t) (spread-at t) spread.Post
+spread-path-first-requires t c κs = search needs
+
+spread-path-second-requires : (t : ℕ) → spread-lts.Need-path-second-requires (calls t) (spread-at t) spread.Post
+spread-path-second-requires t c κs = search needs
 
 spread-path-link-requires : (t : ℕ) → spread-lts.Need-path-link-requires (calls t) (spread-at t) spread.Post
 spread-path-link-requires t c κs = search needs
 
 spread-join-link-requires : (t : ℕ) → spread-lts.Need-join-link-requires (calls t) (spread-at t) spread.Post
-spread-join-link-requires t c κs = c .before .before .before .before .before .before .before .before .before .before .pre .1 .0
-
-spread-path-first-requires : (t : ℕ) → spread-lts.Need-path-first-requires (calls t) (spread-at t) spread.Post
-spread-path-first-requires t c κs = search needs
+spread-join-link-requires t c κs = c .before .before .before .before .before .before .before .before .before .before .before .before .pre .1 .0
 
 spread-spread-requires : (t : ℕ) → spread-lts.Need-spread-requires (calls t) (spread-at t) spread.Post
 spread-spread-requires t c κs =
-    let a = c .before .before .before .before .before .before .before .before .before .before .args in
-    let pre = c .before .before .before .before .before .before .before .before .before .before .pre .1 in
-    lower (a .subjects .now) (a .predicates .now) (a .objects .now) (a .count) (a .n) (a .cells .now) (c .before .before .before .before .before .before .before .before .before .before .pre .0) pre (subst (λ (x : ℕ). x < a .e) (sym (c .path-first .ensures)) (inv-below (a .cells .now) (pre .1) (a .e) (pre .2) (sym (c .before .before .before .path-code .ensures) ∙ c .before .before .match .keys2)))
-
-spread-path-first-requires-2 : (t : ℕ) → spread-lts.Need-path-first-requires-2 (calls t) (spread-at t) spread.Post
-spread-path-first-requires-2 t c κs = search needs
-
-spread-path-second-requires : (t : ℕ) → spread-lts.Need-path-second-requires (calls t) (spread-at t) spread.Post
-spread-path-second-requires t c κs = search needs
-
-spread-slice-aggregate-spread : (t : ℕ) → spread-lts.Need-slice-aggregate-spread (calls t) (spread-at t) spread.Post
-spread-slice-aggregate-spread t c = refl
+    let a = c .before .before .before .before .before .before .before .before .before .before .before .args in
+    let pre = c .before .before .before .before .before .before .before .before .before .before .before .pre .1 in
+    lower (a .s .now) (a .p .now) (a .o .now) (a .count) (a .n) (a .cells .now) (c .before .before .before .before .before .before .before .before .before .before .before .pre .0) pre (c .before .before .before .path-first .ensures) (inv-below (a .cells .now) (pre .1) (a .e) (pre .2) (sym (c .before .before .before .before .path-code .ensures) ∙ c .before .match .keys2))
 
 spread-pick-requires : (t : ℕ) → spread-lts.Need-pick-requires (calls t) (spread-at t) spread.Post
 spread-pick-requires t c κs = search needs
 
-spread-spread-requires-2 : (t : ℕ) → spread-lts.Need-spread-requires-2 (calls t) (spread-at t) spread.Post
-spread-spread-requires-2 t c κs =
-    let a = c .before .before .before .before .before .before .before .before .before .before .before .before .args in
-    let pre = c .before .before .before .before .before .before .before .before .before .before .before .before .pre .1 in
-    let h = seq-below (a .cells .now) (pre .1) (a .e) (pre .2) (sym (c .before .before .before .before .before .path-code .ensures) ∙ c .before .before .before .before .match .keys3) in
-    lower (a .subjects .now) (a .predicates .now) (a .objects .now) (a .count) (a .n) (a .cells .now) (c .before .before .before .before .before .before .before .before .before .before .before .before .pre .0) pre (subst (λ (x : ℕ). x < a .e) (sym (c .pick .ensures ∙ ap₂ (cond (a .back)) (c .before .before .path-second .ensures) (c .before .before .before .path-first2 .ensures))) (cond-lt (a .back) (pathSecondAt (a .cells .now) (a .e)) (pathFirstAt (a .cells .now) (a .e)) (a .e) (h .1) (h .0)))
-
 spread-pick-requires-2 : (t : ℕ) → spread-lts.Need-pick-requires-2 (calls t) (spread-at t) spread.Post
 spread-pick-requires-2 t c κs = search needs
+
+spread-slice-aggregate-spread : (t : ℕ) → spread-lts.Need-slice-aggregate-spread (calls t) (spread-at t) spread.Post
+spread-slice-aggregate-spread t c = refl
+
+spread-spread-requires-2 : (t : ℕ) → spread-lts.Need-spread-requires-2 (calls t) (spread-at t) spread.Post
+spread-spread-requires-2 t c κs =
+    let a = c .before .before .before .before .before .before .before .before .before .before .before .before .before .args in
+    let pre = c .before .before .before .before .before .before .before .before .before .before .before .before .before .pre .1 in
+    let h = seq-below (a .cells .now) (pre .1) (a .e) (pre .2) (sym (c .before .before .before .before .before .before .path-code .ensures) ∙ c .before .before .before .match .keys3) in
+    lower (a .s .now) (a .p .now) (a .o .now) (a .count) (a .n) (a .cells .now) (c .before .before .before .before .before .before .before .before .before .before .before .before .before .pre .0) pre (c .before .before .pick .ensures ∙ ap₂ (cond (a .back)) (c .before .before .before .before .path-second .ensures) (c .before .before .before .before .before .path-first .ensures)) (cond-lt (a .back) (pathSecondAt (a .cells .now) (a .e)) (pathFirstAt (a .cells .now) (a .e)) (a .e) (h .1) (h .0))
 
 spread-slice-aggregate-spread-2 : (t : ℕ) → spread-lts.Need-slice-aggregate-spread-2 (calls t) (spread-at t) spread.Post
 spread-slice-aggregate-spread-2 t c = search needs
@@ -91,49 +88,42 @@ spread-spread-requires-3 : (t : ℕ) → spread-lts.Need-spread-requires-3 (call
 spread-spread-requires-3 t c κs =
     let a = c .before .before .before .before .before .before .before .before .before .before .before .before .before .before .before .before .before .args in
     let pre = c .before .before .before .before .before .before .before .before .before .before .before .before .before .before .before .before .before .pre .1 in
-    let h = seq-below (a .cells .now) (pre .1) (a .e) (pre .2) (sym (c .before .before .before .before .before .before .before .before .before .before .path-code .ensures) ∙ c .before .before .before .before .before .before .before .before .before .match .keys3) in
-    lower (a .subjects .now) (a .predicates .now) (a .objects .now) (a .count) (a .n) (a .cells .now) (c .before .before .before .before .before .before .before .before .before .before .before .before .before .before .before .before .before .pre .0) pre (subst (λ (x : ℕ). x < a .e) (sym (c .before .pick2 .ensures ∙ ap₂ (cond (a .back)) (c .before .before .before .before .before .before .before .before .path-first2 .ensures) (c .before .before .before .before .before .before .before .path-second .ensures))) (cond-lt (a .back) (pathFirstAt (a .cells .now) (a .e)) (pathSecondAt (a .cells .now) (a .e)) (a .e) (h .0) (h .1)))
-
-spread-path-first-requires-3 : (t : ℕ) → spread-lts.Need-path-first-requires-3 (calls t) (spread-at t) spread.Post
-spread-path-first-requires-3 t c κs = search needs
+    let h = seq-below (a .cells .now) (pre .1) (a .e) (pre .2) (sym (c .before .before .before .before .before .before .before .before .before .before .path-code .ensures) ∙ c .before .before .before .before .before .before .before .match .keys3) in
+    lower (a .s .now) (a .p .now) (a .o .now) (a .count) (a .n) (a .cells .now) (c .before .before .before .before .before .before .before .before .before .before .before .before .before .before .before .before .before .pre .0) pre (c .before .before .before .before .before .pick2 .ensures ∙ ap₂ (cond (a .back)) (c .before .before .before .before .before .before .before .before .before .path-first .ensures) (c .before .before .before .before .before .before .before .before .path-second .ensures)) (cond-lt (a .back) (pathFirstAt (a .cells .now) (a .e)) (pathSecondAt (a .cells .now) (a .e)) (a .e) (h .0) (h .1))
 
 spread-spread-requires-4 : (t : ℕ) → spread-lts.Need-spread-requires-4 (calls t) (spread-at t) spread.Post
 spread-spread-requires-4 t c κs =
-    let a = c .before .before .before .before .before .before .before .before .before .before .args in
-    let pre = c .before .before .before .before .before .before .before .before .before .before .pre .1 in
-    let q : 3 ≤ pathCodeAt (a .cells .now) (a .e) = omega (arith, c .before .before .before .path-code .ensures, c .before .before .match .rest) in
-    lower (a .subjects .now) (a .predicates .now) (a .objects .now) (a .count) (a .n) (a .cells .now) (c .before .before .before .before .before .before .before .before .before .before .pre .0) pre (subst (λ (x : ℕ). x < a .e) (sym (c .path-first3 .ensures)) (alt-below (a .cells .now) (pre .1) (a .e) (pre .2) q .0))
-
-spread-path-second-requires-2 : (t : ℕ) → spread-lts.Need-path-second-requires-2 (calls t) (spread-at t) spread.Post
-spread-path-second-requires-2 t c κs = search needs
+    let a = c .before .before .before .before .before .before .before .before .before .before .before .args in
+    let pre = c .before .before .before .before .before .before .before .before .before .before .before .pre .1 in
+    let q : 3 ≤ pathCodeAt (a .cells .now) (a .e) = omega (arith, c .before .before .before .before .path-code .ensures, c .before .match .rest) in
+    lower (a .s .now) (a .p .now) (a .o .now) (a .count) (a .n) (a .cells .now) (c .before .before .before .before .before .before .before .before .before .before .before .pre .0) pre (c .before .before .before .path-first .ensures) (alt-below (a .cells .now) (pre .1) (a .e) (pre .2) q .0)
 
 spread-spread-requires-5 : (t : ℕ) → spread-lts.Need-spread-requires-5 (calls t) (spread-at t) spread.Post
 spread-spread-requires-5 t c κs =
     let a = c .before .before .before .before .before .before .before .before .before .before .before .before .before .before .before .args in
     let pre = c .before .before .before .before .before .before .before .before .before .before .before .before .before .before .before .pre .1 in
-    let q : 3 ≤ pathCodeAt (a .cells .now) (a .e) = omega (arith, c .before .before .before .before .before .before .before .before .path-code .ensures, c .before .before .before .before .before .before .before .match .rest) in
-    lower (a .subjects .now) (a .predicates .now) (a .objects .now) (a .count) (a .n) (a .cells .now) (c .before .before .before .before .before .before .before .before .before .before .before .before .before .before .before .pre .0) pre (subst (λ (x : ℕ). x < a .e) (sym (c .path-second2 .ensures)) (alt-below (a .cells .now) (pre .1) (a .e) (pre .2) q .1))
+    let q : 3 ≤ pathCodeAt (a .cells .now) (a .e) = omega (arith, c .before .before .before .before .before .before .before .before .path-code .ensures, c .before .before .before .before .before .match .rest) in
+    lower (a .s .now) (a .p .now) (a .o .now) (a .count) (a .n) (a .cells .now) (c .before .before .before .before .before .before .before .before .before .before .before .before .before .before .before .pre .0) pre (c .before .before .before .before .before .before .path-second .ensures) (alt-below (a .cells .now) (pre .1) (a .e) (pre .2) q .1)
 
 spread-same-length : (t : ℕ) → spread-lts.Need-same-length (calls t) (spread-at t) spread.Post
 spread-same-length t c = search needs
 
 spread-returns : (t : ℕ) → spread-lts.Need-returns (calls t) (spread-at t) spread.Post
 spread-returns t c =
-    let a = c .before .before .before .before .before .before .before .before .before .before .before .before .before .args in
-    let pre = c .before .before .before .before .before .before .before .before .before .before .before .before .before .pre .1 in
-    c .before .before .join-link .ensures ∙ ap (λ (p : ℕ). withImages (abreast (a .wide)) (a .n) (hops (a .subjects .now) (a .predicates .now) (a .objects .now) p (a .back) (a .count)) (a .from .now) (a .into .now)) (c .before .before .before .path-link .ensures)
-    ∙ spread-link (a .cells .now) (pre .1) (a .e) (pre .2) (a .wide) (a .n) (a .back) (a .from .now) (a .into .now) (a .subjects .now) (a .predicates .now) (a .objects .now) (a .count) (sym (c .before .before .before .before .before .before .path-code .ensures) ∙ c .before .before .before .before .before .match .keys1)
+    let a = c .before .before .before .before .before .before .before .before .before .before .before .before .before .before .before .args in
+    let pre = c .before .before .before .before .before .before .before .before .before .before .before .before .before .before .before .pre .1 in
+    c .before .before .join-link .ensures ∙ ap (λ (l : ℕ). withImages (abreast (a .many)) (a .n) (hops (a .s .now) (a .p .now) (a .o .now) l (a .back) (a .count)) (a .from .now) (a .into .now)) (c .before .before .before .before .path-link .ensures)
+    ∙ spread-link (a .cells .now) (pre .1) (a .e) (pre .2) (a .many) (a .n) (a .back) (a .from .now) (a .into .now) (a .s .now) (a .p .now) (a .o .now) (a .count) (sym (c .before .before .before .before .before .before .before .before .path-code .ensures) ∙ c .before .before .before .before .before .match .keys1)
 
 spread-same-length-2 : (t : ℕ) → spread-lts.Need-same-length-2 (calls t) (spread-at t) spread.Post
 spread-same-length-2 t c = search needs
 
 spread-returns-2 : (t : ℕ) → spread-lts.Need-returns-2 (calls t) (spread-at t) spread.Post
 spread-returns-2 t c =
-    let a = c .before .before .before .before .before .before .before .before .before .before .before .before .before .args in
-    let pre = c .before .before .before .before .before .before .before .before .before .before .before .before .before .pre .1 in
-    let ts = triplesOf (a .subjects .now) (a .predicates .now) (a .objects .now) (a .count) in
-    c .before .before .spread .ensures ∙ ap (λ (x : ℕ). withEnds (abreast (a .wide)) (a .n) ts (pathAt (a .cells .now) x) (not (a .back)) (a .from .now) (a .into .now)) (c .before .before .before .path-first .ensures)
-    ∙ spread-inv (a .cells .now) (pre .1) (a .e) (pre .2) (a .wide) (a .n) (a .back) (a .from .now) (a .into .now) ts (sym (c .before .before .before .before .before .before .path-code .ensures) ∙ c .before .before .before .before .before .match .keys2)
+    let a = c .before .before .before .before .before .before .before .before .before .before .before .before .before .before .args in
+    let pre = c .before .before .before .before .before .before .before .before .before .before .before .before .before .before .pre .1 in
+    let ts = triplesOf (a .s .now) (a .p .now) (a .o .now) (a .count) in
+    c .before .before .spread .ensures ∙ ap (λ (x : ℕ). withEnds (abreast (a .many)) (a .n) ts (pathAt (a .cells .now) x) (not (a .back)) (a .from .now) (a .into .now)) (c .before .before .before .before .before .before .path-first .ensures) ∙ spread-inv (a .cells .now) (pre .1) (a .e) (pre .2) (a .many) (a .n) (a .back) (a .from .now) (a .into .now) ts (sym (c .before .before .before .before .before .before .before .path-code .ensures) ∙ c .before .before .before .before .match .keys2)
 
 spread-same-length-3 : (t : ℕ) → spread-lts.Need-same-length-3 (calls t) (spread-at t) spread.Post
 spread-same-length-3 t c = search needs
@@ -142,10 +132,10 @@ spread-returns-3 : (t : ℕ) → spread-lts.Need-returns-3 (calls t) (spread-at 
 spread-returns-3 t c =
     let a = c .before .before .before .before .before .before .before .before .before .before .before .before .before .before .before .before .before .before .before .before .args in
     let pre = c .before .before .before .before .before .before .before .before .before .before .before .before .before .before .before .before .before .before .before .before .pre .1 in
-    let ts = triplesOf (a .subjects .now) (a .predicates .now) (a .objects .now) (a .count) in
-    c .before .before .spread3 .ensures ∙ ap (λ (m : List ℕ). withEnds (abreast (a .wide)) (a .n) ts (pathAt (a .cells .now) (c .before .before .before .before .pick2 .result)) (a .back) m (a .into .now)) (c .before .before .before .before .before .before .before .spread2 .ensures)
-    ∙ spread-seq (a .cells .now) (pre .1) (a .e) (pre .2) (a .wide) (a .n) (a .back) (a .from .now) (a .into .now) ts (pre .0 .nodes) (sym (c .before .before .before .before .before .before .before .before .before .before .before .before .before .path-code .ensures) ∙ c .before .before .before .before .before .before .before .before .before .before .before .before .match .keys3) (c .before .before .before .before .before .before .before .before .pick .result) (c .before .before .before .before .pick2 .result)
-    (c .before .before .before .before .before .before .before .before .pick .ensures ∙ ap₂ (cond (a .back)) (c .before .before .before .before .before .before .before .before .before .before .path-second .ensures) (c .before .before .before .before .before .before .before .before .before .before .before .path-first2 .ensures)) (c .before .before .before .before .pick2 .ensures ∙ ap₂ (cond (a .back)) (c .before .before .before .before .before .before .before .before .before .before .before .path-first2 .ensures) (c .before .before .before .before .before .before .before .before .before .before .path-second .ensures))
+    let ts = triplesOf (a .s .now) (a .p .now) (a .o .now) (a .count) in
+    c .before .before .spread3 .ensures ∙ ap (λ (m : List ℕ). withEnds (abreast (a .many)) (a .n) ts (pathAt (a .cells .now) (c .before .before .before .before .before .before .before .before .pick2 .result)) (a .back) m (a .into .now)) (c .before .before .before .before .before .before .spread2 .ensures)
+    ∙ spread-seq (a .cells .now) (pre .1) (a .e) (pre .2) (a .many) (a .n) (a .back) (a .from .now) (a .into .now) ts (pre .0 .nodes) (sym (c .before .before .before .before .before .before .before .before .before .before .before .before .before .path-code .ensures) ∙ c .before .before .before .before .before .before .before .before .before .before .match .keys3) (c .before .before .before .before .before .before .before .before .before .pick .result) (c .before .before .before .before .before .before .before .before .pick2 .result)
+    (c .before .before .before .before .before .before .before .before .before .pick .ensures ∙ ap₂ (cond (a .back)) (c .before .before .before .before .before .before .before .before .before .before .before .path-second .ensures) (c .before .before .before .before .before .before .before .before .before .before .before .before .path-first .ensures)) (c .before .before .before .before .before .before .before .before .pick2 .ensures ∙ ap₂ (cond (a .back)) (c .before .before .before .before .before .before .before .before .before .before .before .before .path-first .ensures) (c .before .before .before .before .before .before .before .before .before .before .before .path-second .ensures))
 
 spread-same-length-4 : (t : ℕ) → spread-lts.Need-same-length-4 (calls t) (spread-at t) spread.Post
 spread-same-length-4 t c = search needs
@@ -154,32 +144,29 @@ spread-returns-4 : (t : ℕ) → spread-lts.Need-returns-4 (calls t) (spread-at 
 spread-returns-4 t c =
     let a = c .before .before .before .before .before .before .before .before .before .before .before .before .before .before .before .before .before .before .args in
     let pre = c .before .before .before .before .before .before .before .before .before .before .before .before .before .before .before .before .before .before .pre .1 in
-    let ts = triplesOf (a .subjects .now) (a .predicates .now) (a .objects .now) (a .count) in
-    let q : 3 ≤ pathCodeAt (a .cells .now) (a .e) = omega (arith, c .before .before .before .before .before .before .before .before .before .before .before .path-code .ensures, c .before .before .before .before .before .before .before .before .before .before .match .rest) in
+    let ts = triplesOf (a .s .now) (a .p .now) (a .o .now) (a .count) in
+    let q : 3 ≤ pathCodeAt (a .cells .now) (a .e) = omega (arith, c .before .before .before .before .before .before .before .before .before .before .before .path-code .ensures, c .before .before .before .before .before .before .before .before .match .rest) in
     c .before .before .spread5 .ensures
-    ∙ ap₂ (λ (x : ℕ) (m : List ℕ). withEnds (abreast (a .wide)) (a .n) ts (pathAt (a .cells .now) x) (a .back) (a .from .now) m) (c .before .before .before .path-second2 .ensures) (c .before .before .before .before .before .before .before .spread4 .ensures ∙ ap (λ (x : ℕ). withEnds (abreast (a .wide)) (a .n) ts (pathAt (a .cells .now) x) (a .back) (a .from .now) (a .into .now)) (c .before .before .before .before .before .before .before .before .path-first3 .ensures))
-    ∙ spread-alt (a .cells .now) (pre .1) (a .e) (pre .2) (a .wide) (a .n) (a .back) (a .from .now) (a .into .now) ts q
+    ∙ ap₂ (λ (x : ℕ) (m : List ℕ). withEnds (abreast (a .many)) (a .n) ts (pathAt (a .cells .now) x) (a .back) (a .from .now) m) (c .before .before .before .before .before .before .before .before .before .path-second .ensures) (c .before .before .before .before .before .before .spread4 .ensures ∙ ap (λ (x : ℕ). withEnds (abreast (a .many)) (a .n) ts (pathAt (a .cells .now) x) (a .back) (a .from .now) (a .into .now)) (c .before .before .before .before .before .before .before .before .before .before .path-first .ensures))
+    ∙ spread-alt (a .cells .now) (pre .1) (a .e) (pre .2) (a .many) (a .n) (a .back) (a .from .now) (a .into .now) ts q
 
 pub +spread-spec : {M : Type 1} → statement M
 +spread-spec = close μ-spread λ t. spread-lts.spec (calls t)
     (spread-at t)
     spread.Post
     (spread-path-code-requires t)
+    (spread-path-first-requires t)
+    (spread-path-second-requires t)
     (spread-path-link-requires t)
     (spread-join-link-requires t)
-    (spread-path-first-requires t)
     (spread-spread-requires t)
-    (spread-path-first-requires-2 t)
-    (spread-path-second-requires t)
-    (spread-slice-aggregate-spread t)
     (spread-pick-requires t)
-    (spread-spread-requires-2 t)
     (spread-pick-requires-2 t)
+    (spread-slice-aggregate-spread t)
+    (spread-spread-requires-2 t)
     (spread-slice-aggregate-spread-2 t)
     (spread-spread-requires-3 t)
-    (spread-path-first-requires-3 t)
     (spread-spread-requires-4 t)
-    (spread-path-second-requires-2 t)
     (spread-spread-requires-5 t)
     (spread-same-length t)
     (spread-returns t)

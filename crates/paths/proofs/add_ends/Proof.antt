@@ -12,19 +12,16 @@ use Rattle.paths.proofs.add_ends.Reads as reads
 use Rattle.paths.proofs.add_ends.Lts as lts
 use Rattle.paths.proofs.follow.Reads as follow-reads
 
--- src/lib.rt:212:5
 follow-requires : tie.Need-follow-requires
 follow-requires c κs = search needs
 
--- src/lib.rt:197:1
 same-length : tie.Need-same-length
 same-length c = search needs
 
--- src/lib.rt:197:1
 returns : tie.Need-returns
 returns c =
     let a = c .before .before .before .before .before .before .before .before .before .before .args in
-    c .before .before .follow .ensures ∙ one-set (a .n) (turned (a .back) (endsOf (a .n) (triplesOf (a .subjects .now) (a .predicates .now) (a .objects .now) (a .count)) (endIn (a .cells .now) (a .end)))) (a .from .now) (a .into .now)
+    c .before .before .follow .ensures ∙ one-set (a .n) (turned (a .back) (endsOf (a .n) (triplesOf (a .s .now) (a .p .now) (a .o .now) (a .count)) (endIn (a .cells .now) (a .end)))) (a .from .now) (a .into .now)
 
 pub add-ends-spec : {M : Type 1} → statement M
 add-ends-spec = tie.close (tie.spec follow-requires same-length returns)

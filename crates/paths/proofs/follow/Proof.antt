@@ -12,62 +12,50 @@ use Rattle.paths.proofs.join_itself.Reads as join-itself-reads
 use Rattle.paths.proofs.join_link.Reads as join-link-reads
 use Rattle.paths.proofs.spread.Reads as spread-reads
 
--- src/lib.rt:190:36
 enum-told : tie.Need-enum-told
 enum-told c = search needs
 
--- src/lib.rt:190:24
 join-itself-requires : tie.Need-join-itself-requires
 join-itself-requires c κs = search needs
 
--- src/lib.rt:191:19
 enum-known-end : tie.Need-enum-known-end
 enum-known-end c = search needs
 
--- src/lib.rt:191:25
 join-link-requires : tie.Need-join-link-requires
 join-link-requires c κs = search needs
 
--- src/lib.rt:192:19
 enum-known-end-2 : tie.Need-enum-known-end-2
 enum-known-end-2 c = search needs
 
--- src/lib.rt:192:25
 spread-requires : tie.Need-spread-requires
 spread-requires c κs =
     let a = c .before .before .before .before .before .before .before .before .before .before .args in
     let pre = c .before .before .before .before .before .before .before .before .before .before .pre in
     (pre .0, pre .1, end-below (a .cells .now) (c .before .before .end2 .given .1) (pre .2))
 
--- src/lib.rt:173:1
 same-length : tie.Need-same-length
 same-length c = search needs
 
--- src/lib.rt:173:1
 returns : tie.Need-returns
 returns c =
     let a = c .before .before .before .before .before .before .before .before .before .before .before .before .args in
-    c .before .before .join-itself .ensures ∙ end-itself (abreast (a .wide)) (a .n) (a .cells .now) (a .back) (a .from .now) (a .into .now) (triplesOf (a .subjects .now) (a .predicates .now) (a .objects .now) (a .count)) (c .before .before .before .before .enum-told .given .1)
+    c .before .before .join-itself .ensures ∙ end-itself (abreast (a .many)) (a .n) (a .cells .now) (a .back) (a .from .now) (a .into .now) (triplesOf (a .s .now) (a .p .now) (a .o .now) (a .count)) (c .before .before .before .before .enum-told .given .1)
 
--- src/lib.rt:173:1
 same-length-2 : tie.Need-same-length-2
 same-length-2 c = search needs
 
--- src/lib.rt:173:1
 returns-2 : tie.Need-returns-2
 returns-2 c =
     let a = c .before .before .before .before .before .before .before .before .before .before .before .before .before .args in
-    c .before .before .join-link .ensures ∙ end-link (abreast (a .wide)) (a .n) (a .cells .now) (a .back) (a .from .now) (a .into .now) (a .subjects .now) (a .predicates .now) (a .objects .now) (a .count) (c .before .before .before .before .before .end .given .1)
+    c .before .before .join-link .ensures ∙ end-link (abreast (a .many)) (a .n) (a .cells .now) (a .back) (a .from .now) (a .into .now) (a .s .now) (a .p .now) (a .o .now) (a .count) (c .before .before .before .before .before .end .given .1)
 
--- src/lib.rt:173:1
 same-length-3 : tie.Need-same-length-3
 same-length-3 c = search needs
 
--- src/lib.rt:173:1
 returns-3 : tie.Need-returns-3
 returns-3 c =
     let a = c .before .before .before .before .before .before .before .before .before .before .before .before .before .args in
-    c .before .before .spread .ensures ∙ end-path (abreast (a .wide)) (a .n) (a .cells .now) (a .back) (a .from .now) (a .into .now) (triplesOf (a .subjects .now) (a .predicates .now) (a .objects .now) (a .count)) (c .before .before .before .before .before .end2 .given .1)
+    c .before .before .spread .ensures ∙ end-path (abreast (a .many)) (a .n) (a .cells .now) (a .back) (a .from .now) (a .into .now) (triplesOf (a .s .now) (a .p .now) (a .o .now) (a .count)) (c .before .before .before .before .before .end2 .given .1)
 
 pub follow-spec : {M : Type 1} → statement M
 follow-spec =

@@ -16,31 +16,24 @@ use Rattle.nodeset.proofs.put_word.Reads as put-word-reads
 use Rattle.nodeset.proofs.test.Reads as test-reads
 use Rattle.nodeset.proofs.word.Reads as word-reads
 
--- src/lib.rt:56:17
 word-requires : tie.Need-word-requires
 word-requires c κs = search needs
 
--- src/lib.rt:56:35
 word-requires-2 : tie.Need-word-requires-2
 word-requires-2 c κs = search needs
 
--- src/lib.rt:57:9
 put-word-requires : tie.Need-put-word-requires
 put-word-requires c κs = search needs
 
--- src/lib.rt:58:15
 test-requires : tie.Need-test-requires
 test-requires c κs = search needs
 
--- src/lib.rt:59:9
 insert-requires : tie.Need-insert-requires
 insert-requires c κs = search needs
 
--- src/lib.rt:52:1
 same-length : tie.Need-same-length
 same-length c = search needs
 
--- src/lib.rt:52:1
 returns : tie.Need-returns
 returns c =
     let a = c .before .before .before .before .before .before .before .before .before .before .args in
@@ -48,18 +41,15 @@ returns c =
     ∙ join-wide (a .near) (a .far) (a .from .now) (a .into .now) (λ i. c .before .before .before .before .before .before .before .before .before .slice-known .given i .fits) (c .before .before .before .before .before .before .before .before .shared-slice-known .given (a .near) .fits)
     ∙ ap (λ (w : Bool). joined (abreast w) (a .near) (a .far) (a .from .now) (a .into .now)) (sym (c .before .before .before .before .before .before .before .if1 .taken))
 
--- src/lib.rt:52:1
 same-length-2 : tie.Need-same-length-2
 same-length-2 c = search needs
 
--- src/lib.rt:52:1
 returns-2 : tie.Need-returns-2
 returns-2 c =
     let a = c .before .before .before .before .before .before .before .before .before .args in
     c .before .before .insert .ensures ∙ join-in (a .near) (a .far) (a .from .now) (a .into .now) (λ i. c .before .before .before .before .before .before .before .before .slice-known .given i .fits) (sym (c .before .before .before .before .before .test .ensures) ∙ c .before .before .before .before .if2 .taken)
     ∙ ap (λ (w : Bool). joined (abreast w) (a .near) (a .far) (a .from .now) (a .into .now)) (sym (c .before .before .before .before .before .before .if1 .left))
 
--- src/lib.rt:52:1
 returns-3 : tie.Need-returns-3
 returns-3 c =
     let a = c .before .before .before .before .before .args in

@@ -14,46 +14,39 @@ use Rattle.paths.proofs.join_link.Lts as lts
 use Rattle.paths.proofs.join_fact.Reads as join-fact-reads
 
 abbrev Inv-loop : tie.InvT-loop
-Inv-loop into₀ p back wide from subjects predicates objects count n i₀ into i = (i ≤ count) × (length into ≡ length into₀) × (into ≡ withImages (abreast wide) n (hops subjects predicates objects (p .0) back i) from into₀)
+Inv-loop into₀ l back many from s p o count n i₀ into i = (i ≤ count) × (length into ≡ length into₀) × (into ≡ withImages (abreast many) n (hops s p o (l .0) back i) from into₀)
 
 abbrev μ-loop : tie.MeasureT-loop
-μ-loop into₀ p back wide from subjects predicates objects count n i₀ into i = count - i
+μ-loop into₀ l back many from s p o count n i₀ into i = count - i
 
--- src/lib.rt:103:5
 loop-holds : tie.Need-loop-holds Inv-loop μ-loop
 loop-holds c =
     let a = c .before .before .before .before .before .args in
-    (search needs, refl, facts-none (a .subjects .now) (a .predicates .now) (a .objects .now) (abreast (a .wide)) (a .n) (a .p .0) (a .back) (a .from .now) (a .into .now) (λ i. c .before .before .before .before .slice-known .given i .fits))
+    (search needs, refl, facts-none (a .s .now) (a .p .now) (a .o .now) (abreast (a .many)) (a .n) (a .l .0) (a .back) (a .from .now) (a .into .now) (λ i. c .before .before .before .before .slice-known .given i .fits))
 
--- src/lib.rt:104:9
 join-fact-requires : tie.Need-join-fact-requires Inv-loop μ-loop
 join-fact-requires c κs = (c .before .before .before .before .before .before .before .before .pre, search needs)
 
--- src/lib.rt:103:9
 add-i : tie.Need-add-i Inv-loop μ-loop
 add-i c = search needs
 
--- src/lib.rt:103:5
 loop-less : tie.Need-loop-less Inv-loop μ-loop
 loop-less c = search needs
 
--- src/lib.rt:103:5
 loop-again : tie.Need-loop-again Inv-loop μ-loop
 loop-again c =
     let a = c .before .before .before .before .before .before .before .before .before .before .before .args in
     let t = c .before .before .before .before .before .loop in
-    (search needs, c .before .before .join-fact .kept .0 ∙ t .inv .1, c .before .before .join-fact .ensures ∙ facts-more (a .subjects .now) (a .predicates .now) (a .objects .now) (abreast (a .wide)) (a .n) (a .p .0) (a .back) (a .from .now) (a .into .now) (t .i) (t .inv .2))
+    (search needs, c .before .before .join-fact .kept .0 ∙ t .inv .1, c .before .before .join-fact .ensures ∙ facts-more (a .s .now) (a .p .now) (a .o .now) (abreast (a .many)) (a .n) (a .l .0) (a .back) (a .from .now) (a .into .now) (t .i) (t .inv .2))
 
--- src/lib.rt:88:1
 same-length : tie.Need-same-length Inv-loop μ-loop
 same-length c = search needs
 
--- src/lib.rt:88:1
 returns : tie.Need-returns Inv-loop μ-loop
 returns c =
     let a = c .before .before .before .before .before .before .before .args in
     let e : c .before .loop .i ≡ a .count = omega arith in
-    c .before .loop .inv .2 ∙ ap (λ (i : ℕ). withImages (abreast (a .wide)) (a .n) (hops (a .subjects .now) (a .predicates .now) (a .objects .now) (a .p .0) (a .back) i) (a .from .now) (a .into .now)) e
+    c .before .loop .inv .2 ∙ ap (λ (i : ℕ). withImages (abreast (a .many)) (a .n) (hops (a .s .now) (a .p .now) (a .o .now) (a .l .0) (a .back) i) (a .from .now) (a .into .now)) e
 
 pub join-link-spec : {M : Type 1} → statement M
 join-link-spec =

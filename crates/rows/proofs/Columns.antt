@@ -1,0 +1,109 @@
+-- The column of the targets, a column stored into the rows, and the column that a path leads back to.
+use Prim.Native.Nat.{ℕ, zero, suc, _+_, _*_, _/_, _%_, _^_, _≤_, _<_}
+use mathlib.Core.Bool.{Bool, true, false, cond, _&&_, _||_, and-false, or-comm, and-or-distrib-right}
+use mathlib.Core.List.{List}
+use mathlib.Core.Path.{_≡_, refl, sym, ap, ap₂, _∙_, subst}
+use native.Mathlib.Omega.{arith}
+use lib.Dec.{eqb, ltb}
+use lib.ListN.{length, getD, set, replicate, length-set}
+use lib.Seq.{ext-getD, getD-set-same, getD-set-other}
+use borrow.Author.Tests.{eq-eqb, ne-eqb, eqb-true, eqb-false, lt-ltb, le-ltb, ltb-true, ltb-false}
+use Rattle.base.specs.Bounded.{some}
+use Rattle.base.specs.Lists.{values, valuesFrom}
+use Rattle.base.proofs.Bools.{and-left, and-right, and-both, same-test}
+use Rattle.base.proofs.Bounded.{some-ext, some-none, some-eq}
+use Rattle.base.proofs.Lists.{length-valuesFrom, at-values, values-ext}
+use Rattle.nodeset.specs.Words.{has, wordsOf, with}
+use Rattle.nodeset.proofs.Sets.{wordsOf-ext, has-of, has-zeros, zeros, with-step, ltb-more}
+use Rattle.paths.specs.Images.{turned, image, withImages}
+use Rattle.paths.proofs.Joins.{eqb-comm}
+use Rattle.rows.specs.Rows.{between, columnOf, unitOf, withColumn}
+
+-- ---- the targets: set k is the node 64 * j + k alone, for k below i
+abbrev pub targets : ℕ → ℕ → ℕ → Bool
+targets j i x = ltb (x % 64) i && eqb (x / 64) (64 * j + x % 64)
+
+pub targets-none : (j : ℕ) {ws : List ℕ} → ws ≡ replicate 1024 0 → ws ≡ wordsOf (targets j 0) 1024
+targets-none j e = e ∙ zeros 1024 ∙ wordsOf-ext (λ x. false) (targets j 0) 1024 (λ x l. ap (λ (b : Bool). b && eqb (x / 64) (64 * j + x % 64)) (sym (le-ltb (x % 64) 0 (omega arith))))
+
+pub targets-more : {ws : List ℕ} (j i : ℕ) → i < 64 → ws ≡ wordsOf (targets j i) 1024 → with ws ((64 * j + i) * 64 + i) ≡ wordsOf (targets j (i + 1)) 1024
+targets-more j i l e = with-step (targets j i) (targets j (i + 1)) 1024 ((64 * j + i) * 64 + i) e λ x lx.
+    ap (λ (b : Bool). targets j i x || b) (sym (at x)) ∙ sym (and-or-distrib-right (ltb (x % 64) i) (eqb (x % 64) i) (eqb (x / 64) (64 * j + x % 64))) ∙ ap (λ (b : Bool). b && eqb (x / 64) (64 * j + x % 64)) (sym (ltb-more (x % 64) i))
+  where
+    at : (x : ℕ) → (eqb (x % 64) i && eqb (x / 64) (64 * j + x % 64)) ≡ eqb x ((64 * j + i) * 64 + i)
+    at x = same-test (eqb (x % 64) i && eqb (x / 64) (64 * j + x % 64)) (eqb x ((64 * j + i) * 64 + i))
+        (λ h. let a : x % 64 ≡ i = eqb-true (x % 64) i (and-left (eqb (x % 64) i) (eqb (x / 64) (64 * j + x % 64)) h) in let b : x / 64 ≡ 64 * j + x % 64 = eqb-true (x / 64) (64 * j + x % 64) (and-right (eqb (x % 64) i) (eqb (x / 64) (64 * j + x % 64)) h) in eq-eqb x ((64 * j + i) * 64 + i) (omega arith))
+        (λ h. let a : x ≡ (64 * j + i) * 64 + i = eqb-true x ((64 * j + i) * 64 + i) h in and-both (eqb (x % 64) i) (eqb (x / 64) (64 * j + x % 64)) (eq-eqb (x % 64) i (omega arith)) (eq-eqb (x / 64) (64 * j + x % 64) (omega arith)))
+
+pub targets-all : {ws : List ℕ} (j i : ℕ) → i ≡ 64 → ws ≡ wordsOf (targets j i) 1024 → ws ≡ unitOf j
+unfolding unitOf
+targets-all j i q e = e ∙ wordsOf-ext (targets j i) (λ x. eqb (x / 64) (64 * j + x % 64)) 1024 (λ x l. ap (λ (b : Bool). b && eqb (x / 64) (64 * j + x % 64)) (lt-ltb (x % 64) i (omega arith)))
+
+-- ---- values, one of them replaced
+pub set-values : (f g : ℕ → ℕ) (n k x : ℕ) → g k ≡ x → ((i : ℕ) → (i ≡ k → ⊥) → f i ≡ g i) → set (values f n) k x ≡ values g n
+set-values f g n k x h o = ext-getD 0 (set (values f n) k x) (values g n) (length-set (values f n) k x ∙ length-valuesFrom f 0 n ∙ sym (length-valuesFrom g 0 n)) λ i l.
+    let l′ : i < n = omega (arith, l, length-set (values f n) k x, length-valuesFrom f 0 n) in
+    go i l′ (eqb i k) refl ∙ sym (at-values g n i 0 l′)
+  where
+    go : (i : ℕ) → i < n → (b : Bool) → eqb i k ≡ b → getD (set (values f n) k x) i 0 ≡ g i
+    go i l true e =
+        let q : i ≡ k = eqb-true i k e in
+        ap (λ (y : ℕ). getD (set (values f n) k x) y 0) q ∙ getD-set-same (values f n) k x 0 (omega (arith, length-valuesFrom f 0 n)) ∙ sym h ∙ ap g (sym q)
+    go i l false e = getD-set-other (values f n) k i x 0 (eqb-false i k e) ∙ at-values f n i 0 l ∙ o i (eqb-false i k e)
+
+-- a list as the values at its places
+pub own-values : (ws : List ℕ) (g : ℕ → ℕ) → ((i : ℕ) → getD ws i 0 ≡ g i) → ws ≡ values g (length ws)
+own-values ws g h = ext-getD 0 ws (values g (length ws)) (sym (length-valuesFrom g 0 (length ws))) (λ i l. h i ∙ sym (at-values g (length ws) i 0 l))
+
+-- ---- a column stored: word j of the rows below v is that of the column m
+abbrev pub stored : List ℕ → ℕ → List ℕ → ℕ → ℕ → ℕ
+stored rows j m v i = cond (eqb (i % 16) j && ltb (i / 16) v) (getD m (i / 16) 0) (getD rows i 0)
+
+module _ (rows : List ℕ) (j : ℕ) (m : List ℕ) where
+  pub stored-none : rows ≡ values (stored rows j m 0) (length rows)
+  stored-none = own-values rows (stored rows j m 0) (λ i. ap (λ (b : Bool). cond b (getD m (i / 16) 0) (getD rows i 0)) (sym (ap (λ (b : Bool). eqb (i % 16) j && b) (le-ltb (i / 16) 0 (omega arith)) ∙ and-false (eqb (i % 16) j))))
+
+  pub stored-more : {ws : List ℕ} (v : ℕ) → j < 16 → ws ≡ values (stored rows j m v) (length rows) → set ws (16 * v + j) (getD m v 0) ≡ values (stored rows j m (v + 1)) (length rows)
+  stored-more v l e =
+      ap (λ (ws : List ℕ). set ws (16 * v + j) (getD m v 0)) e
+      ∙ set-values (stored rows j m v) (stored rows j m (v + 1)) (length rows) (16 * v + j) (getD m v 0) here (λ i ne. ap (λ (b : Bool). cond b (getD m (i / 16) 0) (getD rows i 0)) (other i ne (eqb (i % 16) j) refl))
+    where
+      here : stored rows j m (v + 1) (16 * v + j) ≡ getD m v 0
+      here =
+          let q : (16 * v + j) % 16 ≡ j = omega arith in
+          let r : (16 * v + j) / 16 ≡ v = omega arith in
+          ap (λ (b : Bool). cond b (getD m ((16 * v + j) / 16) 0) (getD rows (16 * v + j) 0)) (and-both (eqb ((16 * v + j) % 16) j) (ltb ((16 * v + j) / 16) (v + 1)) (eq-eqb ((16 * v + j) % 16) j q) (lt-ltb ((16 * v + j) / 16) (v + 1) (omega arith))) ∙ ap (λ (y : ℕ). getD m y 0) r
+
+      other : (i : ℕ) → (i ≡ 16 * v + j → ⊥) → (b : Bool) → eqb (i % 16) j ≡ b → (b && ltb (i / 16) v) ≡ (b && ltb (i / 16) (v + 1))
+      other i ne false q = refl
+      other i ne true q = same-test (ltb (i / 16) v) (ltb (i / 16) (v + 1))
+          (λ h. let a : i / 16 < v = ltb-true (i / 16) v h in lt-ltb (i / 16) (v + 1) (omega arith))
+          (λ h. let a : i / 16 < v + 1 = ltb-true (i / 16) (v + 1) h in let c : i % 16 ≡ j = eqb-true (i % 16) j q in lt-ltb (i / 16) v (omega arith))
+
+  pub stored-all : {ws : List ℕ} (v : ℕ) → v ≡ 1024 → ws ≡ values (stored rows j m v) (length rows) → ws ≡ withColumn rows j m
+  unfolding withColumn
+  stored-all v q e = e ∙ ap (λ (v : ℕ). values (stored rows j m v) (length rows)) q
+
+-- ---- from the targets back: each gives the column of those that lead to it
+pub column-of : (n : ℕ) (r : ℕ → ℕ → Bool) (j : ℕ) {t m : List ℕ} → n ≤ 1024 → ((v w : ℕ) → r v w ≡ true → w < n → v < n) → t ≡ unitOf j → m ≡ withImages 64 n (turned true r) t (replicate 1024 0) → m ≡ columnOf n r j
+unfolding unitOf columnOf withImages image
+column-of n r j {t} l node et em = em ∙ wordsOf-ext (λ x. has (replicate 1024 0) x || image n (turned true r) (λ v. has t (v * 64 + x % 64)) (x / 64)) (λ x. between n r (x / 64) (64 * j + x % 64)) 1024 λ x lx.
+    ap (λ (b : Bool). b || image n (turned true r) (λ v. has t (v * 64 + x % 64)) (x / 64)) (has-zeros 1024 x)
+    ∙ some-ext (λ v. has t (v * 64 + x % 64) && r (x / 64) v) (λ v. eqb (64 * j + x % 64) v && r (x / 64) v) n (λ v lv. ap (λ (b : Bool). b && r (x / 64) v) (at x v (omega arith)))
+    ∙ single (x / 64) (64 * j + x % 64) (ltb (64 * j + x % 64) n) refl
+  where
+    at : (x v : ℕ) → v < 1024 → has t (v * 64 + x % 64) ≡ eqb (64 * j + x % 64) v
+    at x v lv =
+        let q : (v * 64 + x % 64) / 64 ≡ v = omega arith in
+        let s : (v * 64 + x % 64) % 64 ≡ x % 64 = omega arith in
+        has-of (λ x. eqb (x / 64) (64 * j + x % 64)) 1024 et (v * 64 + x % 64) (omega arith) ∙ ap₂ (λ (a b : ℕ). eqb a (64 * j + b)) q s ∙ eqb-comm v (64 * j + x % 64)
+
+    start : (v w : ℕ) → w < n → (b : Bool) → r v w ≡ b → b ≡ ((ltb v n && true) && b)
+    start v w lw true q = sym (ap (λ (c : Bool). (c && true) && true) (lt-ltb v n (node v w q lw)))
+    start v w lw false q = sym (and-false (ltb v n && true))
+
+    single : (v w : ℕ) (b : Bool) → ltb w n ≡ b → some (λ u. eqb w u && r v u) n ≡ ((ltb v n && b) && r v w)
+    single v w true q = some-eq (r v) w n (ltb-true w n q) ∙ start v w (ltb-true w n q) (r v w) refl
+    single v w false q =
+        some-ext (λ u. eqb w u && r v u) (λ u. false) n (λ u lu. ap (λ (b : Bool). b && r v u) (ne-eqb w u (λ f. let h : n ≤ w = ltb-false w n q in let z : ⊥ = omega arith in z)))
+        ∙ some-none n ∙ sym (ap (λ (b : Bool). b && r v w) (and-false (ltb v n)))
