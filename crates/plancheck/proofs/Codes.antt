@@ -7,9 +7,9 @@ use native.Mathlib.Omega.{arith}
 use lib.Dec.{eqb, ltb, leb}
 use lib.IntN.{pos}
 use lib.ListN.{getD, List·getD-eq-default}
-use borrow.Author.Tests.{ne-eqb, lt-leb, ltb-true, ltb-false}
+use borrow.Author.Tests.{ne-eqb, eqb-true, lt-leb, ltb-true, ltb-false}
 use Rattle.base.specs.Bounded.{every}
-use Rattle.base.proofs.Bools.{bool-cases}
+use Rattle.base.proofs.Bools.{bool-cases, and-right}
 use Rattle.base.proofs.Bounded.{every-at}
 use Rattle.model.specs.Graph.{holds}
 use Rattle.tables.specs.Layout.{formCount, formCodeAt, formFirstAt, formSecondAt, formThirdAt, formFourthAt}
@@ -52,6 +52,13 @@ module _ (cs : List ℕ) where
     pub closed-read : (k : ℕ) → k ≡ formCodeAt cs e → (ltb e (formCount cs) && eqb k 17) ≡ closedOk cs e
     unfolding closedOk entryAt
     closed-read k x = ap (λ (b : Bool). ltb e (formCount cs) && b) (sym (closed-code k) ∙ ap (λ (j : ℕ). holds (λ ps. true) (linksOf cs (entryBy j))) x)
+
+    -- the code of an entry that is a test; of one that is `closed`
+    pub test-codes : testOk cs e ≡ true → (leb 6 (formCodeAt cs e) && leb (formCodeAt cs e) 12) ≡ true
+    test-codes w = and-right (ltb e (formCount cs)) (leb 6 (formCodeAt cs e) && leb (formCodeAt cs e) 12) (test-read (formCodeAt cs e) refl ∙ w)
+
+    pub closed-codes : closedOk cs e ≡ true → formCodeAt cs e ≡ 17
+    closed-codes w = eqb-true (formCodeAt cs e) 17 (and-right (ltb e (formCount cs)) (eqb (formCodeAt cs e) 17) (closed-read (formCodeAt cs e) refl ∙ w))
 
   -- ---- step k: the answers by code
   module _ (ps : List ℕ) (k : ℕ) where

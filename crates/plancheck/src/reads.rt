@@ -1,4 +1,6 @@
-// What stands at a place of a plan. A place past the end of a lent slice reads as zero.
+// What stands at a place of a plan. A place past the end of a lent slice reads as zero. Node and link numbers are wrapped here.
+use model::LinkNo;
+use model::NodeNo;
 use plan::RULE_STEPS;
 use plan::STEP_CODES;
 use plan::STEP_FIRSTS;
@@ -52,4 +54,23 @@ pub fn step_fourth(plan: &[u16], k: usize) -> usize
     ensures { λ r. ⌜ r ≡ stepFourthAt (now (plan .entry)) k ⌝ }
 {
     wide(cell_at(plan, STEP_FOURTHS, k))
+}
+
+// The first operand as a node (Is, Isnot, Typed) and as a link (From, Into); the second as a link (Equal, Less and the like).
+pub fn step_node(plan: &[u16], k: usize) -> NodeNo
+    ensures { λ r. ⌜ r .0 ≡ stepFirstAt (now (plan .entry)) k ⌝ }
+{
+    NodeNo(cell_at(plan, STEP_FIRSTS, k))
+}
+
+pub fn step_link(plan: &[u16], k: usize) -> LinkNo
+    ensures { λ r. ⌜ r .0 ≡ stepFirstAt (now (plan .entry)) k ⌝ }
+{
+    LinkNo(cell_at(plan, STEP_FIRSTS, k))
+}
+
+pub fn step_second_link(plan: &[u16], k: usize) -> LinkNo
+    ensures { λ r. ⌜ r .0 ≡ stepSecondAt (now (plan .entry)) k ⌝ }
+{
+    LinkNo(cell_at(plan, STEP_SECONDS, k))
 }
