@@ -1,4 +1,5 @@
-// A small well-formed table, damaged one cell at a time: what well_formed says of each. And the offsets of the layout.
+// The offsets of the layout; tables one place too short; and a small well-formed table, damaged one cell at a time, with what
+// well_formed says of each.
 use libc::STDOUT_FILENO;
 use tables::layout;
 use tables::lent;
@@ -6,6 +7,44 @@ ghost use Prim.Native.Nat.{_≤_};
 ghost use Rattle.tables.specs.Layout.{cellCount};
 
 type Cells = [u16; 16602];
+
+// In the order of docs/LAYOUT.md.
+const OFFSETS: [usize; 27] = [
+    layout::NODE_KINDS,
+    layout::NODE_TYPES,
+    layout::NODE_LANGS,
+    layout::SUBJECTS,
+    layout::PREDICATES,
+    layout::OBJECTS,
+    layout::PATH_CODES,
+    layout::PATH_FIRSTS,
+    layout::PATH_SECONDS,
+    layout::FORM_CODES,
+    layout::FORM_FIRSTS,
+    layout::FORM_SECONDS,
+    layout::FORM_THIRDS,
+    layout::FORM_FOURTHS,
+    layout::ITEMS,
+    layout::ROOTS,
+    layout::RULE_SHAPES,
+    layout::RULE_TARGETS,
+    layout::RULE_OPERANDS,
+    layout::CELLS,
+    layout::FORM_VALUES,
+    layout::VALUES,
+    layout::LINK_NAMES,
+    layout::TYPE_NAMES,
+    layout::LANG_NAMES,
+    layout::SHAPE_NAMES,
+    layout::NAMES,
+];
+
+fn offsets() {
+    for k in 0..27 {
+        io::print_decimal(STDOUT_FILENO, OFFSETS[k] as u64);
+        io::write_all(STDOUT_FILENO, b"\n");
+    }
+}
 
 fn put(cells: &mut Cells, at: usize, x: u16) {
     if at < 16602 {
@@ -21,16 +60,7 @@ fn fill(cells: &mut Cells, at: usize, from: &[u16])
     }
 }
 
-fn answer(what: &[u8], good: bool) {
-    io::write_all(STDOUT_FILENO, what);
-    if good {
-        io::write_all(STDOUT_FILENO, b": yes\n");
-    } else {
-        io::write_all(STDOUT_FILENO, b": no\n");
-    }
-}
-
-// The table: its counts, graph and paths.
+// The table: counts, graph and paths.
 fn graph(cells: &mut Cells) {
     // the counts: nodes, links, types, langs, shapes, facts, path entries, form entries, items, rules
     fill(cells, 0, &[5, 3, 2, 2, 3, 3, 4, 21, 4, 4]);
@@ -48,90 +78,39 @@ fn graph(cells: &mut Cells) {
     fill(cells, layout::PATH_SECONDS, &[0, 0, 1, 0]);
 }
 
-// Its forms, items, shapes and rules.
+// Form entry e, with the code e.
+fn entry(cells: &mut Cells, e: u16, first: u16, second: u16) {
+    let at = e as usize;
+    put(cells, layout::FORM_CODES + at, e);
+    put(cells, layout::FORM_FIRSTS + at, first);
+    put(cells, layout::FORM_SECONDS + at, second);
+}
+
+// One of each, from `true` on, which is zeros.
+fn forms(cells: &mut Cells) {
+    entry(cells, 1, 4, 0); // is 4
+    entry(cells, 2, 0, 0); // shape 0
+    entry(cells, 3, 0, 2); // and 0 2
+    entry(cells, 4, 3, 1); // or 3 1
+    entry(cells, 5, 4, 0); // not 4
+    entry(cells, 6, 2, 0); // kind literal
+    entry(cells, 7, 1, 0); // datatype 1
+    entry(cells, 8, 0, 2); // lang, items 0 and 1
+    entry(cells, 9, 0, 0); // from
+    entry(cells, 10, 0, 0); // above
+    entry(cells, 11, 0, 0); // to
+    entry(cells, 12, 0, 0); // below
+    entry(cells, 13, 3, 5); // count of path 3 and form 5
+    entry(cells, 14, 2, 13); // all of path 2 and form 13
+    entry(cells, 15, 65535, 2); // equal id 2
+    entry(cells, 16, 3, 0); // apart 3 0
+    entry(cells, 17, 2, 2); // closed, items 2 and 3
+    entry(cells, 18, 0, 1); // less 0 1
+    entry(cells, 19, 1, 2); // lesseq 1 2
+    entry(cells, 20, 3, 0); // onelang 3
+}
+
 fn shapes(cells: &mut Cells) {
-    // the forms, one of each code: true, is, shape, and, or, not, kind, datatype, lang, from, above, to, below, count, all, equal, apart, closed, less, lesseq, onelang
-    fill(
-        cells,
-        layout::FORM_CODES,
-        &[
-            0,
-            1,
-            2,
-            3,
-            4,
-            5,
-            6,
-            7,
-            8,
-            9,
-            10,
-            11,
-            12,
-            13,
-            14,
-            15,
-            16,
-            17,
-            18,
-            19,
-            20,
-        ],
-    );
-    fill(
-        cells,
-        layout::FORM_FIRSTS,
-        &[
-            0,
-            4,
-            0,
-            0,
-            3,
-            4,
-            2,
-            1,
-            0,
-            0,
-            0,
-            0,
-            0,
-            3,
-            2,
-            65535,
-            3,
-            2,
-            0,
-            1,
-            3,
-        ],
-    );
-    fill(
-        cells,
-        layout::FORM_SECONDS,
-        &[
-            0,
-            0,
-            0,
-            2,
-            1,
-            0,
-            0,
-            0,
-            2,
-            0,
-            0,
-            0,
-            0,
-            5,
-            13,
-            2,
-            0,
-            2,
-            1,
-            2,
-            0,
-        ],
-    );
     // LO and HI of the count
     fill(cells, layout::FORM_THIRDS + 13, &[1024]);
     fill(cells, layout::FORM_FOURTHS + 13, &[65535]);
@@ -143,6 +122,15 @@ fn shapes(cells: &mut Cells) {
     fill(cells, layout::RULE_OPERANDS, &[4, 2, 0, 0]);
 }
 
+fn answer(what: &[u8], good: bool) {
+    io::write_all(STDOUT_FILENO, what);
+    if good {
+        io::write_all(STDOUT_FILENO, b": yes\n");
+    } else {
+        io::write_all(STDOUT_FILENO, b": no\n");
+    }
+}
+
 fn ask(what: &[u8], cells: &Cells) {
     answer(what, tablecheck::well_formed(cells));
 }
@@ -151,10 +139,22 @@ fn clear(cells: &mut Cells) {
     lent::clear_cells(cells);
 }
 
+fn whole() {
+    let mut cells = [0u16; 16602];
+    ask(b"zeros", &cells);
+    graph(&mut cells);
+    forms(&mut cells);
+    shapes(&mut cells);
+    ask(b"the table", &cells);
+    clear(&mut cells);
+    ask(b"the table cleared", &cells);
+}
+
 // The table with x at one place: is it well formed?
 fn damage(what: &[u8], at: usize, x: u16) {
     let mut cells = [0u16; 16602];
     graph(&mut cells);
+    forms(&mut cells);
     shapes(&mut cells);
     put(&mut cells, at, x);
     ask(what, &cells);
@@ -172,9 +172,6 @@ fn limits() {
     damage(b"33 langs", 3, 33);
     damage(b"64 shapes", 4, 64);
     damage(b"65 shapes", 4, 65);
-}
-
-fn more_limits() {
     damage(b"4096 facts", 5, 4096);
     damage(b"4097 facts", 5, 4097);
     damage(b"128 path entries", 6, 128);
@@ -187,8 +184,8 @@ fn more_limits() {
     damage(b"33 rules", 9, 33);
 }
 
-// Counts with one less: the last of its kind is then past the count.
-fn fewer() {
+// The last of a kind gone; then nodes: a thing, a blank, a number, a text, words; then facts.
+fn graphs() {
     damage(b"node 4 gone, and used", 0, 4);
     damage(b"link 2 gone, and used", 1, 2);
     damage(b"type 1 gone, and used", 2, 1);
@@ -199,10 +196,6 @@ fn fewer() {
     damage(b"form entry 20 gone, and used", 7, 20);
     damage(b"item 3 gone, and used", 8, 3);
     damage(b"rule 3 gone", 9, 3);
-}
-
-// Nodes: a thing, a blank, a number, a text, words.
-fn nodes() {
     damage(b"a thing becomes kind 5", layout::NODE_KINDS, 5);
     damage(b"a thing becomes kind 65535", layout::NODE_KINDS, 65535);
     damage(b"a thing with type 9", layout::NODE_TYPES, 9);
@@ -212,10 +205,6 @@ fn nodes() {
     damage(b"a text with lang 7", layout::NODE_LANGS + 3, 7);
     damage(b"words in lang 2", layout::NODE_LANGS + 4, 2);
     damage(b"kind 9 past the nodes", layout::NODE_KINDS + 5, 9);
-}
-
-// Facts.
-fn facts() {
     damage(b"a subject that is no node", layout::SUBJECTS, 5);
     damage(b"a literal as subject", layout::SUBJECTS, 2);
     damage(b"a predicate that is no link", layout::PREDICATES + 1, 3);
@@ -223,8 +212,8 @@ fn facts() {
     damage(b"a subject past the facts", layout::SUBJECTS + 3, 5000);
 }
 
-// Path entries: a link, inv 0, seq 0 1, alt 2 0.
-fn paths() {
+// Path entries: link 1, inv 0, seq 0 1, alt 2 0. Form entries: entry k has code k.
+fn entries() {
     damage(b"path code 4", layout::PATH_CODES, 4);
     damage(b"a path that is no link", layout::PATH_FIRSTS, 3);
     damage(b"second operand of a link", layout::PATH_SECONDS, 77);
@@ -234,14 +223,10 @@ fn paths() {
     damage(b"alt, first not before it", layout::PATH_FIRSTS + 3, 4);
     damage(b"alt, second not before it", layout::PATH_SECONDS + 3, 3);
     damage(b"path code 4 past the entries", layout::PATH_CODES + 4, 4);
-}
-
-// Form entries: entry k has code k.
-fn forms() {
     damage(b"form code 21", layout::FORM_CODES, 21);
     damage(b"is, no node", layout::FORM_FIRSTS + 1, 5);
     damage(b"shape, no shape", layout::FORM_FIRSTS + 2, 3);
-    damage(b"shape, begins with the entry itself", layout::ROOTS, 2);
+    damage(b"shape, begins with this entry", layout::ROOTS, 2);
     damage(b"and, second not before it", layout::FORM_SECONDS + 3, 3);
     damage(b"or, first not before it", layout::FORM_FIRSTS + 4, 4);
     damage(b"not, of itself", layout::FORM_FIRSTS + 5, 5);
@@ -255,8 +240,8 @@ fn forms() {
     );
 }
 
-// Lists: lang has items 0 and 1, closed items 2 and 3.
-fn lists() {
+// Lists: lang has items 0 and 1, closed items 2 and 3. Then count and all.
+fn operands() {
     damage(b"lang, past the items", layout::FORM_SECONDS + 8, 5);
     damage(b"lang, empty", layout::FORM_SECONDS + 8, 0);
     damage(b"lang, start past the items", layout::FORM_FIRSTS + 8, 4);
@@ -269,10 +254,6 @@ fn lists() {
     );
     damage(b"closed, no link", layout::ITEMS + 3, 3);
     damage(b"an item past the items", layout::ITEMS + 4, 9999);
-}
-
-// count 1024 * of path 3 and form 5; all of path 2 and form 13.
-fn counts() {
     damage(b"count, no path", layout::FORM_FIRSTS + 13, 4);
     damage(b"count, form not before it", layout::FORM_SECONDS + 13, 13);
     damage(b"LO 1025", layout::FORM_THIRDS + 13, 1025);
@@ -284,7 +265,7 @@ fn counts() {
     damage(b"all, form not before it", layout::FORM_SECONDS + 14, 14);
 }
 
-// equal id 2, apart 3 0, less 0 1, lesseq 1 2, onelang 3.
+// Pair conditions; roots of shapes; rules for node 4, subjects 2, objects 0, class 0.
 fn pairs() {
     damage(b"equal, END 0", layout::FORM_FIRSTS + 15, 0);
     damage(b"equal, no path", layout::FORM_FIRSTS + 15, 4);
@@ -296,10 +277,6 @@ fn pairs() {
     damage(b"less, no link", layout::FORM_SECONDS + 18, 3);
     damage(b"lesseq, id", layout::FORM_FIRSTS + 19, 65535);
     damage(b"onelang, no path", layout::FORM_FIRSTS + 20, 4);
-}
-
-// Shapes begin with entries 1, 20, 14; rules are shape 0 (node 4), 1 (subjects 2), 2 (objects 0), 2 (class 0).
-fn rules() {
     damage(b"a shape begins with entry 21", layout::ROOTS + 1, 21);
     damage(b"a shape begins with entry 0", layout::ROOTS + 1, 0);
     damage(b"a root past the shapes", layout::ROOTS + 3, 500);
@@ -310,48 +287,6 @@ fn rules() {
     damage(b"objects, no link", layout::RULE_OPERANDS + 2, 3);
     damage(b"class, no node", layout::RULE_OPERANDS + 3, 5);
     damage(b"a rule past the rules", layout::RULE_SHAPES + 4, 64);
-}
-
-fn offset(name: &[u8], n: usize) {
-    io::write_all(STDOUT_FILENO, name);
-    io::print_decimal(STDOUT_FILENO, n as u64);
-    io::write_all(STDOUT_FILENO, b"\n");
-}
-
-fn graph_offsets() {
-    offset(b"NODE_KINDS ", layout::NODE_KINDS);
-    offset(b"NODE_TYPES ", layout::NODE_TYPES);
-    offset(b"NODE_LANGS ", layout::NODE_LANGS);
-    offset(b"SUBJECTS ", layout::SUBJECTS);
-    offset(b"PREDICATES ", layout::PREDICATES);
-    offset(b"OBJECTS ", layout::OBJECTS);
-    offset(b"PATH_CODES ", layout::PATH_CODES);
-    offset(b"PATH_FIRSTS ", layout::PATH_FIRSTS);
-    offset(b"PATH_SECONDS ", layout::PATH_SECONDS);
-}
-
-fn form_offsets() {
-    offset(b"FORM_CODES ", layout::FORM_CODES);
-    offset(b"FORM_FIRSTS ", layout::FORM_FIRSTS);
-    offset(b"FORM_SECONDS ", layout::FORM_SECONDS);
-    offset(b"FORM_THIRDS ", layout::FORM_THIRDS);
-    offset(b"FORM_FOURTHS ", layout::FORM_FOURTHS);
-    offset(b"ITEMS ", layout::ITEMS);
-    offset(b"ROOTS ", layout::ROOTS);
-    offset(b"RULE_SHAPES ", layout::RULE_SHAPES);
-    offset(b"RULE_TARGETS ", layout::RULE_TARGETS);
-    offset(b"RULE_OPERANDS ", layout::RULE_OPERANDS);
-    offset(b"CELLS ", layout::CELLS);
-}
-
-fn other_offsets() {
-    offset(b"FORM_VALUES ", layout::FORM_VALUES);
-    offset(b"VALUES ", layout::VALUES);
-    offset(b"LINK_NAMES ", layout::LINK_NAMES);
-    offset(b"TYPE_NAMES ", layout::TYPE_NAMES);
-    offset(b"LANG_NAMES ", layout::LANG_NAMES);
-    offset(b"SHAPE_NAMES ", layout::SHAPE_NAMES);
-    offset(b"NAMES ", layout::NAMES);
 }
 
 // Tables one place too short.
@@ -377,36 +312,13 @@ fn lengths() {
     );
 }
 
-fn damaged() {
-    limits();
-    more_limits();
-    fewer();
-    nodes();
-    facts();
-    paths();
-    forms();
-    lists();
-    counts();
-    pairs();
-    rules();
-}
-
-// Zeros, the table, and zeros again.
-fn whole() {
-    let mut cells = [0u16; 16602];
-    ask(b"all zeros", &cells);
-    graph(&mut cells);
-    shapes(&mut cells);
-    ask(b"untouched", &cells);
-    clear(&mut cells);
-    ask(b"cleared", &cells);
-}
-
 fn main() {
-    graph_offsets();
-    form_offsets();
-    other_offsets();
+    offsets();
     lengths();
     whole();
-    damaged();
+    limits();
+    graphs();
+    entries();
+    operands();
+    pairs();
 }
