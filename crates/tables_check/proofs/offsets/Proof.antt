@@ -1,4 +1,5 @@
-use Prim.Native.Nat.{_≤_, _-_}
+use Prim.Native.Nat.{_≤_, _<_, _-_}
+use lib.ListN.{length}
 use borrow.Author.Needs.{needs}
 use Rattle.tables_check.proofs.offsets.Statement.{statement}
 use Rattle.tables_check.proofs.offsets.Tie as tie
