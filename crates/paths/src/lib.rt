@@ -1,4 +1,4 @@
-// The ends of paths, over facts in three lent columns: s, p and o hold the subjects, predicates and objects of count facts.
+// The ends of paths, over facts in three lent columns: s, p and o hold the subjects, predicates and objects of len facts.
 //
 // Sets of nodes stand side by side in the words that are lent: one set alone (node v at bit v), or where `many` 64 sets, one word
 // for each node (node v of set k at bit k of word v). What is done for one set is done for each of the 64, so one function serves both.
@@ -88,10 +88,10 @@ fn join_fact(
     s: &[u16],
     p: &[u16],
     o: &[u16],
-    count: usize,
+    len: usize,
     n: usize,
 )
-    requires { ⌜ FactsOk (now s) (now p) (now o) count n × (i < count) ⌝ }
+    requires { ⌜ FactsOk (now s) (now p) (now o) len n × (i < len) ⌝ }
     ensures { λ _. ⌜ now (into .exit) ≡ withImages (abreast many) n (hop (now (s .entry)) (now (p .entry)) (now (o .entry)) (l .0) back i) (now (from .entry)) (now (into .entry)) ⌝ }
 {
     if link_at(p, i).0 == l.0 {
@@ -111,14 +111,14 @@ fn join_link(
     s: &[u16],
     p: &[u16],
     o: &[u16],
-    count: usize,
+    len: usize,
     n: usize,
 )
-    requires { ⌜ FactsOk (now s) (now p) (now o) count n ⌝ }
-    ensures { λ _. ⌜ now (into .exit) ≡ withImages (abreast many) n (hops (now (s .entry)) (now (p .entry)) (now (o .entry)) (l .0) back count) (now (from .entry)) (now (into .entry)) ⌝ }
+    requires { ⌜ FactsOk (now s) (now p) (now o) len n ⌝ }
+    ensures { λ _. ⌜ now (into .exit) ≡ withImages (abreast many) n (hops (now (s .entry)) (now (p .entry)) (now (o .entry)) (l .0) back len) (now (from .entry)) (now (into .entry)) ⌝ }
 {
-    for i in 0..count {
-        join_fact(into, i, l, back, many, from, s, p, o, count, n);
+    for i in 0..len {
+        join_fact(into, i, l, back, many, from, s, p, o, len, n);
     }
 }
 
@@ -133,31 +133,27 @@ fn spread(
     s: &[u16],
     p: &[u16],
     o: &[u16],
-    count: usize,
+    len: usize,
     n: usize,
 )
-    requires { ⌜ FactsOk (now s) (now p) (now o) count n × (wellFormed (now cells) ≡ true) × (e < pathCount (now cells)) ⌝ }
-    ensures { λ _. ⌜ now (into .exit) ≡ withEnds (abreast many) n (triplesOf (now (s .entry)) (now (p .entry)) (now (o .entry)) count) (pathAt (now (cells .entry)) e) back (now (from .entry)) (now (into .entry)) ⌝ }
+    requires { ⌜ FactsOk (now s) (now p) (now o) len n × (wellFormed (now cells) ≡ true) × (e < pathCount (now cells)) ⌝ }
+    ensures { λ _. ⌜ now (into .exit) ≡ withEnds (abreast many) n (triplesOf (now (s .entry)) (now (p .entry)) (now (o .entry)) len) (pathAt (now (cells .entry)) e) back (now (from .entry)) (now (into .entry)) ⌝ }
 {
-    let code = path_code(cells, e);
     let a = path_first(cells, e);
     let b = path_second(cells, e);
-    match code {
-        0 => {
-            let l = path_link(cells, e);
-            join_link(into, l, back, many, from, s, p, o, count, n);
-        }
-        1 => spread(into, a, !back, many, from, cells, s, p, o, count, n),
+    match path_code(cells, e) {
+        0 => join_link(into, path_link(cells, e), back, many, from, s, p, o, len, n),
+        1 => spread(into, a, !back, many, from, cells, s, p, o, len, n),
         2 => {
             let x = pick(back, b, a);
             let y = pick(back, a, b);
             let mut mid = [0u64; 1024];
-            spread(&mut mid, x, back, many, from, cells, s, p, o, count, n);
-            spread(into, y, back, many, &mid, cells, s, p, o, count, n);
+            spread(&mut mid, x, back, many, from, cells, s, p, o, len, n);
+            spread(into, y, back, many, &mid, cells, s, p, o, len, n);
         }
         _ => {
-            spread(into, a, back, many, from, cells, s, p, o, count, n);
-            spread(into, b, back, many, from, cells, s, p, o, count, n);
+            spread(into, a, back, many, from, cells, s, p, o, len, n);
+            spread(into, b, back, many, from, cells, s, p, o, len, n);
         }
     }
 }
@@ -182,16 +178,16 @@ pub fn follow(
     s: &[u16],
     p: &[u16],
     o: &[u16],
-    count: usize,
+    len: usize,
     n: usize,
 )
-    requires { ⌜ FactsOk (now s) (now p) (now o) count n × (wellFormed (now cells) ≡ true) × (endOk (now cells) end ≡ true) ⌝ }
-    ensures { λ _. ⌜ now (into .exit) ≡ withImages (abreast many) n (turned back (endsOf n (triplesOf (now (s .entry)) (now (p .entry)) (now (o .entry)) count) (endIn (now (cells .entry)) end))) (now (from .entry)) (now (into .entry)) ⌝ }
+    requires { ⌜ FactsOk (now s) (now p) (now o) len n × (wellFormed (now cells) ≡ true) × (endOk (now cells) end ≡ true) ⌝ }
+    ensures { λ _. ⌜ now (into .exit) ≡ withImages (abreast many) n (turned back (endsOf n (triplesOf (now (s .entry)) (now (p .entry)) (now (o .entry)) len) (endIn (now (cells .entry)) end))) (now (from .entry)) (now (into .entry)) ⌝ }
 {
     match end {
         End::Itself => join_itself(into, many, from, n),
-        End::Link(l) => join_link(into, l, back, many, from, s, p, o, count, n),
-        End::Path(e) => spread(into, e, back, many, from, cells, s, p, o, count, n),
+        End::Link(l) => join_link(into, l, back, many, from, s, p, o, len, n),
+        End::Path(e) => spread(into, e, back, many, from, cells, s, p, o, len, n),
     }
 }
 
@@ -205,13 +201,13 @@ pub fn add_ends(
     s: &[u16],
     p: &[u16],
     o: &[u16],
-    count: usize,
+    len: usize,
     n: usize,
 )
-    requires { ⌜ FactsOk (now s) (now p) (now o) count n × (wellFormed (now cells) ≡ true) × (endOk (now cells) end ≡ true) ⌝ }
-    ensures { λ _. ⌜ now (into .exit) ≡ withImage n (turned back (endsOf n (triplesOf (now (s .entry)) (now (p .entry)) (now (o .entry)) count) (endIn (now (cells .entry)) end))) (now (from .entry)) (now (into .entry)) ⌝ }
+    requires { ⌜ FactsOk (now s) (now p) (now o) len n × (wellFormed (now cells) ≡ true) × (endOk (now cells) end ≡ true) ⌝ }
+    ensures { λ _. ⌜ now (into .exit) ≡ withImage n (turned back (endsOf n (triplesOf (now (s .entry)) (now (p .entry)) (now (o .entry)) len) (endIn (now (cells .entry)) end))) (now (from .entry)) (now (into .entry)) ⌝ }
 {
-    follow(into, end, back, false, from, cells, s, p, o, count, n);
+    follow(into, end, back, false, from, cells, s, p, o, len, n);
 }
 
 // The same over the facts of the tables.
@@ -220,9 +216,9 @@ pub fn add_table_ends(into: &mut [u64], end: End, back: bool, from: &[u64], cell
     ensures { λ _. ⌜ now (into .exit) ≡ withImage (nodeCount (now (cells .entry))) (turned back (endsOf (nodeCount (now (cells .entry))) (triplesAt (now (cells .entry))) (endIn (now (cells .entry)) end))) (now (from .entry)) (now (into .entry)) ⌝ }
 {
     let n = node_count(cells);
-    let count = fact_count(cells);
+    let len = fact_count(cells);
     let s = &cells[SUBJECTS..PREDICATES];
     let p = &cells[PREDICATES..OBJECTS];
     let o = &cells[OBJECTS..PATH_CODES];
-    add_ends(into, end, back, from, cells, s, p, o, count, n);
+    add_ends(into, end, back, from, cells, s, p, o, len, n);
 }

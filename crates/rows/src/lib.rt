@@ -60,16 +60,16 @@ fn pass(
     s: &[u16],
     p: &[u16],
     o: &[u16],
-    count: usize,
+    len: usize,
     n: usize,
 )
-    requires { ⌜ FactsOk (now s) (now p) (now o) count n × (wellFormed (now cells) ≡ true) × (endOk (now cells) end ≡ true) × (j < 16) ⌝ }
-    ensures { λ _. ⌜ now (rows .exit) ≡ withColumn (now (rows .entry)) j (columnOf n (endsOf n (triplesOf (now (s .entry)) (now (p .entry)) (now (o .entry)) count) (endIn (now (cells .entry)) end)) j) ⌝ }
+    requires { ⌜ FactsOk (now s) (now p) (now o) len n × (wellFormed (now cells) ≡ true) × (endOk (now cells) end ≡ true) × (j < 16) ⌝ }
+    ensures { λ _. ⌜ now (rows .exit) ≡ withColumn (now (rows .entry)) j (columnOf n (endsOf n (triplesOf (now (s .entry)) (now (p .entry)) (now (o .entry)) len) (endIn (now (cells .entry)) end)) j) ⌝ }
 {
     let mut t = [0u64; 1024];
     unit(&mut t, j);
     let mut m = [0u64; 1024];
-    follow(&mut m, end, true, true, &t, cells, s, p, o, count, n);
+    follow(&mut m, end, true, true, &t, cells, s, p, o, len, n);
     store_column(rows, j, &m);
 }
 
@@ -81,14 +81,14 @@ pub fn all_ends(
     s: &[u16],
     p: &[u16],
     o: &[u16],
-    count: usize,
+    len: usize,
     n: usize,
 )
-    requires { ⌜ FactsOk (now s) (now p) (now o) count n × (wellFormed (now cells) ≡ true) × (endOk (now cells) end ≡ true) × (length (now rows) ≡ 16384) ⌝ }
-    ensures { λ _. ⌜ now (rows .exit) ≡ rowsOf n (endsOf n (triplesOf (now (s .entry)) (now (p .entry)) (now (o .entry)) count) (endIn (now (cells .entry)) end)) ⌝ }
+    requires { ⌜ FactsOk (now s) (now p) (now o) len n × (wellFormed (now cells) ≡ true) × (endOk (now cells) end ≡ true) × (length (now rows) ≡ 16384) ⌝ }
+    ensures { λ _. ⌜ now (rows .exit) ≡ rowsOf n (endsOf n (triplesOf (now (s .entry)) (now (p .entry)) (now (o .entry)) len) (endIn (now (cells .entry)) end)) ⌝ }
 {
     for j in 0..16 {
-        pass(rows, j, end, cells, s, p, o, count, n);
+        pass(rows, j, end, cells, s, p, o, len, n);
     }
 }
 
@@ -98,9 +98,9 @@ pub fn all_table_ends(rows: &mut [u64], end: End, cells: &[u16])
     ensures { λ _. ⌜ now (rows .exit) ≡ rowsOf (nodeCount (now (cells .entry))) (endsOf (nodeCount (now (cells .entry))) (triplesAt (now (cells .entry))) (endIn (now (cells .entry)) end)) ⌝ }
 {
     let n = node_count(cells);
-    let count = fact_count(cells);
+    let len = fact_count(cells);
     let s = &cells[SUBJECTS..PREDICATES];
     let p = &cells[PREDICATES..OBJECTS];
     let o = &cells[OBJECTS..PATH_CODES];
-    all_ends(rows, end, cells, s, p, o, count, n);
+    all_ends(rows, end, cells, s, p, o, len, n);
 }

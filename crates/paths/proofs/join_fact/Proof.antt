@@ -47,7 +47,7 @@ returns c =
     let s = c .before .before .before .before .before .before .before .before .wide .ensures ∙ c .before .before .before .before .before .before .before .before .before .node-at .ensures in
     let o = c .before .before .before .before .before .before .wide2 .ensures ∙ c .before .before .before .before .before .before .before .node-at2 .ensures in
     c .before .before .join .ensures
-    ∙ fact-joins (a .s .now) (a .p .now) (a .o .now) (abreast (a .many)) (a .n) (a .l .0) (a .back) (a .from .now) (a .into .now) (a .count) (c .before .before .before .before .before .before .before .before .before .before .before .before .before .before .before .before .before .before .before .pre .0) (a .i) (c .before .before .before .before .before .before .before .before .before .before .before .before .before .before .before .before .before .before .before .pre .1) (c .before .before .before .pick2 .result) (c .before .before .before .before .pick .result)
+    ∙ fact-joins (a .s .now) (a .p .now) (a .o .now) (abreast (a .many)) (a .n) (a .l .0) (a .back) (a .from .now) (a .into .now) (a .len) (c .before .before .before .before .before .before .before .before .before .before .before .before .before .before .before .before .before .before .before .pre .0) (a .i) (c .before .before .before .before .before .before .before .before .before .before .before .before .before .before .before .before .before .before .before .pre .1) (c .before .before .before .pick2 .result) (c .before .before .before .before .pick .result)
     (sym (c .before .before .before .before .before .before .before .before .before .before .before .before .before .link-at .ensures) ∙ c .before .before .before .before .before .before .before .before .before .before .if1 .taken) (c .before .before .before .pick2 .ensures ∙ ap₂ (cond (a .back)) o s) (c .before .before .before .before .pick .ensures ∙ ap₂ (cond (a .back)) s o)
 
 returns-2 : tie.Need-returns-2

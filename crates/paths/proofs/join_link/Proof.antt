@@ -45,7 +45,7 @@ same-length c = search needs
 returns : tie.Need-returns Inv-loop μ-loop
 returns c =
     let a = c .before .before .before .before .before .before .before .args in
-    let e : c .before .loop .i ≡ a .count = omega arith in
+    let e : c .before .loop .i ≡ a .len = omega arith in
     c .before .loop .inv .2 ∙ ap (λ (i : ℕ). withImages (abreast (a .many)) (a .n) (hops (a .s .now) (a .p .now) (a .o .now) (a .l .0) (a .back) i) (a .from .now) (a .into .now)) e
 
 pub join-link-spec : {M : Type 1} → statement M

@@ -22,7 +22,7 @@ abbrev μ-loop : tie.MeasureT-loop
 μ-loop rows₀ end cells s p o count n j₀ rows j = 16 - j
 
 loop-holds : tie.Need-loop-holds Inv-loop μ-loop
-loop-holds c = let a = c .before .before .before .before .before .args in (search needs, refl, passed-none (a .n) (endsOf (a .n) (triplesOf (a .s .now) (a .p .now) (a .o .now) (a .count)) (endIn (a .cells .now) (a .end))) (a .rows .now))
+loop-holds c = let a = c .before .before .before .before .before .args in (search needs, refl, passed-none (a .n) (endsOf (a .n) (triplesOf (a .s .now) (a .p .now) (a .o .now) (a .len)) (endIn (a .cells .now) (a .end))) (a .rows .now))
 
 pass-requires : tie.Need-pass-requires Inv-loop μ-loop
 pass-requires c κs = let pre = c .before .before .before .before .before .before .before .before .pre in (pre .0, pre .1, pre .2, search needs)
@@ -37,13 +37,13 @@ loop-again : tie.Need-loop-again Inv-loop μ-loop
 loop-again c =
     let a = c .before .before .before .before .before .before .before .before .before .before .before .args in
     let t = c .before .before .before .before .before .loop in
-    (search needs, c .before .before .pass .kept .0 ∙ t .inv .1, c .before .before .pass .ensures ∙ passed-more (a .n) (endsOf (a .n) (triplesOf (a .s .now) (a .p .now) (a .o .now) (a .count)) (endIn (a .cells .now) (a .end))) (a .rows .now) (c .before .before .before .before .before .before .before .before .before .before .before .pre .3) (t .j) (t .inv .2))
+    (search needs, c .before .before .pass .kept .0 ∙ t .inv .1, c .before .before .pass .ensures ∙ passed-more (a .n) (endsOf (a .n) (triplesOf (a .s .now) (a .p .now) (a .o .now) (a .len)) (endIn (a .cells .now) (a .end))) (a .rows .now) (c .before .before .before .before .before .before .before .before .before .before .before .pre .3) (t .j) (t .inv .2))
 
 same-length : tie.Need-same-length Inv-loop μ-loop
 same-length c = search needs
 
 returns : tie.Need-returns Inv-loop μ-loop
-returns c = let a = c .before .before .before .before .before .before .before .args in passed-all (a .n) (endsOf (a .n) (triplesOf (a .s .now) (a .p .now) (a .o .now) (a .count)) (endIn (a .cells .now) (a .end))) (a .rows .now) (c .before .before .before .before .before .before .before .pre .3) (c .before .loop .j) (c .before .loop .inv .2) (omega arith)
+returns c = let a = c .before .before .before .before .before .before .before .args in passed-all (a .n) (endsOf (a .n) (triplesOf (a .s .now) (a .p .now) (a .o .now) (a .len)) (endIn (a .cells .now) (a .end))) (a .rows .now) (c .before .before .before .before .before .before .before .pre .3) (c .before .loop .j) (c .before .loop .inv .2) (omega arith)
 
 pub all-ends-spec : {M : Type 1} → statement M
 all-ends-spec =

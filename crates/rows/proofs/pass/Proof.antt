@@ -45,7 +45,7 @@ returns c =
     let ok = c .before .before .before .before .before .before .before .before .before .before .before .before .before .before .before .before .before .pre .0 in
     c .before .before .store-column .ensures
     ∙ ap (withColumn (a .rows .now) (a .j))
-    (column-of (a .n) (endsOf (a .n) (triplesOf (a .s .now) (a .p .now) (a .o .now) (a .count)) (endIn (a .cells .now) (a .end))) (a .j) (ok .nodes) (starts-node (a .s .now) (a .p .now) (a .o .now) (a .count) (a .n) ok (endIn (a .cells .now) (a .end))) (c .before .before .before .before .before .before .before .before .before .before .unit .ensures) (c .before .before .before .before .before .before .follow .ensures))
+    (column-of (a .n) (endsOf (a .n) (triplesOf (a .s .now) (a .p .now) (a .o .now) (a .len)) (endIn (a .cells .now) (a .end))) (a .j) (ok .nodes) (starts-node (a .s .now) (a .p .now) (a .o .now) (a .len) (a .n) ok (endIn (a .cells .now) (a .end))) (c .before .before .before .before .before .before .before .before .before .before .unit .ensures) (c .before .before .before .before .before .before .follow .ensures))
 
 pub pass-spec : {M : Type 1} → statement M
 pass-spec =
