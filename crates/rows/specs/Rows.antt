@@ -19,9 +19,9 @@ rowsOf n r = wordsOf (λ x. between n r (x / 1024) (x % 1024)) 16384
 unfoldable pub columnOf : ℕ → (ℕ → ℕ → Bool) → ℕ → List ℕ
 columnOf n r j = wordsOf (λ x. between n r (x / 64) (64 * j + x % 64)) 1024
 
--- the column whose set k is the node 64 * j + k alone
-unfoldable pub unitOf : ℕ → List ℕ
-unitOf j = wordsOf (λ x. eqb (x / 64) (64 * j + x % 64)) 1024
+-- the column of the identity: set k is the node 64 * j + k alone
+unfoldable pub identityColumn : ℕ → List ℕ
+identityColumn j = wordsOf (λ x. eqb (x / 64) (64 * j + x % 64)) 1024
 
 -- the rows with word j of each taken from the column m
 unfoldable pub withColumn : List ℕ → ℕ → List ℕ → List ℕ

@@ -4,7 +4,7 @@ use mathlib.Core.List.{List}
 use mathlib.Core.Path.{ap₂, _∙_}
 use Rattle.model.specs.Graph.{Triple}
 use Rattle.model.specs.Paths.{endsOf}
-use Rattle.paths.specs.Images.{turned, withImage}
+use Rattle.paths.specs.Images.{converseIf, withImage}
 use Rattle.paths.specs.Ends.{endIn}
 use Rattle.paths.proofs.Parts.{lent-ok, lent-triples}
 use borrow.Author.Needs.{needs}
@@ -62,7 +62,7 @@ returns c =
     let a = c .before .before .before .before .before .before .before .before .before .before .before .before .args in
     let cs = a .cells .now in
     c .before .before .add-ends .ensures
-    ∙ ap₂ (λ (n : ℕ) (ts : List Triple). withImage n (turned (a .back) (endsOf n ts (endIn cs (a .end)))) (a .from .now) (a .into .now)) (c .before .before .before .before .before .before .before .before .node-count .ensures) (lent-triples cs (c .before .before .before .before .before .before .before .before .before .before .before .before .pre .1) (c .before .before .before .before .before .before .before .fact-count .ensures))
+    ∙ ap₂ (λ (n : ℕ) (ts : List Triple). withImage n (converseIf (a .back) (endsOf n ts (endIn cs (a .end)))) (a .from .now) (a .into .now)) (c .before .before .before .before .before .before .before .before .node-count .ensures) (lent-triples cs (c .before .before .before .before .before .before .before .before .before .before .before .before .pre .1) (c .before .before .before .before .before .before .before .fact-count .ensures))
 
 pub add-table-ends-spec : {M : Type 1} → statement M
 add-table-ends-spec =
