@@ -3,10 +3,10 @@ use Prim.Native.Nat.{ℕ, _<_}
 use mathlib.Core.Bool.{Bool, true, false}
 use mathlib.Core.List.{List}
 use mathlib.Core.Path.{_≡_, refl, sym, ap, _∙_}
-use lib.Dec.{eqb, ltb}
+use lib.Dec.{eqb}
 use borrow.Author.Tests.{ltb-true}
 use Rattle.model.specs.Graph.{Triple}
-use Rattle.model.specs.Paths.{ends, endsOf}
+use Rattle.model.specs.Paths.{endsOf}
 use Rattle.tables.specs.Layout.{pathCount}
 use Rattle.tables.specs.Decode.{pathAt}
 use Rattle.paths.specs.Facts.{triplesOf, edges}

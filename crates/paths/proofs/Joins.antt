@@ -1,5 +1,5 @@
 -- A node that joins sets, the facts of a link one by one, and all of them: the relation that they make.
-use Prim.Native.Nat.{ℕ, zero, suc, _+_, _*_, _/_, _%_, _^_, _≤_, _<_}
+use Prim.Native.Nat.{ℕ, _+_, _*_, _/_, _%_, _^_, _<_}
 use mathlib.Core.Bool.{Bool, true, false, cond, _&&_, _||_, or-comm, or-false, and-false, and-true}
 use mathlib.Core.List.{List}
 use mathlib.Core.Path.{_≡_, refl, sym, ap, ap₂, _∙_, subst}
@@ -12,7 +12,7 @@ use borrow.Author.Tests.{eq-eqb, ne-eqb, eqb-true, ltb-true, lt-ltb, le-ltb}
 use Rattle.base.specs.Bounded.{some}
 use Rattle.base.proofs.Bools.{and-left, and-right, same-test}
 use Rattle.base.proofs.Bounded.{every-at}
-use Rattle.nodeset.specs.Words.{bit, has, wordsOf, with}
+use Rattle.nodeset.specs.Words.{bit, has, with}
 use Rattle.nodeset.proofs.Bits.{bit-or}
 use Rattle.nodeset.proofs.Sets.{has-at, own, set-words, same-words, with-words, ltb-more}
 use Rattle.paths.specs.Facts.{FactsOk, edge, edges}

@@ -1,18 +1,18 @@
 -- The column of the targets, a column stored into the rows, and the column that a path leads back to.
-use Prim.Native.Nat.{ℕ, zero, suc, _+_, _*_, _/_, _%_, _^_, _≤_, _<_}
-use mathlib.Core.Bool.{Bool, true, false, cond, _&&_, _||_, and-false, or-comm, and-or-distrib-right}
+use Prim.Native.Nat.{ℕ, _+_, _*_, _/_, _%_, _≤_, _<_}
+use mathlib.Core.Bool.{Bool, true, false, cond, _&&_, _||_, and-false, and-or-distrib-right}
 use mathlib.Core.List.{List}
-use mathlib.Core.Path.{_≡_, refl, sym, ap, ap₂, _∙_, subst}
+use mathlib.Core.Path.{_≡_, refl, sym, ap, ap₂, _∙_}
 use native.Mathlib.Omega.{arith}
 use lib.Dec.{eqb, ltb}
 use lib.ListN.{length, getD, set, replicate, length-set}
 use lib.Seq.{ext-getD, getD-set-same, getD-set-other}
 use borrow.Author.Tests.{eq-eqb, ne-eqb, eqb-true, eqb-false, lt-ltb, le-ltb, ltb-true, ltb-false}
 use Rattle.base.specs.Bounded.{some}
-use Rattle.base.specs.Lists.{values, valuesFrom}
+use Rattle.base.specs.Lists.{values}
 use Rattle.base.proofs.Bools.{and-left, and-right, and-both, same-test}
 use Rattle.base.proofs.Bounded.{some-ext, some-none, some-eq}
-use Rattle.base.proofs.Lists.{length-valuesFrom, at-values, values-ext}
+use Rattle.base.proofs.Lists.{length-valuesFrom, at-values}
 use Rattle.nodeset.specs.Words.{has, wordsOf, with}
 use Rattle.nodeset.proofs.Sets.{wordsOf-ext, has-of, has-zeros, zeros, with-step, ltb-more}
 use Rattle.paths.specs.Images.{converseIf, image, withImages}

@@ -4,7 +4,7 @@ use mathlib.Core.List.{List}
 use mathlib.Core.Bool.{Bool, _&&_, cond}
 use lib.Dec.{eqb, ltb}
 use lib.ListN.{length, getD}
-use Rattle.base.specs.Lists.{values, valuesFrom}
+use Rattle.base.specs.Lists.{values}
 use Rattle.nodeset.specs.Words.{wordsOf}
 
 -- the relation r between the nodes below n

@@ -7,7 +7,7 @@ use native.Mathlib.Omega.{arith}
 use borrow.Author.Needs.{needs}
 use borrow.Fn.Kinds.{In}
 use borrow.Fn.PlainCycle.{Measures, is, falls, and}
-use Rattle.tables.specs.Layout.{pathCount, pathCodeAt, pathFirstAt, pathSecondAt}
+use Rattle.tables.specs.Layout.{pathCount, pathCodeAt}
 use Rattle.tables.specs.Decode.{pathAt}
 use Rattle.tables.specs.WellFormed.{wellFormed}
 use Rattle.paths.specs.Facts.{FactsOk, triplesOf, edges}

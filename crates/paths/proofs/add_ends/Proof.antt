@@ -8,9 +8,6 @@ use Rattle.paths.proofs.Images.{one-set}
 use borrow.Author.Needs.{needs}
 use Rattle.paths.proofs.add_ends.Statement.{statement}
 use Rattle.paths.proofs.add_ends.Tie as tie
-use Rattle.paths.proofs.add_ends.Reads as reads
-use Rattle.paths.proofs.add_ends.Lts as lts
-use Rattle.paths.proofs.follow.Reads as follow-reads
 
 follow-requires : tie.Need-follow-requires
 follow-requires c κs = search needs

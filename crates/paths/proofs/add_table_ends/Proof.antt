@@ -10,11 +10,6 @@ use Rattle.paths.proofs.Parts.{lent-ok, lent-triples}
 use borrow.Author.Needs.{needs}
 use Rattle.paths.proofs.add_table_ends.Statement.{statement}
 use Rattle.paths.proofs.add_table_ends.Tie as tie
-use Rattle.paths.proofs.add_table_ends.Reads as reads
-use Rattle.paths.proofs.add_table_ends.Lts as lts
-use Rattle.paths.proofs.add_ends.Reads as add-ends-reads
-use Rattle.tables.proofs.reads.fact_count.Reads as fact-count-reads
-use Rattle.tables.proofs.reads.node_count.Reads as node-count-reads
 
 node-count-requires : tie.Need-node-count-requires
 node-count-requires c κs = search needs

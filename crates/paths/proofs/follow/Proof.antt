@@ -6,11 +6,6 @@ use Rattle.paths.proofs.Ends.{end-below, end-itself, end-link, end-path
 use borrow.Author.Needs.{needs}
 use Rattle.paths.proofs.follow.Statement.{statement}
 use Rattle.paths.proofs.follow.Tie as tie
-use Rattle.paths.proofs.follow.Reads as reads
-use Rattle.paths.proofs.follow.Lts as lts
-use Rattle.paths.proofs.join_itself.Reads as join-itself-reads
-use Rattle.paths.proofs.join_link.Reads as join-link-reads
-use Rattle.paths.proofs.spread.Reads as spread-reads
 
 enum-told : tie.Need-enum-told
 enum-told c = search needs

@@ -9,12 +9,6 @@ use Rattle.paths.proofs.Joins.{join-wide, join-in, join-out}
 use borrow.Author.Needs.{needs}
 use Rattle.paths.proofs.join.Statement.{statement}
 use Rattle.paths.proofs.join.Tie as tie
-use Rattle.paths.proofs.join.Reads as reads
-use Rattle.paths.proofs.join.Lts as lts
-use Rattle.nodeset.proofs.insert.Reads as insert-reads
-use Rattle.nodeset.proofs.put_word.Reads as put-word-reads
-use Rattle.nodeset.proofs.test.Reads as test-reads
-use Rattle.nodeset.proofs.word.Reads as word-reads
 
 word-requires : tie.Need-word-requires
 word-requires c κs = search needs

@@ -6,13 +6,6 @@ use Rattle.paths.proofs.Joins.{fact-joins, fact-other}
 use borrow.Author.Needs.{needs}
 use Rattle.paths.proofs.join_fact.Statement.{statement}
 use Rattle.paths.proofs.join_fact.Tie as tie
-use Rattle.paths.proofs.join_fact.Reads as reads
-use Rattle.paths.proofs.join_fact.Lts as lts
-use Rattle.paths.proofs.join.Reads as join-reads
-use Rattle.paths.proofs.link_at.Reads as link-at-reads
-use Rattle.paths.proofs.node_at.Reads as node-at-reads
-use Rattle.paths.proofs.pick.Reads as pick-reads
-use Rattle.tables.proofs.reads.wide.Reads as wide-reads
 
 link-at-requires : tie.Need-link-at-requires
 link-at-requires c κs = search needs

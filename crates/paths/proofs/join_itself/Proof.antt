@@ -8,9 +8,6 @@ use Rattle.paths.specs.Images.{withImages, setCount}
 use Rattle.paths.proofs.Joins.{itself, itself-none, itself-more, itself-all}
 use Rattle.paths.proofs.join_itself.Statement.{statement}
 use Rattle.paths.proofs.join_itself.Tie as tie
-use Rattle.paths.proofs.join_itself.Reads as reads
-use Rattle.paths.proofs.join_itself.Lts as lts
-use Rattle.paths.proofs.join.Reads as join-reads
 
 abbrev Inv-loop : tie.InvT-loop
 Inv-loop into₀ many from n v₀ into v = (v ≤ n) × (length into ≡ length into₀) × (into ≡ withImages (setCount many) n (itself v) from into₀)

@@ -9,9 +9,6 @@ use Rattle.paths.specs.Images.{withImages, setCount}
 use Rattle.paths.proofs.Joins.{facts-none, facts-more}
 use Rattle.paths.proofs.join_link.Statement.{statement}
 use Rattle.paths.proofs.join_link.Tie as tie
-use Rattle.paths.proofs.join_link.Reads as reads
-use Rattle.paths.proofs.join_link.Lts as lts
-use Rattle.paths.proofs.join_fact.Reads as join-fact-reads
 
 abbrev Inv-loop : tie.InvT-loop
 Inv-loop into₀ l back many from s p o count n i₀ into i = (i ≤ count) × (length into ≡ length into₀) × (into ≡ withImages (setCount many) n (edges s p o (l .0) back i) from into₀)

@@ -8,9 +8,6 @@ use Rattle.nodeset.specs.Words.{wordsOf}
 use Rattle.rows.proofs.Columns.{targets, targets-none, targets-more, targets-all}
 use Rattle.rows.proofs.identity.Statement.{statement}
 use Rattle.rows.proofs.identity.Tie as tie
-use Rattle.rows.proofs.identity.Reads as reads
-use Rattle.rows.proofs.identity.Lts as lts
-use Rattle.nodeset.proofs.insert.Reads as insert-reads
 
 abbrev Inv-loop : tie.InvT-loop
 Inv-loop t₀ j k₀ t k = (k ≤ 64) × (length t ≡ length t₀) × (t ≡ wordsOf (targets j k) 1024)

@@ -9,11 +9,6 @@ use Rattle.rows.proofs.Columns.{column-of}
 use borrow.Author.Needs.{needs}
 use Rattle.rows.proofs.pass.Statement.{statement}
 use Rattle.rows.proofs.pass.Tie as tie
-use Rattle.rows.proofs.pass.Reads as reads
-use Rattle.rows.proofs.pass.Lts as lts
-use Rattle.paths.proofs.follow.Reads as follow-reads
-use Rattle.rows.proofs.store_column.Reads as store-column-reads
-use Rattle.rows.proofs.identity.Reads as identity-reads
 
 slice-aggregate-identity : tie.Need-slice-aggregate-identity
 slice-aggregate-identity c = search needs
