@@ -20,8 +20,7 @@ use tables::reads::fact_count;
 use tables::reads::node_count;
 ghost use mathlib.Core.Path.{_≡_};
 ghost use mathlib.Core.Bool.{true};
-ghost use Prim.Native.Nat.{ℕ, _*_, _<_, _≤_};
-ghost use lib.Dec.{eqb};
+ghost use Prim.Native.Nat.{_*_, _<_, _≤_};
 ghost use lib.ListN.{length, replicate};
 ghost use Rattle.model.specs.Paths.{endsOf};
 ghost use Rattle.tables.specs.Layout.{nodeCount, cellCount};
@@ -29,12 +28,12 @@ ghost use Rattle.tables.specs.Decode.{triplesAt};
 ghost use Rattle.tables.specs.WellFormed.{wellFormed};
 ghost use Rattle.paths.specs.Facts.{FactsOk, triplesOf};
 ghost use Rattle.paths.specs.Ends.{endIn, endOk};
-ghost use Rattle.rows.specs.Rows.{rowsOf, columnOf, unitOf, withColumn};
+ghost use Rattle.rows.specs.Rows.{rowsOf, columnOf, identityColumn, withColumn};
 
 // An empty column becomes the one whose set k is the node 64 * j + k alone.
-fn unit(t: &mut [u64], j: usize)
+fn identity(t: &mut [u64], j: usize)
     requires { ⌜ (now t ≡ replicate 1024 0) × (j < 16) ⌝ }
-    ensures { λ _. ⌜ now (t .exit) ≡ unitOf j ⌝ }
+    ensures { λ _. ⌜ now (t .exit) ≡ identityColumn j ⌝ }
 {
     for k in 0..64 {
         insert(t, (64 * j + k) * 64 + k);
@@ -67,7 +66,7 @@ fn pass(
     ensures { λ _. ⌜ now (rows .exit) ≡ withColumn (now (rows .entry)) j (columnOf n (endsOf n (triplesOf (now (s .entry)) (now (p .entry)) (now (o .entry)) len) (endIn (now (cells .entry)) end)) j) ⌝ }
 {
     let mut t = [0u64; 1024];
-    unit(&mut t, j);
+    identity(&mut t, j);
     let mut m = [0u64; 1024];
     follow(&mut m, end, true, true, &t, cells, s, p, o, len, n);
     store_column(rows, j, &m);

@@ -7,11 +7,11 @@ use native.Mathlib.Omega.{arith}
 use borrow.Author.Needs.{needs}
 use borrow.Fn.Kinds.{In}
 use borrow.Fn.PlainCycle.{Measures, is, falls, and}
-use Rattle.tables.specs.Layout.{pathCount, pathCodeAt, pathFirstAt, pathSecondAt}
+use Rattle.tables.specs.Layout.{pathCount, pathCodeAt}
 use Rattle.tables.specs.Decode.{pathAt}
 use Rattle.tables.specs.WellFormed.{wellFormed}
-use Rattle.paths.specs.Facts.{FactsOk, triplesOf, hops}
-use Rattle.paths.specs.Images.{abreast, withImages, withEnds}
+use Rattle.paths.specs.Facts.{FactsOk, triplesOf, edges}
+use Rattle.paths.specs.Images.{setCount, withImages, withEnds}
 use Rattle.paths.proofs.Joins.{cond-lt}
 use Rattle.paths.proofs.Entries.{inv-below, seq-below, alt-below}
 use Rattle.paths.proofs.Codes.{spread-link, spread-inv, spread-alt, spread-seq}
@@ -117,7 +117,7 @@ spread-returns : (t : ℕ) → spread-lts.Need-returns (calls t) (spread-at t) s
 spread-returns t c =
     let a = c .before .before .before .before .before .before .before .before .before .before .before .before .before .before .before .args in
     let pre = c .before .before .before .before .before .before .before .before .before .before .before .before .before .before .before .pre .1 in
-    c .before .before .join-link .ensures ∙ ap (λ (l : ℕ). withImages (abreast (a .many)) (a .n) (hops (a .s .now) (a .p .now) (a .o .now) l (a .back) (a .len)) (a .from .now) (a .into .now)) (c .before .before .before .path-link .ensures)
+    c .before .before .join-link .ensures ∙ ap (λ (l : ℕ). withImages (setCount (a .many)) (a .n) (edges (a .s .now) (a .p .now) (a .o .now) l (a .back) (a .len)) (a .from .now) (a .into .now)) (c .before .before .before .path-link .ensures)
     ∙ spread-link (a .cells .now) (pre .1) (a .e) (pre .2) (a .many) (a .n) (a .back) (a .from .now) (a .into .now) (a .s .now) (a .p .now) (a .o .now) (a .len) (sym (c .before .before .before .before .before .before .path-code .ensures) ∙ c .before .before .before .before .before .match .keys1)
 
 spread-same-length-2 : (t : ℕ) → spread-lts.Need-same-length-2 (calls t) (spread-at t) spread.Post
@@ -128,7 +128,7 @@ spread-returns-2 t c =
     let a = c .before .before .before .before .before .before .before .before .before .before .before .before .before .before .args in
     let pre = c .before .before .before .before .before .before .before .before .before .before .before .before .before .before .pre .1 in
     let ts = triplesOf (a .s .now) (a .p .now) (a .o .now) (a .len) in
-    c .before .before .spread .ensures ∙ ap (λ (x : ℕ). withEnds (abreast (a .many)) (a .n) ts (pathAt (a .cells .now) x) (not (a .back)) (a .from .now) (a .into .now)) (c .before .before .before .before .before .before .before .path-first .ensures) ∙ spread-inv (a .cells .now) (pre .1) (a .e) (pre .2) (a .many) (a .n) (a .back) (a .from .now) (a .into .now) ts (sym (c .before .before .before .before .before .path-code .ensures) ∙ c .before .before .before .before .match .keys2)
+    c .before .before .spread .ensures ∙ ap (λ (x : ℕ). withEnds (setCount (a .many)) (a .n) ts (pathAt (a .cells .now) x) (not (a .back)) (a .from .now) (a .into .now)) (c .before .before .before .before .before .before .before .path-first .ensures) ∙ spread-inv (a .cells .now) (pre .1) (a .e) (pre .2) (a .many) (a .n) (a .back) (a .from .now) (a .into .now) ts (sym (c .before .before .before .before .before .path-code .ensures) ∙ c .before .before .before .before .match .keys2)
 
 spread-same-length-3 : (t : ℕ) → spread-lts.Need-same-length-3 (calls t) (spread-at t) spread.Post
 spread-same-length-3 t c = search needs
@@ -138,7 +138,7 @@ spread-returns-3 t c =
     let a = c .before .before .before .before .before .before .before .before .before .before .before .before .before .before .before .before .before .before .before .before .args in
     let pre = c .before .before .before .before .before .before .before .before .before .before .before .before .before .before .before .before .before .before .before .before .pre .1 in
     let ts = triplesOf (a .s .now) (a .p .now) (a .o .now) (a .len) in
-    c .before .before .spread3 .ensures ∙ ap (λ (m : List ℕ). withEnds (abreast (a .many)) (a .n) ts (pathAt (a .cells .now) (c .before .before .before .before .before .before .before .before .pick2 .result)) (a .back) m (a .into .now)) (c .before .before .before .before .before .before .spread2 .ensures)
+    c .before .before .spread3 .ensures ∙ ap (λ (m : List ℕ). withEnds (setCount (a .many)) (a .n) ts (pathAt (a .cells .now) (c .before .before .before .before .before .before .before .before .pick2 .result)) (a .back) m (a .into .now)) (c .before .before .before .before .before .before .spread2 .ensures)
     ∙ spread-seq (a .cells .now) (pre .1) (a .e) (pre .2) (a .many) (a .n) (a .back) (a .from .now) (a .into .now) ts (pre .0 .nodes) (sym (c .before .before .before .before .before .before .before .before .before .before .before .path-code .ensures) ∙ c .before .before .before .before .before .before .before .before .before .before .match .keys3) (c .before .before .before .before .before .before .before .before .before .pick .result) (c .before .before .before .before .before .before .before .before .pick2 .result)
     (c .before .before .before .before .before .before .before .before .before .pick .ensures ∙ ap₂ (cond (a .back)) (c .before .before .before .before .before .before .before .before .before .before .before .before .path-second .ensures) (c .before .before .before .before .before .before .before .before .before .before .before .before .before .path-first .ensures)) (c .before .before .before .before .before .before .before .before .pick2 .ensures ∙ ap₂ (cond (a .back)) (c .before .before .before .before .before .before .before .before .before .before .before .before .before .path-first .ensures) (c .before .before .before .before .before .before .before .before .before .before .before .before .path-second .ensures))
 
@@ -152,7 +152,7 @@ spread-returns-4 t c =
     let ts = triplesOf (a .s .now) (a .p .now) (a .o .now) (a .len) in
     let q : 3 ≤ pathCodeAt (a .cells .now) (a .e) = omega (arith, c .before .before .before .before .before .before .before .before .before .path-code .ensures, c .before .before .before .before .before .before .before .before .match .rest) in
     c .before .before .spread5 .ensures
-    ∙ ap₂ (λ (x : ℕ) (m : List ℕ). withEnds (abreast (a .many)) (a .n) ts (pathAt (a .cells .now) x) (a .back) (a .from .now) m) (c .before .before .before .before .before .before .before .before .before .before .path-second .ensures) (c .before .before .before .before .before .before .spread4 .ensures ∙ ap (λ (x : ℕ). withEnds (abreast (a .many)) (a .n) ts (pathAt (a .cells .now) x) (a .back) (a .from .now) (a .into .now)) (c .before .before .before .before .before .before .before .before .before .before .before .path-first .ensures))
+    ∙ ap₂ (λ (x : ℕ) (m : List ℕ). withEnds (setCount (a .many)) (a .n) ts (pathAt (a .cells .now) x) (a .back) (a .from .now) m) (c .before .before .before .before .before .before .before .before .before .before .path-second .ensures) (c .before .before .before .before .before .before .spread4 .ensures ∙ ap (λ (x : ℕ). withEnds (setCount (a .many)) (a .n) ts (pathAt (a .cells .now) x) (a .back) (a .from .now) (a .into .now)) (c .before .before .before .before .before .before .before .before .before .before .before .path-first .ensures))
     ∙ spread-alt (a .cells .now) (pre .1) (a .e) (pre .2) (a .many) (a .n) (a .back) (a .from .now) (a .into .now) ts q
 
 pub +spread-spec : {M : Type 1} → statement M

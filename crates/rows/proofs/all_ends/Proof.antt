@@ -4,16 +4,13 @@ use mathlib.Core.Path.{_≡_, refl, _∙_}
 use native.Mathlib.Omega.{arith}
 use lib.ListN.{length}
 use borrow.Author.Needs.{needs}
-use Rattle.base.specs.Lists.{values, valuesFrom}
+use Rattle.base.specs.Lists.{values}
 use Rattle.model.specs.Paths.{endsOf}
 use Rattle.paths.specs.Facts.{triplesOf}
 use Rattle.paths.specs.Ends.{endIn}
 use Rattle.rows.proofs.Passes.{passed, passed-none, passed-more, passed-all}
 use Rattle.rows.proofs.all_ends.Statement.{statement}
 use Rattle.rows.proofs.all_ends.Tie as tie
-use Rattle.rows.proofs.all_ends.Reads as reads
-use Rattle.rows.proofs.all_ends.Lts as lts
-use Rattle.rows.proofs.pass.Reads as pass-reads
 
 abbrev Inv-loop : tie.InvT-loop
 Inv-loop rows₀ end cells s p o count n j₀ rows j = (j ≤ 16) × (length rows ≡ length rows₀) × (rows ≡ values (passed n (endsOf n (triplesOf s p o count) (endIn cells end)) rows₀ j) (length rows₀))
