@@ -1,23 +1,20 @@
 -- The two statements of the grammar are one: the reading accepts a text as a book exactly when the book is valid and renders to it.
-use Prim.Native.Nat.{ℕ, zero, suc, _+_, _≤_, _<_}
+use Prim.Native.Nat.{ℕ, zero, suc, _+_, _-_, _≤_, _<_}
 use mathlib.Core.Path.{_≡_, refl, sym, ap, ap₂, _∙_, subst}
 use mathlib.Core.List.{List, [], _∷_, _++_, append-nil, append-assoc}
-use mathlib.Core.Bool.{Bool, true, false, not, cond, _&&_, _||_}
+use mathlib.Core.Bool.{Bool, true, false, not, cond, _&&_}
 use mathlib.Core.Logic.{_⊎_, inl, inr, ⊎-elim, _↔_}
-use native.Mathlib.Nat.{le-refl, eq-or-lt-of-le, le-of-suc-le-suc}
-use native.Mathlib.Numerals.{add-one}
+use native.Mathlib.Nat.{le-refl, eq-or-lt-of-le}
 use native.Mathlib.Omega.{arith}
 use lib.Dec.{eqb, ltb, leb}
 use lib.ListN.{length, getD, length-append, List·getD-append}
 use lib.Seq.{getD-append-seam}
-use borrow.Author.Tests.{eqb-true, ltb-true, ltb-false, lt-ltb, le-ltb, leb-true, le-leb, not-true}
+use borrow.Author.Tests.{eqb-true, ltb-false, lt-ltb, le-ltb, leb-true, le-leb, not-true}
 use Rattle.base.specs.Lists.{anyb, allb}
 use Rattle.base.specs.Bytes.{bytes, eql}
-use Rattle.base.proofs.Bools.{bool-cases, and-left, and-right, and-both, never-both}
-use Rattle.base.proofs.Lists.{Extends}
+use Rattle.base.proofs.Bools.{bool-cases, and-left, and-right, and-both}
 use Rattle.text.specs.Items.{isName, nameByte}
 use Rattle.text.proofs.Spans.{Span, span-join, span-split, span-whole, span-all, span-nothing, span-none, span-length}
-use Rattle.model.specs.Limits.{maxBytes}
 use Rattle.model.specs.Books.{Name, Line, link, type, lang, node, fact, shape, rule, Book, Pool, nodes, links, types, langs, shapes, poolNumber, builtIn, joins, newNames, collect, names}
 use Rattle.model.specs.Valid.{lineOk, admissibleFrom, admissible}
 use Rattle.model.proofs.Lines.{names-snoc, same-pool, forms-within, paths-within, items-within}
@@ -134,13 +131,17 @@ fit-of s a S =
 accepted-book : {a b : Book} → accepted a ≡ accepted b → a ≡ b
 accepted-book e = cc
 
-either : (t : Bool) (x y : Outcome) (b : Book) → cond t x y ≡ accepted b → ((t ≡ true) × (x ≡ accepted b)) ⊎ ((t ≡ false) × (y ≡ accepted b))
-either true x y b e = inl (refl, e)
-either false x y b e = inr (refl, e)
+pub never-accepted : {b : Book} {r k : ℕ} → accepted b ≡ turnedDown r k → ⊥
+never-accepted e = let z : _≡_ {A = ℕ} 0 1 = cc in omega arith
 
-follows : (line : ℕ) (r : Read Line) (k : Line → ℕ → Outcome) (b : Book) → follow line r k ≡ accepted b → (l : Line) × (next : ℕ) × (r ≡ got l next) × (k l next ≡ accepted b)
-follows line (got l next) k b e = (l, next, refl, e)
-follows line (refused r) k b e = let z : _≡_ {A = ℕ} 0 1 = cc in absurd (omega arith)
+-- where an outcome comes from
+pub either : (t : Bool) (x y o : Outcome) → cond t x y ≡ o → ((t ≡ true) × (x ≡ o)) ⊎ ((t ≡ false) × (y ≡ o))
+either true x y o e = inl (refl, e)
+either false x y o e = inr (refl, e)
+
+pub follows : (line : ℕ) (m : Read Line) (f : Line → ℕ → Outcome) (o : Outcome) → follow line m f ≡ o → ((r : ℕ) × (m ≡ refused r) × (turnedDown r line ≡ o)) ⊎ ((l : Line) × (next : ℕ) × (m ≡ got l next) × (f l next ≡ o))
+follows line (got l next) f o e = inr (l, next, refl, e)
+follows line (refused r) f o e = inl (r, refl, e)
 
 module _ (s : List ℕ) where
   -- the book that a position and the lines above it end in
@@ -167,45 +168,65 @@ module _ (s : List ℕ) where
   unfolding linesFrom
   lines-sound zero at line a S h f b e = ended at a b h (omega arith) e
   lines-sound (suc fuel) at line a S h f b e = ⊎-elim
-      (λ t.
-      let (l, nx, r, g) = follows (line + 1) (lineAt s a at) (λ l next. linesFrom s fuel next (line + 1) (a ++ (l ∷ []))) b (t .1) in
+      (λ t. ⊎-elim
+      (λ q. absurd (never-accepted (sym (q .2))))
+      (λ q.
+      let (l, nx, r, g) = q in
       let u = line-sound s a (pools-of a S) (fit-of s a S) at h l nx r in
       let m = longer at nx (writeLine a l) (u .0) in
       one-more at nx a b l (u .0) (u .1) (lines-sound fuel nx (line + 1) (a ++ (l ∷ [])) (sane-more a l S (u .1)) (u .0 .within) (omega arith) b g))
+      (follows (line + 1) (lineAt s a at) (λ l next. linesFrom s fuel next (line + 1) (a ++ (l ∷ []))) (accepted b) (t .1)))
       (λ t. ended at a b h (ltb-false at (length s) (t .0)) (t .1))
-      (either (ltb at (length s)) (follow (line + 1) (lineAt s a at) (λ l next. linesFrom s fuel next (line + 1) (a ++ (l ∷ [])))) (accepted a) b e)
+      (either (ltb at (length s)) (follow (line + 1) (lineAt s a at) (λ l next. linesFrom s fuel next (line + 1) (a ++ (l ∷ [])))) (accepted a) (accepted b) e)
+
+  -- each line has a byte at least
+  few-lines : (a c : Book) → length c ≤ length (renderFrom a c)
+  unfolding renderFrom
+  few-lines a [] = omega arith
+  few-lines a (l ∷ c) = let r = few-lines (a ++ (l ∷ [])) c in omega (arith, length-append (writeLine a l) (10 ∷ renderFrom (a ++ (l ∷ [])) c))
+
+  -- the lines of a valid book are read one after the other
+  lines-read : (c : Book) (fuel rest at nx line : ℕ) (a : Book) → Sane a → fuel ≡ rest + length c → validFrom a c ≡ true → Span s at nx (renderFrom a c) → linesFrom s fuel at line a ≡ linesFrom s rest nx (line + length c) (a ++ c)
+  unfolding linesFrom validFrom renderFrom
+  lines-read [] fuel rest at nx line a S f v p =
+      ap₂ (λ (n k : ℕ). linesFrom s n k line a) (let z : fuel ≡ rest = omega arith in z) (span-none p) ∙ ap₂ (λ (n : ℕ) (b : Book). linesFrom s rest nx n b) (let z : line ≡ line + 0 = omega arith in z) (sym (append-nil a))
+  lines-read (l ∷ c) zero rest at nx line a S f v p = absurd (let z : ⊥ = omega arith in z)
+  lines-read (l ∷ c) (suc fuel) rest at nx line a S f v p =
+      let sp = span-split (writeLine a l ++ (10 ∷ [])) (renderFrom (a ++ (l ∷ [])) c) (subst (λ (t : List ℕ). Span s at nx t) (sym (append-assoc (writeLine a l) (10 ∷ []) (renderFrom (a ++ (l ∷ [])) c))) p) in
+      let mid : ℕ = at + length (writeLine a l ++ (10 ∷ [])) in
+      let m = longer at mid (writeLine a l) (sp .0) in
+      let w = sp .0 .within in
+      let ok = and-left (validLine a l) (validFrom (a ++ (l ∷ [])) c) v in
+      ap₂ (λ (t : Bool) (r : Read Line). cond t (follow (line + 1) r (λ l next. linesFrom s fuel next (line + 1) (a ++ (l ∷ [])))) (accepted a)) (lt-ltb at (length s) (omega arith)) (line-complete s a (pools-of a S) (fit-of s a S) at mid l (sp .0) ok)
+      ∙ lines-read c fuel rest mid nx (line + 1) (a ++ (l ∷ [])) (sane-more a l S ok) (omega arith) (and-right (validLine a l) (validFrom (a ++ (l ∷ [])) c) v) (sp .1)
+      ∙ ap₂ (λ (n : ℕ) (b : Book). linesFrom s rest nx n b) (let z : line + 1 + length c ≡ line + suc (length c) = omega arith in z) (append-assoc a (l ∷ []) c)
+
+  lines-end : (fuel line : ℕ) (a : Book) → linesFrom s fuel (length s) line a ≡ accepted a
+  unfolding linesFrom
+  lines-end zero line a = refl
+  lines-end (suc fuel) line a = ap (λ (t : Bool). cond t (follow (line + 1) (lineAt s a (length s)) (λ l next. linesFrom s fuel next (line + 1) (a ++ (l ∷ [])))) (accepted a)) (le-ltb (length s) (length s) (le-refl (length s)))
 
   lines-complete : (c : Book) (fuel at line : ℕ) (a : Book) → Sane a → length s ≤ at + fuel → validFrom a c ≡ true → Span s at (length s) (renderFrom a c) → linesFrom s fuel at line a ≡ accepted (a ++ c)
-  unfolding linesFrom validFrom renderFrom
-  lines-complete [] zero at line a S f v p = ap accepted (sym (append-nil a))
-  lines-complete [] (suc fuel) at line a S f v p =
-      ap (λ (t : Bool). cond t (follow (line + 1) (lineAt s a at) (λ l next. linesFrom s fuel next (line + 1) (a ++ (l ∷ [])))) (accepted a)) (le-ltb at (length s) (let z = span-none p in omega arith)) ∙ ap accepted (sym (append-nil a))
-  lines-complete (l ∷ c) zero at line a S f v p = absurd (let n = span-length p in let k = length-append (writeLine a l) (10 ∷ renderFrom (a ++ (l ∷ [])) c) in let q = p .from in omega arith)
-  lines-complete (l ∷ c) (suc fuel) at line a S f v p =
-      let sp = span-split (writeLine a l ++ (10 ∷ [])) (renderFrom (a ++ (l ∷ [])) c) (subst (λ (t : List ℕ). Span s at (length s) t) (sym (append-assoc (writeLine a l) (10 ∷ []) (renderFrom (a ++ (l ∷ [])) c))) p) in
-      let nx : ℕ = at + length (writeLine a l ++ (10 ∷ [])) in
-      let m = longer at nx (writeLine a l) (sp .0) in
-      let w = sp .1 .from in
-      let ok = and-left (validLine a l) (validFrom (a ++ (l ∷ [])) c) v in
-      ap (λ (t : Bool). cond t (follow (line + 1) (lineAt s a at) (λ l next. linesFrom s fuel next (line + 1) (a ++ (l ∷ [])))) (accepted a)) (lt-ltb at (length s) (omega arith))
-      ∙ ap (λ (r : Read Line). follow (line + 1) r (λ l next. linesFrom s fuel next (line + 1) (a ++ (l ∷ [])))) (line-complete s a (pools-of a S) (fit-of s a S) at nx l (sp .0) ok)
-      ∙ lines-complete c fuel nx (line + 1) (a ++ (l ∷ [])) (sane-more a l S ok) (omega arith) (and-right (validLine a l) (validFrom (a ++ (l ∷ [])) c) v) (sp .1)
-      ∙ ap accepted (append-assoc a (l ∷ []) c)
+  lines-complete c fuel at line a S f v p =
+      lines-read c fuel (fuel - length c) at (length s) line a S (omega (arith, few-lines a c, span-length p, p .from)) v p ∙ lines-end (fuel - length c) (line + length c) (a ++ c)
+
+  lines-refused : (fuel at line r : ℕ) (a : Book) → 0 < fuel → at < length s → lineAt s a at ≡ refused r → linesFrom s fuel at line a ≡ turnedDown r (line + 1)
+  unfolding linesFrom
+  lines-refused zero at line r a z h q = absurd (omega arith)
+  lines-refused (suc fuel) at line r a z h q =
+      ap₂ (λ (t : Bool) (m : Read Line). cond t (follow (line + 1) m (λ l next. linesFrom s fuel next (line + 1) (a ++ (l ∷ [])))) (accepted a)) (lt-ltb at (length s) h) q
 
 -- ---- the theorems
 -- what is accepted is a valid book, written so
 pub reading-sound : (s : List ℕ) (b : Book) → reading s ≡ accepted b → (valid b ≡ true) × (render b ≡ s)
 unfolding reading valid render
 reading-sound s b e = ⊎-elim
-    (λ t. absurd (let z : _≡_ {A = ℕ} 0 1 = late (t .1) in omega arith))
+    (λ t. absurd (never-accepted (sym (t .1))))
     (λ t.
     let (c, q, v, p) = lines-sound s (length s) 0 0 [] sane-start (omega arith) (omega arith) b (t .1) in
     let r : renderFrom [] b ≡ s = ap (renderFrom []) q ∙ sym (span-all p) in
     (and-both (validFrom [] b) (leb (length (renderFrom [] b)) 65536) (ap (validFrom []) q ∙ v) (le-leb (length (renderFrom [] b)) 65536 (let l : length s ≤ 65536 = ltb-false 65536 (length s) (t .0) in omega (arith, ap length r))), r))
-    (either (ltb 65536 (length s)) (turnedDown 1 0) (linesFrom s (length s) 0 0 []) b e)
-  where
-    late : turnedDown 1 0 ≡ accepted b → _≡_ {A = ℕ} 0 1
-    late q = cc
+    (either (ltb 65536 (length s)) (turnedDown 1 0) (linesFrom s (length s) 0 0 []) (accepted b) e)
 
 -- and a valid book is accepted as it is written
 pub reading-complete : (b : Book) → valid b ≡ true → reading (render b) ≡ accepted b
@@ -225,4 +246,15 @@ one-book a b v w e = accepted-book (sym (reading-complete a v) ∙ ap reading e 
 
 -- and a refusal is given only where no valid book renders to s
 pub refused-only : (s : List ℕ) (k line : ℕ) → reading s ≡ turnedDown k line → (b : Book) → valid b ≡ true → render b ≡ s → ⊥
-refused-only s k line e b v r = let q : turnedDown k line ≡ accepted b = sym e ∙ ap reading (sym r) ∙ reading-complete b v in let z : _≡_ {A = ℕ} 0 1 = cc in omega arith
+refused-only s k line e b v r = never-accepted (sym (reading-complete b v) ∙ ap reading r ∙ e)
+
+-- after the lines of a valid book, the refusal of the next line is the text's
+pub refused-after : (s : List ℕ) (b : Book) (at r : ℕ) → validFrom [] b ≡ true → Span s 0 at (renderFrom [] b) → at < length s → length s ≤ 65536 → lineAt s b at ≡ refused r → reading s ≡ turnedDown r (suc (length b))
+unfolding reading
+refused-after s b at r v p i l q =
+    let n = few-lines s [] b in
+    let m = span-length p in
+    ap (λ (t : Bool). cond t (turnedDown 1 0) (linesFrom s (length s) 0 0 [])) (le-ltb 65536 (length s) l)
+    ∙ lines-read s b (length s) (length s - length b) 0 at 0 [] sane-start (omega arith) v p
+    ∙ lines-refused s (length s - length b) at (0 + length b) r b (omega arith) i q
+    ∙ ap (turnedDown r) (let z : 0 + length b + 1 ≡ suc (length b) = omega arith in z)

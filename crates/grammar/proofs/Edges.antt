@@ -1,5 +1,5 @@
 -- The edges of document 01: those that a short text shows, computed; and that a full pool takes no name more.
-use Prim.Native.Nat.{ℕ, zero, suc, _+_, _≤_, _<_}
+use Prim.Native.Nat.{ℕ, suc, _+_, _≤_}
 use mathlib.Core.Path.{_≡_, refl, sym, ap, ap₂, _∙_, subst}
 use mathlib.Core.List.{List, [], _∷_, _++_, map, append-nil, append-assoc}
 use mathlib.Core.Bool.{Bool, true, false, not, cond}
@@ -8,7 +8,7 @@ use native.Mathlib.Omega.{arith}
 use lib.Dec.{eqb}
 use lib.ListN.{length, getD, length-append}
 use lib.Seq.{slice}
-use borrow.Author.Tests.{eq-eqb, lt-ltb, le-ltb, ltb-false, not-true}
+use borrow.Author.Tests.{eq-eqb, le-ltb, ltb-false, not-true}
 use Rattle.base.specs.Lists.{anyb, allb}
 use Rattle.base.specs.Bytes.{bytes, eql}
 use Rattle.base.proofs.Bools.{and-left, and-right, and-both}
@@ -17,21 +17,20 @@ use Rattle.text.specs.Decimals.{numberOf, positiveOf, negativeOf, boundOf, isMa
 use Rattle.text.specs.Pool.{indexOf, firstFrom}
 use Rattle.text.specs.declared.Found.{Found}
 use Rattle.text.proofs.Places.{index-nothing}
-use Rattle.text.proofs.Spans.{Span, span-split, span-head, span-none, span-length, span-whole}
+use Rattle.text.proofs.Spans.{Span, span-split, span-head, span-length, span-whole}
 use Rattle.text.proofs.Words.{word-ends, word-item, span-ends, names-plain}
 use Rattle.model.specs.Graph.{iri}
 use Rattle.model.specs.Books.{Name, Line, node, Book, Pool, nodes, builtIn, joins, newNames, newTerms, newTriples, newShapes, newRules, collect, names, rules}
 use Rattle.model.specs.Sizes.{pathEntries, endEntries, formEntries, shapePaths, testItems, listItems, sumOver, formsIn, pathsIn, itemsIn}
 use Rattle.model.specs.Valid.{capacity, hasRoom, isResource}
 use Rattle.grammar.specs.Writing.{spaced, bracket, writeNode, writeLine, renderFrom, render}
-use Rattle.grammar.specs.Valid.{reserved, wellNamed, newName, validLine, validFrom}
+use Rattle.grammar.specs.Valid.{reserved, wellNamed, newName, validFrom}
 use Rattle.grammar.specs.Syntax.{Slot, new, Args, LineCode, thingL, lineFamily}
-use Rattle.grammar.specs.Reading.{Read, got, refused, andThen, item, unknown, after, usedAt, newAt, subjectAt, literalTypeAt, kindAt, valueAt, lowAt, highAt, listAt, endAt, argAt, argsAt, closeAt, bodyAt, headed, bracketAt, linkAt, trueAt, within, readersAt, lineRoom, begunAbove, lineAt, accepted, turnedDown, follow, linesFrom, reading}
+use Rattle.grammar.specs.Reading.{Read, got, refused, andThen, item, unknown, after, usedAt, newAt, subjectAt, literalTypeAt, kindAt, valueAt, lowAt, highAt, listAt, endAt, argAt, argsAt, closeAt, bodyAt, headed, bracketAt, linkAt, trueAt, within, readersAt, lineRoom, begunAbove, lineAt, turnedDown, linesFrom, reading}
 use Rattle.grammar.specs.Cases.{Case, edges}
 use Rattle.grammar.proofs.Leaves.{fresh-nothing, nothing-fresh}
 use Rattle.grammar.proofs.Rows.{line-placed}
-use Rattle.grammar.proofs.Lines.{line-complete}
-use Rattle.grammar.proofs.Books.{Sane, sane-start, sane-more, pools-of, fit-of, longer}
+use Rattle.grammar.proofs.Books.{refused-after}
 
 -- ---- computed
 pub edges-hold : map (λ (c : Case). reading (c .text)) edges ≡ map (λ (c : Case). c .outcome) edges
@@ -81,31 +80,6 @@ module _ (s : List ℕ) (above : Book) (at : ℕ) where
       ∙ ap (λ (f : Found). headed s above lineFamily (readersAt s above 31) false false (lineRoom s above) (begunAbove s above) f (itemEnd s (at + 1))) found
       ∙ ap (λ (d : LineCode). bodyAt s above lineFamily (readersAt s above 31) (lineRoom s above) d (begunAbove s above) (itemEnd s (at + 1))) back
       ∙ ap (λ (r : Read (Args (lineFamily .slots c))). andThen r (λ xs next. closeAt s above (lineRoom s above c) (lineFamily .build c xs) next)) args)
-
--- after the lines of a valid book, the refusal of the next line is the text's
-module _ (s : List ℕ) where
-  refused-lines : (c : Book) (fuel at nx line r : ℕ) (a : Book) → Sane a → validFrom a c ≡ true → Span s at nx (renderFrom a c) → nx < length s → length s ≤ at + fuel → lineAt s (a ++ c) nx ≡ refused r → linesFrom s fuel at line a ≡ turnedDown r (suc (line + length c))
-  unfolding linesFrom validFrom renderFrom
-  refused-lines c zero at nx line r a S v p i f q = absurd (let h = p .from in let z : ⊥ = omega arith in z)
-  refused-lines [] (suc fuel) at nx line r a S v p i f q =
-      ap₂ (λ (b : Bool) (m : Read Line). cond b (follow (line + 1) m (λ l next. linesFrom s fuel next (line + 1) (a ++ (l ∷ [])))) (accepted a)) (lt-ltb at (length s) (let z = span-none p in omega arith)) (ap₂ (λ (b : Book) (n : ℕ). lineAt s b n) (sym (append-nil a)) (span-none p) ∙ q)
-      ∙ ap (turnedDown r) (let z : line + 1 ≡ suc (line + 0) = omega arith in z)
-  refused-lines (l ∷ c) (suc fuel) at nx line r a S v p i f q =
-      let sp = span-split (writeLine a l ++ (10 ∷ [])) (renderFrom (a ++ (l ∷ [])) c) (subst (λ (t : List ℕ). Span s at nx t) (sym (append-assoc (writeLine a l) (10 ∷ []) (renderFrom (a ++ (l ∷ [])) c))) p) in
-      let mid : ℕ = at + length (writeLine a l ++ (10 ∷ [])) in
-      let m = longer s at mid (writeLine a l) (sp .0) in
-      let k = sp .1 .from in
-      let ok = and-left (validLine a l) (validFrom (a ++ (l ∷ [])) c) v in
-      ap₂ (λ (b : Bool) (m : Read Line). cond b (follow (line + 1) m (λ l next. linesFrom s fuel next (line + 1) (a ++ (l ∷ [])))) (accepted a)) (lt-ltb at (length s) (omega arith)) (line-complete s a (pools-of a S) (fit-of s a S) at mid l (sp .0) ok)
-      ∙ refused-lines c fuel mid nx (line + 1) r (a ++ (l ∷ [])) (sane-more a l S ok) (and-right (validLine a l) (validFrom (a ++ (l ∷ [])) c) v) (sp .1) i (omega arith) (ap (λ (b : Book). lineAt s b nx) (append-assoc a (l ∷ []) c) ∙ q)
-      ∙ ap (turnedDown r) (let z : suc (line + 1 + length c) ≡ suc (line + suc (length c)) = omega arith in z)
-
-  pub refused-after : (b : Book) (at r : ℕ) → validFrom [] b ≡ true → Span s 0 at (renderFrom [] b) → at < length s → length s ≤ 65536 → lineAt s b at ≡ refused r → reading s ≡ turnedDown r (suc (length b))
-  unfolding reading
-  refused-after b at r v p i l q =
-      ap (λ (t : Bool). cond t (turnedDown 1 0) (linesFrom s (length s) 0 0 [])) (le-ltb 65536 (length s) l)
-      ∙ refused-lines b (length s) 0 at 0 r [] sane-start v p i (omega arith) q
-      ∙ ap (turnedDown r) (let z : suc (0 + length b) ≡ suc (length b) = omega arith in z)
 
 -- node 1,025: after any valid book with 1,024 nodes, a line that defines one more is refused by 7
 module _ (b : Book) (n : Name) where

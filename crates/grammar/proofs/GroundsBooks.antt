@@ -2,7 +2,7 @@
 use Prim.Native.Nat.{ℕ, zero, suc, _+_, _≤_, _<_}
 use mathlib.Core.Path.{_≡_, refl, sym, ap, _∙_, subst}
 use mathlib.Core.List.{List, [], _∷_, _++_, append-nil, append-assoc}
-use mathlib.Core.Bool.{Bool, true, false, cond}
+use mathlib.Core.Bool.{Bool, true, cond}
 use mathlib.Core.Logic.{_⊎_, inl, inr, ⊎-elim, _↔_}
 use native.Mathlib.Omega.{arith}
 use lib.Dec.{ltb}
@@ -14,10 +14,10 @@ use Rattle.model.specs.Limits.{maxBytes}
 use Rattle.model.specs.Books.{Line, Book}
 use Rattle.grammar.specs.Writing.{writeLine, renderFrom, render}
 use Rattle.grammar.specs.Valid.{validLine, validFrom}
-use Rattle.grammar.specs.Reading.{Read, got, refused, lineAt, Outcome, accepted, turnedDown, follow, linesFrom, reading}
+use Rattle.grammar.specs.Reading.{got, refused, lineAt, accepted, turnedDown, follow, linesFrom, reading}
 use Rattle.grammar.proofs.Exact.{never-refused, got-value, got-next}
 use Rattle.grammar.proofs.Lines.{line-sound, line-complete}
-use Rattle.grammar.proofs.Books.{Sane, sane-start, sane-more, pools-of, fit-of, longer}
+use Rattle.grammar.proofs.Books.{Sane, sane-start, sane-more, pools-of, fit-of, never-accepted, either, follows, longer}
 use Rattle.grammar.proofs.GroundsLocal.{Agree, agree-less, agree-inside, stop, stop-past}
 use Rattle.grammar.proofs.Grounds.{Ground, ground-numbered}
 use Rattle.grammar.proofs.GroundsReaders.{line-settled}
@@ -50,19 +50,8 @@ render-snoc a (k ∷ b) l =
     ∙ sym (append-assoc (writeLine a k) (10 ∷ renderFrom (a ++ (k ∷ [])) b) (writeLine (a ++ (k ∷ b)) l ++ (10 ∷ [])))
 
 -- what a refusal tells of the tests that led to it
-never-accepted : {b : Book} {r k : ℕ} → accepted b ≡ turnedDown r k → ⊥
-never-accepted e = let z : _≡_ {A = ℕ} 0 1 = cc in omega arith
-
 refusal-number : {q r j k : ℕ} → turnedDown q j ≡ turnedDown r k → (q ≡ r) × (j ≡ k)
 refusal-number e = (cc, cc)
-
-either : (b : Bool) (x y : Outcome) (r k : ℕ) → cond b x y ≡ turnedDown r k → ((b ≡ true) × (x ≡ turnedDown r k)) ⊎ ((b ≡ false) × (y ≡ turnedDown r k))
-either true x y r k e = inl (refl, e)
-either false x y r k e = inr (refl, e)
-
-follows : (line : ℕ) (m : Read Line) (f : Line → ℕ → Outcome) (r k : ℕ) → follow line m f ≡ turnedDown r k → ((m ≡ refused r) × (line ≡ k)) ⊎ ((l : Line) × (nx : ℕ) × (m ≡ got l nx) × (f l nx ≡ turnedDown r k))
-follows line (got l nx) f r k e = inr (l, nx, refl, e)
-follows line (refused q) f r k e = let z = refusal-number e in inl (ap refused (z .0), z .1)
 
 module _ (s : List ℕ) where
   -- from `at` on, after the book a: no text that agrees with s up to e goes on as valid lines
@@ -84,11 +73,11 @@ module _ (s : List ℕ) where
   lines-grounds (suc fuel) at line a S h w n r k e = ⊎-elim
       (λ t. ⊎-elim
       (λ u.
-      let L = line-settled s a at (pools-of a S) (fit-of s a S) h in
-      let (p, g, lt, f) = L .ground r (u .0) in
-      let i = ground-numbered s a at g .from in
-      let j = u .1 in (
-        record { above = a; counted = omega arith; right = S .valid-above; at = at; written = w; refuses = u .0; place = p; inside = i; ground = g },
+      let (j, z) = refusal-number (u .2) in
+      let q : lineAt s a at ≡ refused r = u .1 ∙ ap refused j in
+      let (p, g, lt, f) = line-settled s a at (pools-of a S) (fit-of s a S) h .ground r q in
+      let i = ground-numbered s a at g .from in (
+        record { above = a; counted = omega arith; right = S .valid-above; at = at; written = w; refuses = q; place = p; inside = i; ground = g },
         i,
         goes-on at (stop s p) a S (ltb-true at (length s) (t .0)) lt (λ t a l nx q _ _ _. never-refused (sym (f t a) ∙ q)),
       ))
@@ -106,9 +95,9 @@ module _ (s : List ℕ) where
             let x = sym (f t (agree-less (nx + 1) (stop s (G .place)) t s (omega arith) g)) ∙ q′ in
             none t g c (subst (λ (l : Line). validFrom (a ++ (l ∷ [])) c ≡ true) (sym (got-value x)) v′) (subst (λ (j : ℕ). Span t j (length t) (renderFrom (a ++ (l ∷ [])) c)) (sym (got-next x)) (subst (λ (l : Line). Span t nx′ (length t) (renderFrom (a ++ (l ∷ [])) c)) (sym (got-value x)) p))),
       ))
-      (follows (line + 1) (lineAt s a at) (λ l next. linesFrom s fuel next (line + 1) (a ++ (l ∷ []))) r k (t .1)))
+      (follows (line + 1) (lineAt s a at) (λ l next. linesFrom s fuel next (line + 1) (a ++ (l ∷ []))) (turnedDown r k) (t .1)))
       (λ t. absurd (never-accepted (t .1)))
-      (either (ltb at (length s)) (follow (line + 1) (lineAt s a at) (λ l next. linesFrom s fuel next (line + 1) (a ++ (l ∷ [])))) (accepted a) r k e)
+      (either (ltb at (length s)) (follow (line + 1) (lineAt s a at) (λ l next. linesFrom s fuel next (line + 1) (a ++ (l ∷ [])))) (accepted a) (turnedDown r k) e)
 
 -- ---- the theorems
 -- a text is refused because it is too long, by 1 at line 0; or at an item of a line, with its ground
@@ -119,7 +108,7 @@ refusal-ground s r k e = ⊎-elim
     (λ t.
     let (G, _, none) = lines-grounds s (length s) 0 0 [] sane-start (omega arith) (span-nothing s 0 (omega arith)) refl r k (t .1) in
     inr (ltb-false 65536 (length s) (t .0), G, λ b v g. none (renderFrom [] b) g b v (span-whole (renderFrom [] b))))
-    (either (ltb 65536 (length s)) (turnedDown 1 0) (linesFrom s (length s) 0 0 []) r k e)
+    (either (ltb 65536 (length s)) (turnedDown 1 0) (linesFrom s (length s) 0 0 []) (turnedDown r k) e)
 
 -- 1 exactly when the text is longer than 65,536 bytes, and at line 0
 pub too-long : (s : List ℕ) (k : ℕ) → (reading s ≡ turnedDown 1 k) ↔ ((k ≡ 0) × (maxBytes < length s))

@@ -13,3 +13,4 @@ pub mod GroundsReaders
 pub mod GroundsBooks
 pub mod Edges
 pub mod BookB
+pub mod Rig

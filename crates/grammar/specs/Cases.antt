@@ -1,13 +1,13 @@
 -- Texts and what they are read as: book B of document 01, and its edges.
 use Prim.Native.Nat.{ℕ, zero, suc}
 use Prim.Native.String.{String}
-use mathlib.Core.List.{List, [], _∷_, _++_}
+use mathlib.Core.List.{List, [], _∷_, _++_, map}
 use lib.IntN.{pos, negsuc}
 use Rattle.base.specs.Bytes.{bytes}
 use Rattle.model.specs.Graph.{iri, numeric}
 use Rattle.model.specs.Paths.{Path, predicate, inverse}
 use Rattle.model.specs.Shapes.{Shape, top, neg, uniqueLang}
-use Rattle.model.specs.Books.{Book, type, node, shape}
+use Rattle.model.specs.Books.{Book, type, node, shape, rules, listOf}
 use Rattle.grammar.specs.Reading.{Outcome, accepted, turnedDown}
 
 -- lines, each ended by LF
@@ -75,9 +75,51 @@ edges =
     ∷ gives ("(type mm)" ∷ "(number x mm 01)" ∷ []) 2 2
     ∷ reads ("(thing abcdefghijklmnopqrstuvwxyz12345)" ∷ []) (node (bytes "abcdefghijklmnopqrstuvwxyz12345") iri ∷ [])
     ∷ gives ("(thing abcdefghijklmnopqrstuvwxyz123456)" ∷ []) 2 1
+    ∷ gives ("(link mount)" ∷ "(thing left)" ∷ "(fact left mount h999)" ∷ []) 5 3
+    ∷ gives ("(thing left)" ∷ "(thing left)" ∷ []) 6 2
     -- 32 brackets open together, and 33
     ∷ record { text = shapeLine (nots 31); outcome = accepted (shape (bytes "x") (negations 31) ∷ []) }
     ∷ record { text = shapeLine (nots 32); outcome = turnedDown 4 1 }
     ∷ record { text = shapeLine (bytes "(onelang " ++ (invs 30 ++ bytes ")")); outcome = accepted (shape (bytes "x") (uniqueLang (inverses 30)) ∷ []) }
     ∷ record { text = shapeLine (bytes "(onelang " ++ (invs 31 ++ bytes ")")); outcome = turnedDown 4 1 }
     ∷ []
+
+-- ---- the rig of docs/BOOK.md: its nodes 1 and 2 are left and right
+abbrev pub rig : List ℕ
+rig =
+    textOf
+    ("(link mount)"
+    ∷ "(link feeds)"
+    ∷ "(link twin)"
+    ∷ "(link label)"
+    ∷ "(type mm)"
+    ∷ "(lang en)"
+    ∷ "(lang nl)"
+    ∷ "(thing projector)"
+    ∷ "(thing left)"
+    ∷ "(thing right)"
+    ∷ "(thing cable-1)"
+    ∷ "(number h240 mm 240)"
+    ∷ "(number h215 mm 215)"
+    ∷ "(words front en)"
+    ∷ "(words voor nl)"
+    ∷ "(fact left a projector)"
+    ∷ "(fact right a projector)"
+    ∷ "(fact left mount h240)"
+    ∷ "(fact right mount h215)"
+    ∷ "(fact left twin right)"
+    ∷ "(fact cable-1 feeds left)"
+    ∷ "(fact left label front)"
+    ∷ "(fact left label voor)"
+    ∷ "(shape level (equal (seq twin mount) mount))"
+    ∷ "(shape mounted (count 1 1 mount (and (datatype mm) (from 0))))"
+    ∷ "(shape fed (count 1 * (inv feeds) (kind thing)))"
+    ∷ "(shape ready (and (shape mounted) (and (shape fed) (onelang label))))"
+    ∷ "(rule level (subjects twin))"
+    ∷ "(rule ready (class projector))"
+    ∷ [])
+
+-- the rules' lists of what was read
+abbrev pub listsOf : Outcome → List (List ℕ)
+listsOf (accepted b) = map (listOf b) (rules b)
+listsOf (turnedDown r line) = []

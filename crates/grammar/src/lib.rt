@@ -1,4 +1,4 @@
-// The grammar of a book: as writing and as reading (specs/), and that the two are one (proofs/).
+// The grammar of a book: as writing and as reading (specs/); that the two are one, and that no refusal is given without its ground (proofs/).
 // Operations: none; a crate has at least one function.
 ghost use mathlib.Core.Path.{_≡_};
 

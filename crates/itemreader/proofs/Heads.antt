@@ -55,10 +55,10 @@ module _ (s : List ℕ) (ws : List (List ℕ)) (at end : ℕ) (z : getD s at 0 �
     head-word left full d f = rw (eq-eqb (getD s at 0) 40 z, ← q, e, ne-eqb left 0 d, f)
 
 -- its word is one of the table's, a bracket may be opened, and it ends in the text
-pub head-within : (s : List ℕ) (ws : List (List ℕ)) (left : ℕ) (full : Bool) (at : ℕ) → at ≤ length s → Headed (length ws) left (length s) (headAt s ws (eqb left 0) full at)
+pub head-within : (s : List ℕ) (ws : List (List ℕ)) (left : ℕ) (full : Bool) (at : ℕ) → at ≤ length s → Headed (length ws) left full (length s) (headAt s ws (eqb left 0) full at)
 unfolding headAt
 head-within s ws left full at h =
-    bool-cases (λ b. Headed (length ws) left (length s) (cond b (headed (eqb left 0) full (indexOf ws w) end) Head.Bare)) (eqb (getD s at 0) 40)
+    bool-cases (λ b. Headed (length ws) left full (length s) (cond b (headed (eqb left 0) full (indexOf ws w) end) Head.Bare)) (eqb (getD s at 0) 40)
     (λ e. go (eqb left 0) full (indexOf ws w) (λ d. eqb-false left 0 d) (λ k. index-at ws w k .0) (item-within s at end 39 (eqb-true (getD s at 0) 40 e) refl .1))
     (λ e. tt)
   where
@@ -68,11 +68,14 @@ head-within s ws left full at h =
     w : List ℕ
     w = slice (at + 1) end s
 
-    go : (d f : Bool) (x : Found) → (d ≡ false → left ≡ 0 → ⊥) → ((k : ℕ) → x ≡ Found.At k → FirstOf (λ j. getD ws j []) (length ws) w k) → end ≤ length s → Headed (length ws) left (length s) (headed d f x end)
+    go : (d f : Bool) (x : Found) → (d ≡ false → left ≡ 0 → ⊥) → ((k : ℕ) → x ≡ Found.At k → FirstOf (λ j. getD ws j []) (length ws) w k) → end ≤ length s → Headed (length ws) left f (length s) (headed d f x end)
     go d f Found.Nothing n g l = tt
     go true f (Found.At k) n g l = tt
     go false true (Found.At k) n g l = tt
-    go false false (Found.At k) n g l = let m = n refl in (g k refl .0, omega arith, l)
+    go false false (Found.At k) n g l = let m = n refl in (g k refl .0, omega arith, refl, l)
+
+pub headed-word : (count left : ℕ) (full : Bool) (len : ℕ) (h : Head) (k end : ℕ) → Headed count left full len h → h ≡ Head.Word k end → (k < count) × (0 < left) × (full ≡ false) × (end ≤ len)
+headed-word count left full len h k end g e = rw e at g
 
 -- ---- what the head says of a bracket's reading
 module _ (s : List ℕ) (a : Book) {A : Type 0} (F : Family A) (R : Readers) (deep full : Bool) (room : F .Code → Bool) (bare : Read A) (n : Begun) (at : ℕ) where

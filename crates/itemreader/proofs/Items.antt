@@ -207,11 +207,11 @@ module _ (a : Book) (p : Pool) (n : ℕ) (l : n ≡ length (names p a)) where
   room-some h = rw (← l) (lt-ltb n (capacity p) h)
 
 -- ---- a name used, with a test more
-then-refused : {A : Type 0} (b : Bool) (x : Read ℕ) (f : ℕ → ℕ → Read A) (k : ℕ) → cond b x (refused 2) ≡ refused k → cond b (andThen x f) (refused 2) ≡ refused k
+pub then-refused : {A : Type 0} (b : Bool) (x : Read ℕ) (f : ℕ → ℕ → Read A) (k : ℕ) → cond b x (refused 2) ≡ refused k → cond b (andThen x f) (refused 2) ≡ refused k
 then-refused true x f k e = rw e
 then-refused false x f k e = let q : _≡_ {A = ℕ} 2 k = cc in rw (sym q)
 
-then-got : {A : Type 0} (b : Bool) (x : Read ℕ) (f : ℕ → ℕ → Read A) (v next : ℕ) → cond b x (refused 2) ≡ got v next → cond b (andThen x f) (refused 2) ≡ f v next
+pub then-got : {A : Type 0} (b : Bool) (x : Read ℕ) (f : ℕ → ℕ → Read A) (v next : ℕ) → cond b x (refused 2) ≡ got v next → cond b (andThen x f) (refused 2) ≡ f v next
 then-got true x f v next e = rw e
 then-got false x f v next e = let z : _≡_ {A = ℕ} 0 1 = cc in absurd (omega arith)
 

@@ -2,7 +2,7 @@
 use Prim.Native.Nat.{ℕ, _+_, _<_, _≤_}
 use mathlib.Core.Path.{_≡_}
 use mathlib.Core.List.{List, map}
-use mathlib.Core.Bool.{Bool, cond}
+use mathlib.Core.Bool.{Bool, false, cond}
 use lib.Dec.{eqb}
 use lib.ListN.{length, getD}
 use lib.Seq.{slice}
@@ -77,11 +77,11 @@ headAt s words deep full at =
     (headed deep full (indexOf words (slice (at + 1) (itemEnd s (at + 1)) s)) (itemEnd s (at + 1)))
     Head.Bare
 
--- a word's number below a count, and brackets left to open
-abbrev pub Headed : ℕ → ℕ → ℕ → Head → Type 0
-Headed count left len Head.Bare = Unit {0}
-Headed count left len (Head.Word k end) = (k < count) × (0 < left) × (end ≤ len)
-Headed count left len (Head.No k) = Unit {0}
+-- a word's number below a count, brackets left to open, and room for an entry
+abbrev pub Headed : ℕ → ℕ → Bool → ℕ → Head → Type 0
+Headed count left full len Head.Bare = Unit {0}
+Headed count left full len (Head.Word k end) = (k < count) × (0 < left) × (full ≡ false) × (end ≤ len)
+Headed count left full len (Head.No k) = Unit {0}
 
 -- the words of a family
 unfoldable pub wordsOf : {A : Type 0} → Family A → List (List ℕ)

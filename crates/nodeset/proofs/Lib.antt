@@ -1,4 +1,5 @@
 pub mod Bits
 pub mod Sets
 pub mod Stores
+pub mod Members
 pub mod Operations

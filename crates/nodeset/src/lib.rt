@@ -6,6 +6,7 @@
 //   union_into, intersect_into, subtract_into
 //                         the first set becomes the union, the intersection, the difference of the two
 //   count_both            how many numbers below 1,024 are in both sets
+//   next_member           the least member from a number on and below n, n where there is none
 //   load, store           the first sixteen words as a node set, and a node set over the first sixteen words
 //
 // Operations on a node set, sixteen words by value:
@@ -20,6 +21,7 @@ ghost use lib.ListN.{getD, set};
 ghost use lib.Dec.{ltb};
 ghost use Rattle.base.specs.Bounded.{size};
 ghost use Rattle.nodeset.specs.Words.{bit, has, both, wordOf, wordsOf, with, union, intersection, difference, stored};
+ghost use Rattle.nodeset.specs.Members.{nextFrom};
 ghost use Rattle.nodeset.specs.Operations.{keeps, applied};
 
 // Word i, 0 past the end.
@@ -111,6 +113,30 @@ pub fn count_both(a: &[u64], b: &[u64]) -> usize
         total += u64::count_ones(word(a, i) & word(b, i)) as usize;
     }
     total
+}
+
+// The least member from a number on and below n, n where there is none. Words with no member left cost one step each.
+pub fn next_member(words: &[u64], from: usize, n: usize) -> usize
+    ensures { λ r. ⌜ r ≡ nextFrom (has (now (words .entry))) from n ⌝ }
+{
+    let mut at = from;
+    while at < n {
+        let rest = word(words, at / 64) >> (at % 64);
+        let left = n - at;
+        if 0 < rest {
+            let skip = u64::trailing_zeros(rest) as usize;
+            if skip < left {
+                return at + skip;
+            }
+            return n;
+        }
+        let step = 64 - at % 64;
+        if left <= step {
+            return n;
+        }
+        at += step;
+    }
+    n
 }
 
 // A set of nodes: sixteen words.

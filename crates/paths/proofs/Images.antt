@@ -1,9 +1,9 @@
 -- Laws of images, and of sets side by side, for every number of sets and words.
-use Prim.Native.Nat.{ℕ, zero, suc, _+_, _*_, _/_, _%_, _^_, _≤_, _<_}
-use mathlib.Core.Bool.{Bool, true, false, not, cond, _&&_, _||_, and-assoc, and-comm, or-assoc, or-false, and-false, and-or-distrib-left}
+use Prim.Native.Nat.{ℕ, suc, _+_, _*_, _/_, _%_, _^_, _≤_, _<_}
+use mathlib.Core.Bool.{Bool, false, _&&_, _||_, and-assoc, and-comm, or-assoc, or-false, and-false, and-or-distrib-left}
 use mathlib.Core.List.{List}
 use mathlib.Core.Path.{_≡_, refl, sym, ap, ap₂, _∙_, subst}
-use native.Mathlib.Nat.{mod-lt, mod-mod, div-eq-of-lt, mul-add-div-right, mul-add-mod-self-right, add-zero, le-trans, mul-le-mul-right, suc-mul}
+use native.Mathlib.Nat.{mod-lt, mod-mod, div-eq-of-lt, mul-add-div-right, mul-add-mod-self-right, add-zero, mul-le-mul-right, suc-mul}
 use native.Mathlib.Omega.{arith}
 use lib.Dec.{eqb}
 use lib.ListN.{length, getD, set, replicate, length-replicate}

@@ -1,5 +1,5 @@
 -- A node that joins sets, the facts of a link one by one, and all of them: the relation that they make.
-use Prim.Native.Nat.{ℕ, zero, suc, _+_, _*_, _/_, _%_, _^_, _≤_, _<_}
+use Prim.Native.Nat.{ℕ, _+_, _*_, _/_, _%_, _^_, _<_}
 use mathlib.Core.Bool.{Bool, true, false, cond, _&&_, _||_, or-comm, or-false, and-false, and-true}
 use mathlib.Core.List.{List}
 use mathlib.Core.Path.{_≡_, refl, sym, ap, ap₂, _∙_, subst}
@@ -12,10 +12,10 @@ use borrow.Author.Tests.{eq-eqb, ne-eqb, eqb-true, ltb-true, lt-ltb, le-ltb}
 use Rattle.base.specs.Bounded.{some}
 use Rattle.base.proofs.Bools.{and-left, and-right, same-test}
 use Rattle.base.proofs.Bounded.{every-at}
-use Rattle.nodeset.specs.Words.{bit, has, wordsOf, with}
+use Rattle.nodeset.specs.Words.{bit, has, with}
 use Rattle.nodeset.proofs.Bits.{bit-or}
 use Rattle.nodeset.proofs.Sets.{has-at, own, set-words, same-words, with-words, ltb-more}
-use Rattle.paths.specs.Facts.{FactsOk, hop, hops}
+use Rattle.paths.specs.Facts.{FactsOk, edge, edges}
 use Rattle.paths.specs.Images.{withImages, joined}
 use Rattle.paths.proofs.Images.{images-ext, images-none, images-or, images-pair}
 
@@ -87,28 +87,28 @@ module _ (ss ps os : List ℕ) where
   module _ (width n p : ℕ) (back : Bool) (from into : List ℕ) where
     -- fact i has link p; it has another
     pub fact-joins : (count : ℕ) → FactsOk ss ps os count n → (i : ℕ) → i < count → (near far : ℕ) → getD ps i 0 ≡ p → near ≡ cond back (getD os i 0) (getD ss i 0) → far ≡ cond back (getD ss i 0) (getD os i 0)
-        → joined width near far from into ≡ withImages width n (hop ss ps os p back i) from into
-    unfolding hop
+        → joined width near far from into ≡ withImages width n (edge ss ps os p back i) from into
+    unfolding edge
     fact-joins count ok i l near far ep en ef =
         let e = fact-between count n ok i l in
         images-pair width n near far from into (subst (λ (v : ℕ). v < n) (sym en) (cond-lt back (getD os i 0) (getD ss i 0) n (e .1) (e .0)))
-        ∙ images-ext width n (λ v w. eqb near v && eqb far w) (hop ss ps os p back i) from into
+        ∙ images-ext width n (λ v w. eqb near v && eqb far w) (edge ss ps os p back i) from into
         (λ v w lv. ap₂ (λ (a b : ℕ). eqb a v && eqb b w) en ef ∙ ap (λ (b : Bool). b && (eqb (cond back (getD os i 0) (getD ss i 0)) v && eqb (cond back (getD ss i 0) (getD os i 0)) w)) (sym (eq-eqb (getD ps i 0) p ep)))
 
-    pub fact-other : (i : ℕ) → ((i : ℕ) → getD into i 0 < 2 ^ 64) → (getD ps i 0 ≡ p → ⊥) → into ≡ withImages width n (hop ss ps os p back i) from into
-    unfolding hop
+    pub fact-other : (i : ℕ) → ((i : ℕ) → getD into i 0 < 2 ^ 64) → (getD ps i 0 ≡ p → ⊥) → into ≡ withImages width n (edge ss ps os p back i) from into
+    unfolding edge
     fact-other i small ne =
         images-none width n from into small
-        ∙ images-ext width n (λ v w. false) (hop ss ps os p back i) from into (λ v w lv. ap (λ (b : Bool). b && (eqb (cond back (getD os i 0) (getD ss i 0)) v && eqb (cond back (getD ss i 0) (getD os i 0)) w)) (sym (ne-eqb (getD ps i 0) p ne)))
+        ∙ images-ext width n (λ v w. false) (edge ss ps os p back i) from into (λ v w lv. ap (λ (b : Bool). b && (eqb (cond back (getD os i 0) (getD ss i 0)) v && eqb (cond back (getD ss i 0) (getD os i 0)) w)) (sym (ne-eqb (getD ps i 0) p ne)))
 
     -- no fact; one fact more
-    pub facts-none : ((i : ℕ) → getD into i 0 < 2 ^ 64) → into ≡ withImages width n (hops ss ps os p back 0) from into
-    unfolding hops some
-    facts-none small = images-none width n from into small ∙ images-ext width n (λ v w. false) (hops ss ps os p back 0) from into (λ v w lv. refl)
+    pub facts-none : ((i : ℕ) → getD into i 0 < 2 ^ 64) → into ≡ withImages width n (edges ss ps os p back 0) from into
+    unfolding edges some
+    facts-none small = images-none width n from into small ∙ images-ext width n (λ v w. false) (edges ss ps os p back 0) from into (λ v w lv. refl)
 
-    pub facts-more : {ws : List ℕ} (i : ℕ) → ws ≡ withImages width n (hops ss ps os p back i) from into → withImages width n (hop ss ps os p back i) from ws ≡ withImages width n (hops ss ps os p back (i + 1)) from into
-    unfolding hops some
+    pub facts-more : {ws : List ℕ} (i : ℕ) → ws ≡ withImages width n (edges ss ps os p back i) from into → withImages width n (edge ss ps os p back i) from ws ≡ withImages width n (edges ss ps os p back (i + 1)) from into
+    unfolding edges some
     facts-more i e =
-        ap (withImages width n (hop ss ps os p back i) from) e ∙ images-or width n (hops ss ps os p back i) (hop ss ps os p back i) from into
-        ∙ images-ext width n (λ v w. hops ss ps os p back i v w || hop ss ps os p back i v w) (hops ss ps os p back (i + 1)) from into
-        (λ v w lv. or-comm (hops ss ps os p back i v w) (hop ss ps os p back i v w) ∙ ap (λ (j : ℕ). some (λ k. hop ss ps os p back k v w) j) (sym (add-one i)))
+        ap (withImages width n (edge ss ps os p back i) from) e ∙ images-or width n (edges ss ps os p back i) (edge ss ps os p back i) from into
+        ∙ images-ext width n (λ v w. edges ss ps os p back i v w || edge ss ps os p back i v w) (edges ss ps os p back (i + 1)) from into
+        (λ v w lv. or-comm (edges ss ps os p back i v w) (edge ss ps os p back i v w) ∙ ap (λ (j : ℕ). some (λ k. edge ss ps os p back k v w) j) (sym (add-one i)))

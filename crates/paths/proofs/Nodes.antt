@@ -1,13 +1,12 @@
 -- Facts between nodes lead from nodes to nodes, along every path.
 use Prim.Native.Nat.{ℕ, _<_}
-use mathlib.Core.Bool.{Bool, true, false, _&&_, _||_}
+use mathlib.Core.Bool.{true, _&&_}
 use mathlib.Core.List.{List}
 use mathlib.Core.Logic.{⊎-elim}
-use mathlib.Core.Path.{_≡_, sym, ap, _∙_, subst}
+use mathlib.Core.Path.{_≡_, sym, _∙_, subst}
 use lib.Dec.{eqb}
 use lib.ListN.{getD}
 use borrow.Author.Tests.{eqb-true}
-use Rattle.base.specs.Bounded.{some}
 use Rattle.base.proofs.Bools.{and-left, and-right, or-cases}
 use Rattle.base.proofs.Bounded.{some-witness}
 use Rattle.model.specs.Paths as model

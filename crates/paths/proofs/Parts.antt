@@ -1,8 +1,8 @@
 -- The facts of the tables, as three lent parts of the cells.
 use Prim.Native.Nat.{ℕ, _+_, _≤_, _<_}
-use mathlib.Core.Bool.{Bool, true, _&&_}
+use mathlib.Core.Bool.{true, _&&_}
 use mathlib.Core.List.{List}
-use mathlib.Core.Path.{_≡_, refl, sym, ap, ap₂, _∙_, subst}
+use mathlib.Core.Path.{_≡_, sym, ap, ap₂, _∙_, subst}
 use native.Mathlib.Omega.{arith}
 use lib.Dec.{ltb}
 use lib.ListN.{length, getD, take, drop, length-drop}
@@ -12,7 +12,7 @@ use Rattle.base.proofs.Bools.{and-both}
 use Rattle.base.proofs.Bounded.{every-all}
 use Rattle.base.proofs.Lists.{values-ext}
 use Rattle.model.specs.Graph.{Triple}
-use Rattle.tables.specs.Layout.{cellCount, nodeCount, factCount, subjects, predicates, objects, subjectAt, predicateAt, objectAt}
+use Rattle.tables.specs.Layout.{cellCount, nodeCount, factCount, subjects, predicates, objects, subjectAt, objectAt}
 use Rattle.tables.specs.Decode.{tripleAt, triplesAt}
 use Rattle.tables.specs.WellFormed.{wellFormed}
 use Rattle.tables.proofs.WellFormed.{Sound, sound}

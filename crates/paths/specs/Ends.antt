@@ -10,11 +10,13 @@ use Rattle.tables.specs.Decode.{pathAt}
 use Rattle.paths.specs.declared.End.{End}
 use Rattle.paths.specs.declared.End.the-variants.{Itself, Link, Path}
 
+-- the end in the model
 unfoldable pub endIn : List ℕ → End → model.End
 endIn cs Itself = self
 endIn cs (Link p) = along (predicate (p .0))
 endIn cs (Path e) = along (pathAt cs e)
 
+-- a path entry that is there
 unfoldable pub endOk : List ℕ → End → Bool
 endOk cs Itself = true
 endOk cs (Link p) = true

@@ -18,13 +18,13 @@ module _ (ss ps os : List ℕ) where
   unfoldable pub triplesOf : ℕ → List Triple
   triplesOf count = values tripleIn count
 
-  -- fact i has link p and goes from v to w; read backwards where back
-  unfoldable pub hop : ℕ → Bool → ℕ → ℕ → ℕ → Bool
-  hop p back i v w = eqb (getD ps i 0) p && (eqb (cond back (getD os i 0) (getD ss i 0)) v && eqb (cond back (getD ss i 0) (getD os i 0)) w)
+  -- fact i is an edge from v to w by link p; read backwards where back
+  unfoldable pub edge : ℕ → Bool → ℕ → ℕ → ℕ → Bool
+  edge p back i v w = eqb (getD ps i 0) p && (eqb (cond back (getD os i 0) (getD ss i 0)) v && eqb (cond back (getD ss i 0) (getD os i 0)) w)
 
-  -- one of the first count facts does
-  unfoldable pub hops : ℕ → Bool → ℕ → ℕ → ℕ → Bool
-  hops p back count v w = some (λ i. hop p back i v w) count
+  -- one of the first count facts is such an edge
+  unfoldable pub edges : ℕ → Bool → ℕ → ℕ → ℕ → Bool
+  edges p back count v w = some (λ i. edge p back i v w) count
 
 -- count facts between n nodes
 pub record FactsOk (ss ps os : List ℕ) (count n : ℕ) : Type 0 where

@@ -9,10 +9,10 @@ use Rattle.nodeset.specs.Words.{has, wordsOf}
 use Rattle.model.specs.Graph.{Triple}
 use Rattle.model.specs.Paths.{Path, ends}
 
--- a relation, or its inverse where back
-abbrev pub turned : Bool → (ℕ → ℕ → Bool) → ℕ → ℕ → Bool
-turned true r v w = r w v
-turned false r v w = r v w
+-- a relation, or its converse where back
+abbrev pub converseIf : Bool → (ℕ → ℕ → Bool) → ℕ → ℕ → Bool
+converseIf true r v w = r w v
+converseIf false r v w = r v w
 
 -- the image of s: r leads to w from a member of s below n
 unfoldable pub image : ℕ → (ℕ → ℕ → Bool) → (ℕ → Bool) → ℕ → Bool
@@ -31,9 +31,9 @@ unfoldable pub joined : ℕ → ℕ → ℕ → List ℕ → List ℕ → List �
 joined width near far from into = wordsOf (λ x. has into x || (has from (near * width + x % width) && eqb far (x / width))) (length into)
 
 -- how many sets stand side by side: one, or 64 where many
-abbrev pub abreast : Bool → ℕ
-abreast many = cond many 64 1
+abbrev pub setCount : Bool → ℕ
+setCount many = cond many 64 1
 
 -- the sets of `into` with the ends of a path, read backwards where back, over n nodes and the triples ts
 unfoldable pub withEnds : ℕ → ℕ → List Triple → Path → Bool → List ℕ → List ℕ → List ℕ
-withEnds width n ts p back from into = withImages width n (turned back (ends n ts p)) from into
+withEnds width n ts p back from into = withImages width n (converseIf back (ends n ts p)) from into

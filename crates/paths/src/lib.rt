@@ -1,4 +1,4 @@
-// The ends of paths, over facts in three lent columns: s, p and o hold the subjects, predicates and objects of count facts.
+// The ends of paths, over facts in three lent columns: s, p and o hold the subjects, predicates and objects of len facts.
 //
 // Sets of nodes stand side by side in the words that are lent: one set alone (node v at bit v), or where `many` 64 sets, one word
 // for each node (node v of set k at bit k of word v). What is done for one set is done for each of the 64, so one function serves both.
@@ -26,16 +26,16 @@ use tables::reads::path_second;
 use tables::reads::wide;
 ghost use mathlib.Core.Path.{_≡_};
 ghost use mathlib.Core.Bool.{true, cond};
-ghost use Prim.Native.Nat.{ℕ, _<_, _≤_};
+ghost use Prim.Native.Nat.{_<_, _≤_};
 ghost use lib.Dec.{eqb};
 ghost use lib.ListN.{length, getD};
 ghost use Rattle.model.specs.Paths.{endsOf};
 ghost use Rattle.tables.specs.Layout.{nodeCount, pathCount, cellCount};
 ghost use Rattle.tables.specs.Decode.{triplesAt, pathAt};
 ghost use Rattle.tables.specs.WellFormed.{wellFormed};
-ghost use Rattle.paths.specs.Facts.{FactsOk, triplesOf, hop, hops};
+ghost use Rattle.paths.specs.Facts.{FactsOk, triplesOf, edge, edges};
 ghost use Rattle.paths.specs.Ends.{endIn, endOk};
-ghost use Rattle.paths.specs.Images.{turned, abreast, withImage, withImages, joined, withEnds};
+ghost use Rattle.paths.specs.Images.{converseIf, setCount, withImage, withImages, joined, withEnds};
 
 // What the ends are ends of: `id`, the node itself; a link; a path entry.
 pub enum End {
@@ -67,7 +67,7 @@ fn pick(first: bool, a: usize, b: usize) -> usize
 
 // Node far joins each set that near is in.
 fn join(into: &mut [u64], far: usize, many: bool, from: &[u64], near: usize)
-    ensures { λ _. ⌜ now (into .exit) ≡ joined (abreast many) near far (now (from .entry)) (now (into .entry)) ⌝ }
+    ensures { λ _. ⌜ now (into .exit) ≡ joined (setCount many) near far (now (from .entry)) (now (into .entry)) ⌝ }
 {
     if many {
         let x = word(into, far) | word(from, near);
@@ -88,11 +88,11 @@ fn join_fact(
     s: &[u16],
     p: &[u16],
     o: &[u16],
-    count: usize,
+    len: usize,
     n: usize,
 )
-    requires { ⌜ FactsOk (now s) (now p) (now o) count n × (i < count) ⌝ }
-    ensures { λ _. ⌜ now (into .exit) ≡ withImages (abreast many) n (hop (now (s .entry)) (now (p .entry)) (now (o .entry)) (l .0) back i) (now (from .entry)) (now (into .entry)) ⌝ }
+    requires { ⌜ FactsOk (now s) (now p) (now o) len n × (i < len) ⌝ }
+    ensures { λ _. ⌜ now (into .exit) ≡ withImages (setCount many) n (edge (now (s .entry)) (now (p .entry)) (now (o .entry)) (l .0) back i) (now (from .entry)) (now (into .entry)) ⌝ }
 {
     if link_at(p, i).0 == l.0 {
         let v = wide(node_at(s, i).0);
@@ -111,14 +111,14 @@ fn join_link(
     s: &[u16],
     p: &[u16],
     o: &[u16],
-    count: usize,
+    len: usize,
     n: usize,
 )
-    requires { ⌜ FactsOk (now s) (now p) (now o) count n ⌝ }
-    ensures { λ _. ⌜ now (into .exit) ≡ withImages (abreast many) n (hops (now (s .entry)) (now (p .entry)) (now (o .entry)) (l .0) back count) (now (from .entry)) (now (into .entry)) ⌝ }
+    requires { ⌜ FactsOk (now s) (now p) (now o) len n ⌝ }
+    ensures { λ _. ⌜ now (into .exit) ≡ withImages (setCount many) n (edges (now (s .entry)) (now (p .entry)) (now (o .entry)) (l .0) back len) (now (from .entry)) (now (into .entry)) ⌝ }
 {
-    for i in 0..count {
-        join_fact(into, i, l, back, many, from, s, p, o, count, n);
+    for i in 0..len {
+        join_fact(into, i, l, back, many, from, s, p, o, len, n);
     }
 }
 
@@ -133,38 +133,34 @@ fn spread(
     s: &[u16],
     p: &[u16],
     o: &[u16],
-    count: usize,
+    len: usize,
     n: usize,
 )
-    requires { ⌜ FactsOk (now s) (now p) (now o) count n × (wellFormed (now cells) ≡ true) × (e < pathCount (now cells)) ⌝ }
-    ensures { λ _. ⌜ now (into .exit) ≡ withEnds (abreast many) n (triplesOf (now (s .entry)) (now (p .entry)) (now (o .entry)) count) (pathAt (now (cells .entry)) e) back (now (from .entry)) (now (into .entry)) ⌝ }
+    requires { ⌜ FactsOk (now s) (now p) (now o) len n × (wellFormed (now cells) ≡ true) × (e < pathCount (now cells)) ⌝ }
+    ensures { λ _. ⌜ now (into .exit) ≡ withEnds (setCount many) n (triplesOf (now (s .entry)) (now (p .entry)) (now (o .entry)) len) (pathAt (now (cells .entry)) e) back (now (from .entry)) (now (into .entry)) ⌝ }
 {
-    let code = path_code(cells, e);
     let a = path_first(cells, e);
     let b = path_second(cells, e);
-    match code {
-        0 => {
-            let l = path_link(cells, e);
-            join_link(into, l, back, many, from, s, p, o, count, n);
-        }
-        1 => spread(into, a, !back, many, from, cells, s, p, o, count, n),
+    match path_code(cells, e) {
+        0 => join_link(into, path_link(cells, e), back, many, from, s, p, o, len, n),
+        1 => spread(into, a, !back, many, from, cells, s, p, o, len, n),
         2 => {
             let x = pick(back, b, a);
             let y = pick(back, a, b);
             let mut mid = [0u64; 1024];
-            spread(&mut mid, x, back, many, from, cells, s, p, o, count, n);
-            spread(into, y, back, many, &mid, cells, s, p, o, count, n);
+            spread(&mut mid, x, back, many, from, cells, s, p, o, len, n);
+            spread(into, y, back, many, &mid, cells, s, p, o, len, n);
         }
         _ => {
-            spread(into, a, back, many, from, cells, s, p, o, count, n);
-            spread(into, b, back, many, from, cells, s, p, o, count, n);
+            spread(into, a, back, many, from, cells, s, p, o, len, n);
+            spread(into, b, back, many, from, cells, s, p, o, len, n);
         }
     }
 }
 
 // Each node joins the sets that it is in already.
 fn join_itself(into: &mut [u64], many: bool, from: &[u64], n: usize)
-    ensures { λ _. ⌜ now (into .exit) ≡ withImages (abreast many) n eqb (now (from .entry)) (now (into .entry)) ⌝ }
+    ensures { λ _. ⌜ now (into .exit) ≡ withImages (setCount many) n eqb (now (from .entry)) (now (into .entry)) ⌝ }
 {
     for v in 0..n {
         join(into, v, many, from, v);
@@ -182,16 +178,16 @@ pub fn follow(
     s: &[u16],
     p: &[u16],
     o: &[u16],
-    count: usize,
+    len: usize,
     n: usize,
 )
-    requires { ⌜ FactsOk (now s) (now p) (now o) count n × (wellFormed (now cells) ≡ true) × (endOk (now cells) end ≡ true) ⌝ }
-    ensures { λ _. ⌜ now (into .exit) ≡ withImages (abreast many) n (turned back (endsOf n (triplesOf (now (s .entry)) (now (p .entry)) (now (o .entry)) count) (endIn (now (cells .entry)) end))) (now (from .entry)) (now (into .entry)) ⌝ }
+    requires { ⌜ FactsOk (now s) (now p) (now o) len n × (wellFormed (now cells) ≡ true) × (endOk (now cells) end ≡ true) ⌝ }
+    ensures { λ _. ⌜ now (into .exit) ≡ withImages (setCount many) n (converseIf back (endsOf n (triplesOf (now (s .entry)) (now (p .entry)) (now (o .entry)) len) (endIn (now (cells .entry)) end))) (now (from .entry)) (now (into .entry)) ⌝ }
 {
     match end {
         End::Itself => join_itself(into, many, from, n),
-        End::Link(l) => join_link(into, l, back, many, from, s, p, o, count, n),
-        End::Path(e) => spread(into, e, back, many, from, cells, s, p, o, count, n),
+        End::Link(l) => join_link(into, l, back, many, from, s, p, o, len, n),
+        End::Path(e) => spread(into, e, back, many, from, cells, s, p, o, len, n),
     }
 }
 
@@ -205,24 +201,24 @@ pub fn add_ends(
     s: &[u16],
     p: &[u16],
     o: &[u16],
-    count: usize,
+    len: usize,
     n: usize,
 )
-    requires { ⌜ FactsOk (now s) (now p) (now o) count n × (wellFormed (now cells) ≡ true) × (endOk (now cells) end ≡ true) ⌝ }
-    ensures { λ _. ⌜ now (into .exit) ≡ withImage n (turned back (endsOf n (triplesOf (now (s .entry)) (now (p .entry)) (now (o .entry)) count) (endIn (now (cells .entry)) end))) (now (from .entry)) (now (into .entry)) ⌝ }
+    requires { ⌜ FactsOk (now s) (now p) (now o) len n × (wellFormed (now cells) ≡ true) × (endOk (now cells) end ≡ true) ⌝ }
+    ensures { λ _. ⌜ now (into .exit) ≡ withImage n (converseIf back (endsOf n (triplesOf (now (s .entry)) (now (p .entry)) (now (o .entry)) len) (endIn (now (cells .entry)) end))) (now (from .entry)) (now (into .entry)) ⌝ }
 {
-    follow(into, end, back, false, from, cells, s, p, o, count, n);
+    follow(into, end, back, false, from, cells, s, p, o, len, n);
 }
 
 // The same over the facts of the tables.
 pub fn add_table_ends(into: &mut [u64], end: End, back: bool, from: &[u64], cells: &[u16])
     requires { ⌜ (cellCount ≤ length (now cells)) × (wellFormed (now cells) ≡ true) × (endOk (now cells) end ≡ true) ⌝ }
-    ensures { λ _. ⌜ now (into .exit) ≡ withImage (nodeCount (now (cells .entry))) (turned back (endsOf (nodeCount (now (cells .entry))) (triplesAt (now (cells .entry))) (endIn (now (cells .entry)) end))) (now (from .entry)) (now (into .entry)) ⌝ }
+    ensures { λ _. ⌜ now (into .exit) ≡ withImage (nodeCount (now (cells .entry))) (converseIf back (endsOf (nodeCount (now (cells .entry))) (triplesAt (now (cells .entry))) (endIn (now (cells .entry)) end))) (now (from .entry)) (now (into .entry)) ⌝ }
 {
     let n = node_count(cells);
-    let count = fact_count(cells);
+    let len = fact_count(cells);
     let s = &cells[SUBJECTS..PREDICATES];
     let p = &cells[PREDICATES..OBJECTS];
     let o = &cells[OBJECTS..PATH_CODES];
-    add_ends(into, end, back, from, cells, s, p, o, count, n);
+    add_ends(into, end, back, from, cells, s, p, o, len, n);
 }

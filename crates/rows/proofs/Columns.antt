@@ -1,23 +1,23 @@
 -- The column of the targets, a column stored into the rows, and the column that a path leads back to.
-use Prim.Native.Nat.{ℕ, zero, suc, _+_, _*_, _/_, _%_, _^_, _≤_, _<_}
-use mathlib.Core.Bool.{Bool, true, false, cond, _&&_, _||_, and-false, or-comm, and-or-distrib-right}
+use Prim.Native.Nat.{ℕ, _+_, _*_, _/_, _%_, _≤_, _<_}
+use mathlib.Core.Bool.{Bool, true, false, cond, _&&_, _||_, and-false, and-or-distrib-right}
 use mathlib.Core.List.{List}
-use mathlib.Core.Path.{_≡_, refl, sym, ap, ap₂, _∙_, subst}
+use mathlib.Core.Path.{_≡_, refl, sym, ap, ap₂, _∙_}
 use native.Mathlib.Omega.{arith}
 use lib.Dec.{eqb, ltb}
 use lib.ListN.{length, getD, set, replicate, length-set}
 use lib.Seq.{ext-getD, getD-set-same, getD-set-other}
 use borrow.Author.Tests.{eq-eqb, ne-eqb, eqb-true, eqb-false, lt-ltb, le-ltb, ltb-true, ltb-false}
 use Rattle.base.specs.Bounded.{some}
-use Rattle.base.specs.Lists.{values, valuesFrom}
+use Rattle.base.specs.Lists.{values}
 use Rattle.base.proofs.Bools.{and-left, and-right, and-both, same-test}
 use Rattle.base.proofs.Bounded.{some-ext, some-none, some-eq}
-use Rattle.base.proofs.Lists.{length-valuesFrom, at-values, values-ext}
+use Rattle.base.proofs.Lists.{length-valuesFrom, at-values}
 use Rattle.nodeset.specs.Words.{has, wordsOf, with}
 use Rattle.nodeset.proofs.Sets.{wordsOf-ext, has-of, has-zeros, zeros, with-step, ltb-more}
-use Rattle.paths.specs.Images.{turned, image, withImages}
+use Rattle.paths.specs.Images.{converseIf, image, withImages}
 use Rattle.paths.proofs.Joins.{eqb-comm}
-use Rattle.rows.specs.Rows.{between, columnOf, unitOf, withColumn}
+use Rattle.rows.specs.Rows.{between, columnOf, identityColumn, withColumn}
 
 -- ---- the targets: set k is the node 64 * j + k alone, for k below i
 abbrev pub targets : ℕ → ℕ → ℕ → Bool
@@ -35,8 +35,8 @@ targets-more j i l e = with-step (targets j i) (targets j (i + 1)) 1024 ((64 * j
         (λ h. let a : x % 64 ≡ i = eqb-true (x % 64) i (and-left (eqb (x % 64) i) (eqb (x / 64) (64 * j + x % 64)) h) in let b : x / 64 ≡ 64 * j + x % 64 = eqb-true (x / 64) (64 * j + x % 64) (and-right (eqb (x % 64) i) (eqb (x / 64) (64 * j + x % 64)) h) in eq-eqb x ((64 * j + i) * 64 + i) (omega arith))
         (λ h. let a : x ≡ (64 * j + i) * 64 + i = eqb-true x ((64 * j + i) * 64 + i) h in and-both (eqb (x % 64) i) (eqb (x / 64) (64 * j + x % 64)) (eq-eqb (x % 64) i (omega arith)) (eq-eqb (x / 64) (64 * j + x % 64) (omega arith)))
 
-pub targets-all : {ws : List ℕ} (j i : ℕ) → i ≡ 64 → ws ≡ wordsOf (targets j i) 1024 → ws ≡ unitOf j
-unfolding unitOf
+pub targets-all : {ws : List ℕ} (j i : ℕ) → i ≡ 64 → ws ≡ wordsOf (targets j i) 1024 → ws ≡ identityColumn j
+unfolding identityColumn
 targets-all j i q e = e ∙ wordsOf-ext (targets j i) (λ x. eqb (x / 64) (64 * j + x % 64)) 1024 (λ x l. ap (λ (b : Bool). b && eqb (x / 64) (64 * j + x % 64)) (lt-ltb (x % 64) i (omega arith)))
 
 -- ---- values, one of them replaced
@@ -85,10 +85,10 @@ module _ (rows : List ℕ) (j : ℕ) (m : List ℕ) where
   stored-all v q e = e ∙ ap (λ (v : ℕ). values (stored rows j m v) (length rows)) q
 
 -- ---- from the targets back: each gives the column of those that lead to it
-pub column-of : (n : ℕ) (r : ℕ → ℕ → Bool) (j : ℕ) {t m : List ℕ} → n ≤ 1024 → ((v w : ℕ) → r v w ≡ true → w < n → v < n) → t ≡ unitOf j → m ≡ withImages 64 n (turned true r) t (replicate 1024 0) → m ≡ columnOf n r j
-unfolding unitOf columnOf withImages image
-column-of n r j {t} l node et em = em ∙ wordsOf-ext (λ x. has (replicate 1024 0) x || image n (turned true r) (λ v. has t (v * 64 + x % 64)) (x / 64)) (λ x. between n r (x / 64) (64 * j + x % 64)) 1024 λ x lx.
-    ap (λ (b : Bool). b || image n (turned true r) (λ v. has t (v * 64 + x % 64)) (x / 64)) (has-zeros 1024 x)
+pub column-of : (n : ℕ) (r : ℕ → ℕ → Bool) (j : ℕ) {t m : List ℕ} → n ≤ 1024 → ((v w : ℕ) → r v w ≡ true → w < n → v < n) → t ≡ identityColumn j → m ≡ withImages 64 n (converseIf true r) t (replicate 1024 0) → m ≡ columnOf n r j
+unfolding identityColumn columnOf withImages image
+column-of n r j {t} l node et em = em ∙ wordsOf-ext (λ x. has (replicate 1024 0) x || image n (converseIf true r) (λ v. has t (v * 64 + x % 64)) (x / 64)) (λ x. between n r (x / 64) (64 * j + x % 64)) 1024 λ x lx.
+    ap (λ (b : Bool). b || image n (converseIf true r) (λ v. has t (v * 64 + x % 64)) (x / 64)) (has-zeros 1024 x)
     ∙ some-ext (λ v. has t (v * 64 + x % 64) && r (x / 64) v) (λ v. eqb (64 * j + x % 64) v && r (x / 64) v) n (λ v lv. ap (λ (b : Bool). b && r (x / 64) v) (at x v (omega arith)))
     ∙ single (x / 64) (64 * j + x % 64) (ltb (64 * j + x % 64) n) refl
   where

@@ -1,16 +1,16 @@
 -- The passes one by one, all of them, and what a row has.
-use Prim.Native.Nat.{ℕ, zero, suc, _+_, _*_, _/_, _%_, _^_, _≤_, _<_}
-use mathlib.Core.Bool.{Bool, true, false, cond, _&&_, _||_, and-true}
+use Prim.Native.Nat.{ℕ, _+_, _*_, _/_, _%_, _^_, _≤_, _<_}
+use mathlib.Core.Bool.{Bool, true, false, cond, _&&_, _||_}
 use mathlib.Core.List.{List}
 use mathlib.Core.Path.{_≡_, refl, sym, ap, ap₂, _∙_, subst}
 use native.Mathlib.Omega.{arith}
 use lib.Dec.{eqb, ltb}
 use lib.ListN.{length, getD, take, drop, length-drop}
 use lib.Seq.{ext-getD, getD-drop}
-use borrow.Author.Tests.{eqb-true, eqb-false, lt-ltb, le-ltb}
-use Rattle.base.specs.Lists.{values, valuesFrom}
+use borrow.Author.Tests.{eqb-true, lt-ltb, le-ltb}
+use Rattle.base.specs.Lists.{values}
 use Rattle.base.proofs.Lists.{length-valuesFrom, at-values, values-ext}
-use Rattle.nodeset.specs.Words.{has, wordOf, wordsOf}
+use Rattle.nodeset.specs.Words.{has, wordsOf}
 use Rattle.nodeset.proofs.Bits.{wordOf-ext}
 use Rattle.nodeset.proofs.Sets.{at-wordsOf, length-wordsOf, wordsOf-ext, has-of, has-drop, small-of, length-of, first-words, ltb-more}
 use Rattle.rows.specs.Rows.{between, rowsOf, columnOf, withColumn}

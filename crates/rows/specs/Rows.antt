@@ -4,7 +4,7 @@ use mathlib.Core.List.{List}
 use mathlib.Core.Bool.{Bool, _&&_, cond}
 use lib.Dec.{eqb, ltb}
 use lib.ListN.{length, getD}
-use Rattle.base.specs.Lists.{values, valuesFrom}
+use Rattle.base.specs.Lists.{values}
 use Rattle.nodeset.specs.Words.{wordsOf}
 
 -- the relation r between the nodes below n
@@ -19,9 +19,9 @@ rowsOf n r = wordsOf (λ x. between n r (x / 1024) (x % 1024)) 16384
 unfoldable pub columnOf : ℕ → (ℕ → ℕ → Bool) → ℕ → List ℕ
 columnOf n r j = wordsOf (λ x. between n r (x / 64) (64 * j + x % 64)) 1024
 
--- the column whose set k is the node 64 * j + k alone
-unfoldable pub unitOf : ℕ → List ℕ
-unitOf j = wordsOf (λ x. eqb (x / 64) (64 * j + x % 64)) 1024
+-- the column of the identity: set k is the node 64 * j + k alone
+unfoldable pub identityColumn : ℕ → List ℕ
+identityColumn j = wordsOf (λ x. eqb (x / 64) (64 * j + x % 64)) 1024
 
 -- the rows with word j of each taken from the column m
 unfoldable pub withColumn : List ℕ → ℕ → List ℕ → List ℕ

@@ -20,8 +20,7 @@ use tables::reads::fact_count;
 use tables::reads::node_count;
 ghost use mathlib.Core.Path.{_≡_};
 ghost use mathlib.Core.Bool.{true};
-ghost use Prim.Native.Nat.{ℕ, _*_, _<_, _≤_};
-ghost use lib.Dec.{eqb};
+ghost use Prim.Native.Nat.{_*_, _<_, _≤_};
 ghost use lib.ListN.{length, replicate};
 ghost use Rattle.model.specs.Paths.{endsOf};
 ghost use Rattle.tables.specs.Layout.{nodeCount, cellCount};
@@ -29,12 +28,12 @@ ghost use Rattle.tables.specs.Decode.{triplesAt};
 ghost use Rattle.tables.specs.WellFormed.{wellFormed};
 ghost use Rattle.paths.specs.Facts.{FactsOk, triplesOf};
 ghost use Rattle.paths.specs.Ends.{endIn, endOk};
-ghost use Rattle.rows.specs.Rows.{rowsOf, columnOf, unitOf, withColumn};
+ghost use Rattle.rows.specs.Rows.{rowsOf, columnOf, identityColumn, withColumn};
 
 // An empty column becomes the one whose set k is the node 64 * j + k alone.
-fn unit(t: &mut [u64], j: usize)
+fn identity(t: &mut [u64], j: usize)
     requires { ⌜ (now t ≡ replicate 1024 0) × (j < 16) ⌝ }
-    ensures { λ _. ⌜ now (t .exit) ≡ unitOf j ⌝ }
+    ensures { λ _. ⌜ now (t .exit) ≡ identityColumn j ⌝ }
 {
     for k in 0..64 {
         insert(t, (64 * j + k) * 64 + k);
@@ -60,16 +59,16 @@ fn pass(
     s: &[u16],
     p: &[u16],
     o: &[u16],
-    count: usize,
+    len: usize,
     n: usize,
 )
-    requires { ⌜ FactsOk (now s) (now p) (now o) count n × (wellFormed (now cells) ≡ true) × (endOk (now cells) end ≡ true) × (j < 16) ⌝ }
-    ensures { λ _. ⌜ now (rows .exit) ≡ withColumn (now (rows .entry)) j (columnOf n (endsOf n (triplesOf (now (s .entry)) (now (p .entry)) (now (o .entry)) count) (endIn (now (cells .entry)) end)) j) ⌝ }
+    requires { ⌜ FactsOk (now s) (now p) (now o) len n × (wellFormed (now cells) ≡ true) × (endOk (now cells) end ≡ true) × (j < 16) ⌝ }
+    ensures { λ _. ⌜ now (rows .exit) ≡ withColumn (now (rows .entry)) j (columnOf n (endsOf n (triplesOf (now (s .entry)) (now (p .entry)) (now (o .entry)) len) (endIn (now (cells .entry)) end)) j) ⌝ }
 {
     let mut t = [0u64; 1024];
-    unit(&mut t, j);
+    identity(&mut t, j);
     let mut m = [0u64; 1024];
-    follow(&mut m, end, true, true, &t, cells, s, p, o, count, n);
+    follow(&mut m, end, true, true, &t, cells, s, p, o, len, n);
     store_column(rows, j, &m);
 }
 
@@ -81,14 +80,14 @@ pub fn all_ends(
     s: &[u16],
     p: &[u16],
     o: &[u16],
-    count: usize,
+    len: usize,
     n: usize,
 )
-    requires { ⌜ FactsOk (now s) (now p) (now o) count n × (wellFormed (now cells) ≡ true) × (endOk (now cells) end ≡ true) × (length (now rows) ≡ 16384) ⌝ }
-    ensures { λ _. ⌜ now (rows .exit) ≡ rowsOf n (endsOf n (triplesOf (now (s .entry)) (now (p .entry)) (now (o .entry)) count) (endIn (now (cells .entry)) end)) ⌝ }
+    requires { ⌜ FactsOk (now s) (now p) (now o) len n × (wellFormed (now cells) ≡ true) × (endOk (now cells) end ≡ true) × (length (now rows) ≡ 16384) ⌝ }
+    ensures { λ _. ⌜ now (rows .exit) ≡ rowsOf n (endsOf n (triplesOf (now (s .entry)) (now (p .entry)) (now (o .entry)) len) (endIn (now (cells .entry)) end)) ⌝ }
 {
     for j in 0..16 {
-        pass(rows, j, end, cells, s, p, o, count, n);
+        pass(rows, j, end, cells, s, p, o, len, n);
     }
 }
 
@@ -98,9 +97,9 @@ pub fn all_table_ends(rows: &mut [u64], end: End, cells: &[u16])
     ensures { λ _. ⌜ now (rows .exit) ≡ rowsOf (nodeCount (now (cells .entry))) (endsOf (nodeCount (now (cells .entry))) (triplesAt (now (cells .entry))) (endIn (now (cells .entry)) end)) ⌝ }
 {
     let n = node_count(cells);
-    let count = fact_count(cells);
+    let len = fact_count(cells);
     let s = &cells[SUBJECTS..PREDICATES];
     let p = &cells[PREDICATES..OBJECTS];
     let o = &cells[OBJECTS..PATH_CODES];
-    all_ends(rows, end, cells, s, p, o, count, n);
+    all_ends(rows, end, cells, s, p, o, len, n);
 }

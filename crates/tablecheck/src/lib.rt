@@ -203,7 +203,8 @@ fn all_ok(cells: &[u16], part: Part) -> bool
     true
 }
 
-// Refusal 9 is for tables of which this is false. The counts are looked at first: no loop is longer than its limit.
+// Refusal 9 is for tables of which this is false; of a longer slice the caller lends the part up to CELLS. The counts are
+// looked at first: no loop is longer than its limit.
 pub fn well_formed(cells: &[u16]) -> bool
     ensures { λ r. ⌜ r ≡ wellFormed (now (cells .entry)) ⌝ }
 {

@@ -27,7 +27,8 @@ ghost use lib.ListN.{getD};
 ghost use lib.IntN.{pos};
 ghost use Rattle.tables.specs.Layout.{nodeCount, linkCount, typeCount, langCount, shapeCount, factCount, pathCount, formCount, itemCount, ruleCount, kindAt, typeAt, langAt, subjectAt, predicateAt, objectAt, pathCodeAt, pathFirstAt, pathSecondAt, formCodeAt, formFirstAt, formSecondAt, formThirdAt, formFourthAt, itemAt, rootAt, ruleShapeAt, ruleTargetAt, ruleOperandAt, numberAt, limitAt};
 
-fn cell_at(cells: &[u16], base: usize, i: usize) -> u16
+// Place i of the column that begins at base.
+pub fn cell_at(cells: &[u16], base: usize, i: usize) -> u16
     ensures { λ r. ⌜ r ≡ getD (now (cells .entry)) (base + i) 0 ⌝ }
 {
     if cells.len() <= base {

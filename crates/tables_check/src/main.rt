@@ -1,24 +1,115 @@
-// A small well-formed table, damaged one cell at a time: what well_formed says of each. And the offsets of the layout.
+// A small well-formed table, damaged one cell at a time: what well_formed says of each. Standard input has a line
+// `CELL VALUE what it is` for each cell of the table that is not zero, an empty line, and a line for each damage; each of
+// these is written with yes or no. Before that, the offsets of the layout, and tables that are long enough or one place short.
 use libc::STDOUT_FILENO;
 use tables::layout;
 use tables::lent;
-ghost use Prim.Native.Nat.{_≤_};
-ghost use Rattle.tables.specs.Layout.{cellCount};
+ghost use Prim.Native.Nat.{_≤_, _<_};
+ghost use lib.ListN.{length};
 
 type Cells = [u16; 16602];
 
-fn put(cells: &mut Cells, at: usize, x: u16) {
-    if at < 16602 {
-        cells[at] = x;
+// In the order of docs/LAYOUT.md.
+const OFFSETS: [usize; 27] = [
+    layout::NODE_KINDS,
+    layout::NODE_TYPES,
+    layout::NODE_LANGS,
+    layout::SUBJECTS,
+    layout::PREDICATES,
+    layout::OBJECTS,
+    layout::PATH_CODES,
+    layout::PATH_FIRSTS,
+    layout::PATH_SECONDS,
+    layout::FORM_CODES,
+    layout::FORM_FIRSTS,
+    layout::FORM_SECONDS,
+    layout::FORM_THIRDS,
+    layout::FORM_FOURTHS,
+    layout::ITEMS,
+    layout::ROOTS,
+    layout::RULE_SHAPES,
+    layout::RULE_TARGETS,
+    layout::RULE_OPERANDS,
+    layout::CELLS,
+    layout::FORM_VALUES,
+    layout::VALUES,
+    layout::LINK_NAMES,
+    layout::TYPE_NAMES,
+    layout::LANG_NAMES,
+    layout::SHAPE_NAMES,
+    layout::NAMES,
+];
+
+fn offsets() {
+    for k in 0..27 {
+        io::print_decimal(STDOUT_FILENO, OFFSETS[k] as u64);
+        io::write_all(STDOUT_FILENO, b"\n");
     }
 }
 
-fn fill(cells: &mut Cells, at: usize, from: &[u16])
-    requires { ⌜ at ≤ cellCount ⌝ }
+fn with_digit(n: usize, d: u8) -> usize
+    requires { ⌜ (n < 65536) × (48 ≤ d) ⌝ }
+    ensures { λ r. ⌜ r < 65536 ⌝ }
 {
-    for k in 0..from.len() {
-        put(cells, at + k, from[k]);
+    (n * 10 + (d as usize - 48)) % 65536
+}
+
+// A number of the text, below 65536, and where it ends.
+struct Read(usize, usize);
+
+fn number(text: &[u8], at: usize) -> Read
+    ensures { λ r. ⌜ r .1 ≤ length (now (text .entry)) ⌝ }
+{
+    let mut n: usize = 0;
+    for i in at..text.len() {
+        let d = text[i];
+        if d < 48 {
+            return Read(n, i);
+        }
+        n = with_digit(n, d);
     }
+    Read(n, text.len())
+}
+
+// Where the line ends that the place is in.
+fn line_end(text: &[u8], at: usize) -> usize
+    requires { ⌜ at ≤ length (now text) ⌝ }
+    ensures { λ r. ⌜ (at ≤ r) × (r ≤ length (now (text .entry))) ⌝ }
+{
+    let mut i = at;
+    while i < text.len() {
+        if text[i] == 10 {
+            return i;
+        }
+        i += 1;
+    }
+    i
+}
+
+// What a line says: a value into a cell.
+fn change(cells: &mut Cells, text: &[u8], at: usize) {
+    let cell = number(text, at);
+    let value = number(text, cell.1 + 1);
+    let to = cell.0;
+    let x = value.0;
+    if to < 16602 {
+        if x < 65536 {
+            cells[to] = x as u16;
+        }
+    }
+}
+
+// The table, up to the empty line, and where the next line begins.
+fn table(cells: &mut Cells, text: &[u8]) -> usize {
+    let mut at = 0;
+    while at < text.len() {
+        if text[at] == 10 {
+            return at + 1;
+        }
+        change(cells, text, at);
+        at = line_end(text, at) + 1;
+    }
+    at
 }
 
 fn answer(what: &[u8], good: bool) {
@@ -30,119 +121,6 @@ fn answer(what: &[u8], good: bool) {
     }
 }
 
-// The table: its counts, graph and paths.
-fn graph(cells: &mut Cells) {
-    // the counts: nodes, links, types, langs, shapes, facts, path entries, form entries, items, rules
-    fill(cells, 0, &[5, 3, 2, 2, 3, 3, 4, 21, 4, 4]);
-    // the nodes: a thing, a blank, a number and a text of type 1, words in lang 1
-    fill(cells, layout::NODE_KINDS, &[0, 1, 2, 3, 4]);
-    fill(cells, layout::NODE_TYPES, &[0, 0, 1, 1, 0]);
-    fill(cells, layout::NODE_LANGS, &[0, 0, 0, 0, 1]);
-    // the facts 0 1 2, 1 2 0, 0 0 1
-    fill(cells, layout::SUBJECTS, &[0, 1, 0]);
-    fill(cells, layout::PREDICATES, &[1, 2, 0]);
-    fill(cells, layout::OBJECTS, &[2, 0, 1]);
-    // the paths: link 1, inv 0, seq 0 1, alt 2 0
-    fill(cells, layout::PATH_CODES, &[0, 1, 2, 3]);
-    fill(cells, layout::PATH_FIRSTS, &[1, 0, 0, 2]);
-    fill(cells, layout::PATH_SECONDS, &[0, 0, 1, 0]);
-}
-
-// Its forms, items, shapes and rules.
-fn shapes(cells: &mut Cells) {
-    // the forms, one of each code: true, is, shape, and, or, not, kind, datatype, lang, from, above, to, below, count, all, equal, apart, closed, less, lesseq, onelang
-    fill(
-        cells,
-        layout::FORM_CODES,
-        &[
-            0,
-            1,
-            2,
-            3,
-            4,
-            5,
-            6,
-            7,
-            8,
-            9,
-            10,
-            11,
-            12,
-            13,
-            14,
-            15,
-            16,
-            17,
-            18,
-            19,
-            20,
-        ],
-    );
-    fill(
-        cells,
-        layout::FORM_FIRSTS,
-        &[
-            0,
-            4,
-            0,
-            0,
-            3,
-            4,
-            2,
-            1,
-            0,
-            0,
-            0,
-            0,
-            0,
-            3,
-            2,
-            65535,
-            3,
-            2,
-            0,
-            1,
-            3,
-        ],
-    );
-    fill(
-        cells,
-        layout::FORM_SECONDS,
-        &[
-            0,
-            0,
-            0,
-            2,
-            1,
-            0,
-            0,
-            0,
-            2,
-            0,
-            0,
-            0,
-            0,
-            5,
-            13,
-            2,
-            0,
-            2,
-            1,
-            2,
-            0,
-        ],
-    );
-    // LO and HI of the count
-    fill(cells, layout::FORM_THIRDS + 13, &[1024]);
-    fill(cells, layout::FORM_FOURTHS + 13, &[65535]);
-    // the items, the roots of the shapes, the rules
-    fill(cells, layout::ITEMS, &[0, 1, 0, 2]);
-    fill(cells, layout::ROOTS, &[1, 20, 14]);
-    fill(cells, layout::RULE_SHAPES, &[0, 1, 2, 2]);
-    fill(cells, layout::RULE_TARGETS, &[0, 1, 2, 3]);
-    fill(cells, layout::RULE_OPERANDS, &[4, 2, 0, 0]);
-}
-
 fn ask(what: &[u8], cells: &Cells) {
     answer(what, tablecheck::well_formed(cells));
 }
@@ -151,210 +129,32 @@ fn clear(cells: &mut Cells) {
     lent::clear_cells(cells);
 }
 
-// The table with x at one place: is it well formed?
-fn damage(what: &[u8], at: usize, x: u16) {
+// The table as it is, and cleared. Where the damages begin.
+fn whole(text: &[u8]) -> usize {
     let mut cells = [0u16; 16602];
-    graph(&mut cells);
-    shapes(&mut cells);
-    put(&mut cells, at, x);
-    ask(what, &cells);
+    let at = table(&mut cells, text);
+    ask(b"the table", &cells);
+    clear(&mut cells);
+    ask(b"the table cleared", &cells);
+    at
 }
 
-// Counts at their limits, and one above.
-fn limits() {
-    damage(b"1024 nodes", 0, 1024);
-    damage(b"1025 nodes", 0, 1025);
-    damage(b"256 links", 1, 256);
-    damage(b"257 links", 1, 257);
-    damage(b"32 types", 2, 32);
-    damage(b"33 types", 2, 33);
-    damage(b"32 langs", 3, 32);
-    damage(b"33 langs", 3, 33);
-    damage(b"64 shapes", 4, 64);
-    damage(b"65 shapes", 4, 65);
+fn damage(text: &[u8], at: usize, line: &[u8]) {
+    let mut cells = [0u16; 16602];
+    table(&mut cells, text);
+    change(&mut cells, text, at);
+    ask(line, &cells);
 }
 
-fn more_limits() {
-    damage(b"4096 facts", 5, 4096);
-    damage(b"4097 facts", 5, 4097);
-    damage(b"128 path entries", 6, 128);
-    damage(b"129 path entries", 6, 129);
-    damage(b"112 form entries", 7, 112);
-    damage(b"113 form entries", 7, 113);
-    damage(b"128 items", 8, 128);
-    damage(b"129 items", 8, 129);
-    damage(b"32 rules", 9, 32);
-    damage(b"33 rules", 9, 33);
+fn damages(text: &[u8], from: usize) {
+    let mut at = from;
+    while at < text.len() {
+        let end = line_end(text, at);
+        damage(text, at, &text[at..end]);
+        at = end + 1;
+    }
 }
 
-// Counts with one less: the last of its kind is then past the count.
-fn fewer() {
-    damage(b"node 4 gone, and used", 0, 4);
-    damage(b"link 2 gone, and used", 1, 2);
-    damage(b"type 1 gone, and used", 2, 1);
-    damage(b"lang 1 gone, and used", 3, 1);
-    damage(b"shape 2 gone, and used", 4, 2);
-    damage(b"fact 2 gone", 5, 2);
-    damage(b"path entry 3 gone, and used", 6, 3);
-    damage(b"form entry 20 gone, and used", 7, 20);
-    damage(b"item 3 gone, and used", 8, 3);
-    damage(b"rule 3 gone", 9, 3);
-}
-
-// Nodes: a thing, a blank, a number, a text, words.
-fn nodes() {
-    damage(b"a thing becomes kind 5", layout::NODE_KINDS, 5);
-    damage(b"a thing becomes kind 65535", layout::NODE_KINDS, 65535);
-    damage(b"a thing with type 9", layout::NODE_TYPES, 9);
-    damage(b"a number of type 2", layout::NODE_TYPES + 2, 2);
-    damage(b"a number of type 0", layout::NODE_TYPES + 2, 0);
-    damage(b"a text of type 2", layout::NODE_TYPES + 3, 2);
-    damage(b"a text with lang 7", layout::NODE_LANGS + 3, 7);
-    damage(b"words in lang 2", layout::NODE_LANGS + 4, 2);
-    damage(b"kind 9 past the nodes", layout::NODE_KINDS + 5, 9);
-}
-
-// Facts.
-fn facts() {
-    damage(b"a subject that is no node", layout::SUBJECTS, 5);
-    damage(b"a literal as subject", layout::SUBJECTS, 2);
-    damage(b"a predicate that is no link", layout::PREDICATES + 1, 3);
-    damage(b"an object that is no node", layout::OBJECTS + 2, 5);
-    damage(b"a subject past the facts", layout::SUBJECTS + 3, 5000);
-}
-
-// Path entries: a link, inv 0, seq 0 1, alt 2 0.
-fn paths() {
-    damage(b"path code 4", layout::PATH_CODES, 4);
-    damage(b"a path that is no link", layout::PATH_FIRSTS, 3);
-    damage(b"second operand of a link", layout::PATH_SECONDS, 77);
-    damage(b"inv of itself", layout::PATH_FIRSTS + 1, 1);
-    damage(b"seq, first not before it", layout::PATH_FIRSTS + 2, 2);
-    damage(b"seq, second not before it", layout::PATH_SECONDS + 2, 2);
-    damage(b"alt, first not before it", layout::PATH_FIRSTS + 3, 4);
-    damage(b"alt, second not before it", layout::PATH_SECONDS + 3, 3);
-    damage(b"path code 4 past the entries", layout::PATH_CODES + 4, 4);
-}
-
-// Form entries: entry k has code k.
-fn forms() {
-    damage(b"form code 21", layout::FORM_CODES, 21);
-    damage(b"is, no node", layout::FORM_FIRSTS + 1, 5);
-    damage(b"shape, no shape", layout::FORM_FIRSTS + 2, 3);
-    damage(b"shape, begins with the entry itself", layout::ROOTS, 2);
-    damage(b"and, second not before it", layout::FORM_SECONDS + 3, 3);
-    damage(b"or, first not before it", layout::FORM_FIRSTS + 4, 4);
-    damage(b"not, of itself", layout::FORM_FIRSTS + 5, 5);
-    damage(b"kind 3", layout::FORM_FIRSTS + 6, 3);
-    damage(b"datatype, no type", layout::FORM_FIRSTS + 7, 2);
-    damage(b"operand of from", layout::FORM_FIRSTS + 9, 999);
-    damage(
-        b"form code 99 past the entries",
-        layout::FORM_CODES + 21,
-        99,
-    );
-}
-
-// Lists: lang has items 0 and 1, closed items 2 and 3.
-fn lists() {
-    damage(b"lang, past the items", layout::FORM_SECONDS + 8, 5);
-    damage(b"lang, empty", layout::FORM_SECONDS + 8, 0);
-    damage(b"lang, start past the items", layout::FORM_FIRSTS + 8, 4);
-    damage(b"lang, no lang", layout::ITEMS + 1, 2);
-    damage(b"closed, past the items", layout::FORM_SECONDS + 17, 3);
-    damage(
-        b"closed, start past the items",
-        layout::FORM_FIRSTS + 17,
-        65535,
-    );
-    damage(b"closed, no link", layout::ITEMS + 3, 3);
-    damage(b"an item past the items", layout::ITEMS + 4, 9999);
-}
-
-// count 1024 * of path 3 and form 5; all of path 2 and form 13.
-fn counts() {
-    damage(b"count, no path", layout::FORM_FIRSTS + 13, 4);
-    damage(b"count, form not before it", layout::FORM_SECONDS + 13, 13);
-    damage(b"LO 1025", layout::FORM_THIRDS + 13, 1025);
-    damage(b"LO 65535", layout::FORM_THIRDS + 13, 65535);
-    damage(b"HI 1024", layout::FORM_FOURTHS + 13, 1024);
-    damage(b"HI 1025", layout::FORM_FOURTHS + 13, 1025);
-    damage(b"HI 0, below LO", layout::FORM_FOURTHS + 13, 0);
-    damage(b"all, no path", layout::FORM_FIRSTS + 14, 4);
-    damage(b"all, form not before it", layout::FORM_SECONDS + 14, 14);
-}
-
-// equal id 2, apart 3 0, less 0 1, lesseq 1 2, onelang 3.
-fn pairs() {
-    damage(b"equal, END 0", layout::FORM_FIRSTS + 15, 0);
-    damage(b"equal, no path", layout::FORM_FIRSTS + 15, 4);
-    damage(b"equal, END 65534", layout::FORM_FIRSTS + 15, 65534);
-    damage(b"equal, no link", layout::FORM_SECONDS + 15, 3);
-    damage(b"apart, no path", layout::FORM_FIRSTS + 16, 4);
-    damage(b"apart, no link", layout::FORM_SECONDS + 16, 3);
-    damage(b"less, no path", layout::FORM_FIRSTS + 18, 4);
-    damage(b"less, no link", layout::FORM_SECONDS + 18, 3);
-    damage(b"lesseq, id", layout::FORM_FIRSTS + 19, 65535);
-    damage(b"onelang, no path", layout::FORM_FIRSTS + 20, 4);
-}
-
-// Shapes begin with entries 1, 20, 14; rules are shape 0 (node 4), 1 (subjects 2), 2 (objects 0), 2 (class 0).
-fn rules() {
-    damage(b"a shape begins with entry 21", layout::ROOTS + 1, 21);
-    damage(b"a shape begins with entry 0", layout::ROOTS + 1, 0);
-    damage(b"a root past the shapes", layout::ROOTS + 3, 500);
-    damage(b"a rule, no shape", layout::RULE_SHAPES, 3);
-    damage(b"target code 4", layout::RULE_TARGETS, 4);
-    damage(b"node, no node", layout::RULE_OPERANDS, 5);
-    damage(b"subjects, no link", layout::RULE_OPERANDS + 1, 3);
-    damage(b"objects, no link", layout::RULE_OPERANDS + 2, 3);
-    damage(b"class, no node", layout::RULE_OPERANDS + 3, 5);
-    damage(b"a rule past the rules", layout::RULE_SHAPES + 4, 64);
-}
-
-fn offset(name: &[u8], n: usize) {
-    io::write_all(STDOUT_FILENO, name);
-    io::print_decimal(STDOUT_FILENO, n as u64);
-    io::write_all(STDOUT_FILENO, b"\n");
-}
-
-fn graph_offsets() {
-    offset(b"NODE_KINDS ", layout::NODE_KINDS);
-    offset(b"NODE_TYPES ", layout::NODE_TYPES);
-    offset(b"NODE_LANGS ", layout::NODE_LANGS);
-    offset(b"SUBJECTS ", layout::SUBJECTS);
-    offset(b"PREDICATES ", layout::PREDICATES);
-    offset(b"OBJECTS ", layout::OBJECTS);
-    offset(b"PATH_CODES ", layout::PATH_CODES);
-    offset(b"PATH_FIRSTS ", layout::PATH_FIRSTS);
-    offset(b"PATH_SECONDS ", layout::PATH_SECONDS);
-}
-
-fn form_offsets() {
-    offset(b"FORM_CODES ", layout::FORM_CODES);
-    offset(b"FORM_FIRSTS ", layout::FORM_FIRSTS);
-    offset(b"FORM_SECONDS ", layout::FORM_SECONDS);
-    offset(b"FORM_THIRDS ", layout::FORM_THIRDS);
-    offset(b"FORM_FOURTHS ", layout::FORM_FOURTHS);
-    offset(b"ITEMS ", layout::ITEMS);
-    offset(b"ROOTS ", layout::ROOTS);
-    offset(b"RULE_SHAPES ", layout::RULE_SHAPES);
-    offset(b"RULE_TARGETS ", layout::RULE_TARGETS);
-    offset(b"RULE_OPERANDS ", layout::RULE_OPERANDS);
-    offset(b"CELLS ", layout::CELLS);
-}
-
-fn other_offsets() {
-    offset(b"FORM_VALUES ", layout::FORM_VALUES);
-    offset(b"VALUES ", layout::VALUES);
-    offset(b"LINK_NAMES ", layout::LINK_NAMES);
-    offset(b"TYPE_NAMES ", layout::TYPE_NAMES);
-    offset(b"LANG_NAMES ", layout::LANG_NAMES);
-    offset(b"SHAPE_NAMES ", layout::SHAPE_NAMES);
-    offset(b"NAMES ", layout::NAMES);
-}
-
-// Tables one place too short.
 fn lengths() {
     let names = [0u8; 45056];
     let cells = [0u16; 16602];
@@ -377,36 +177,11 @@ fn lengths() {
     );
 }
 
-fn damaged() {
-    limits();
-    more_limits();
-    fewer();
-    nodes();
-    facts();
-    paths();
-    forms();
-    lists();
-    counts();
-    pairs();
-    rules();
-}
-
-// Zeros, the table, and zeros again.
-fn whole() {
-    let mut cells = [0u16; 16602];
-    ask(b"all zeros", &cells);
-    graph(&mut cells);
-    shapes(&mut cells);
-    ask(b"untouched", &cells);
-    clear(&mut cells);
-    ask(b"cleared", &cells);
-}
-
 fn main() {
-    graph_offsets();
-    form_offsets();
-    other_offsets();
+    offsets();
     lengths();
-    whole();
-    damaged();
+    let mut input = io::large_buffer();
+    let n = io::read_full(0, &mut input);
+    let at = whole(&input[..n]);
+    damages(&input[..n], at);
 }

@@ -1,17 +1,17 @@
 -- `spread` meets its contract, by the laws of each code. It falls on path entry numbers.
 use Prim.Native.Nat.{ℕ, _<_, _≤_}
-use mathlib.Core.Bool.{true, not, cond}
+use mathlib.Core.Bool.{Bool, true, not, cond}
 use mathlib.Core.List.{List}
 use mathlib.Core.Path.{_≡_, refl, sym, ap, ap₂, _∙_, subst}
 use native.Mathlib.Omega.{arith}
 use borrow.Author.Needs.{needs}
 use borrow.Fn.Kinds.{In}
 use borrow.Fn.PlainCycle.{Measures, is, falls, and}
-use Rattle.tables.specs.Layout.{pathCount, pathCodeAt, pathFirstAt, pathSecondAt}
+use Rattle.tables.specs.Layout.{pathCount, pathCodeAt}
 use Rattle.tables.specs.Decode.{pathAt}
 use Rattle.tables.specs.WellFormed.{wellFormed}
-use Rattle.paths.specs.Facts.{FactsOk, triplesOf, hops}
-use Rattle.paths.specs.Images.{abreast, withImages, withEnds}
+use Rattle.paths.specs.Facts.{FactsOk, triplesOf, edges}
+use Rattle.paths.specs.Images.{setCount, withImages, withEnds}
 use Rattle.paths.proofs.Joins.{cond-lt}
 use Rattle.paths.proofs.Entries.{inv-below, seq-below, alt-below}
 use Rattle.paths.proofs.Codes.{spread-link, spread-inv, spread-alt, spread-seq}
@@ -38,20 +38,23 @@ spread-below t = and 6 spread-kinds.ps (falls 6 spread-kinds.ps _<_ μ-spread t)
 
 -- what is asked of each callee, and what it tells
 abbrev calls : ℕ → spread-lts.Claims
-calls t = (path-code-reads.Asked, path-code-reads.Learnt, path-first-reads.Asked, path-first-reads.Learnt, path-second-reads.Asked, path-second-reads.Learnt, path-link-reads.Asked, path-link-reads.Learnt, join-link-reads.Asked, join-link-reads.Learnt, spread-below t, spread.Post, pick-reads.Asked, pick-reads.Learnt)
+calls t = (path-first-reads.Asked, path-first-reads.Learnt, path-second-reads.Asked, path-second-reads.Learnt, path-code-reads.Asked, path-code-reads.Learnt, path-link-reads.Asked, path-link-reads.Learnt, join-link-reads.Asked, join-link-reads.Learnt, spread-below t, spread.Post, pick-reads.Asked, pick-reads.Learnt)
 
--- a call at an entry below
-lower : {t e x y : ℕ} (s p o : List ℕ) (count n : ℕ) (cs : List ℕ) → e ≡ t → (FactsOk s p o count n × (wellFormed cs ≡ true) × (e < pathCount cs)) → x ≡ y → y < e → (x < t) × (FactsOk s p o count n × (wellFormed cs ≡ true) × (x < pathCount cs))
-lower s p o count n cs q pre f l = (omega arith, (pre .0, pre .1, omega (arith, pre .2)))
+-- a call at an entry below; and one of two such entries
+lower : {t e x : ℕ} (s p o : List ℕ) (count n : ℕ) (cs : List ℕ) → e ≡ t → (FactsOk s p o count n × (wellFormed cs ≡ true) × (e < pathCount cs)) → x < e → (x < t) × (FactsOk s p o count n × (wellFormed cs ≡ true) × (x < pathCount cs))
+lower s p o count n cs q pre l = (omega arith, (pre .0, pre .1, omega (arith, pre .2)))
 
-spread-path-code-requires : (t : ℕ) → spread-lts.Need-path-code-requires (calls t) (spread-at t) spread.Post
-spread-path-code-requires t c κs = search needs
+picked : {x y z e : ℕ} (b : Bool) → x ≡ cond b y z → y < e → z < e → x < e
+picked {y = y} {z = z} {e = e} b q l r = subst (λ (x : ℕ). x < e) (sym q) (cond-lt b y z e l r)
 
 spread-path-first-requires : (t : ℕ) → spread-lts.Need-path-first-requires (calls t) (spread-at t) spread.Post
 spread-path-first-requires t c κs = search needs
 
 spread-path-second-requires : (t : ℕ) → spread-lts.Need-path-second-requires (calls t) (spread-at t) spread.Post
 spread-path-second-requires t c κs = search needs
+
+spread-path-code-requires : (t : ℕ) → spread-lts.Need-path-code-requires (calls t) (spread-at t) spread.Post
+spread-path-code-requires t c κs = search needs
 
 spread-path-link-requires : (t : ℕ) → spread-lts.Need-path-link-requires (calls t) (spread-at t) spread.Post
 spread-path-link-requires t c κs = search needs
@@ -63,7 +66,7 @@ spread-spread-requires : (t : ℕ) → spread-lts.Need-spread-requires (calls t)
 spread-spread-requires t c κs =
     let a = c .before .before .before .before .before .before .before .before .before .before .before .args in
     let pre = c .before .before .before .before .before .before .before .before .before .before .before .pre .1 in
-    lower (a .s .now) (a .p .now) (a .o .now) (a .count) (a .n) (a .cells .now) (c .before .before .before .before .before .before .before .before .before .before .before .pre .0) pre (c .before .before .before .path-first .ensures) (inv-below (a .cells .now) (pre .1) (a .e) (pre .2) (sym (c .before .before .before .before .path-code .ensures) ∙ c .before .match .keys2))
+    lower (a .s .now) (a .p .now) (a .o .now) (a .len) (a .n) (a .cells .now) (c .before .before .before .before .before .before .before .before .before .before .before .pre .0) pre (omega (arith, c .before .before .before .before .path-first .ensures, inv-below (a .cells .now) (pre .1) (a .e) (pre .2) (sym (c .before .before .path-code .ensures) ∙ c .before .match .keys2)))
 
 spread-pick-requires : (t : ℕ) → spread-lts.Need-pick-requires (calls t) (spread-at t) spread.Post
 spread-pick-requires t c κs = search needs
@@ -78,8 +81,8 @@ spread-spread-requires-2 : (t : ℕ) → spread-lts.Need-spread-requires-2 (call
 spread-spread-requires-2 t c κs =
     let a = c .before .before .before .before .before .before .before .before .before .before .before .before .before .args in
     let pre = c .before .before .before .before .before .before .before .before .before .before .before .before .before .pre .1 in
-    let h = seq-below (a .cells .now) (pre .1) (a .e) (pre .2) (sym (c .before .before .before .before .before .before .path-code .ensures) ∙ c .before .before .before .match .keys3) in
-    lower (a .s .now) (a .p .now) (a .o .now) (a .count) (a .n) (a .cells .now) (c .before .before .before .before .before .before .before .before .before .before .before .before .before .pre .0) pre (c .before .before .pick .ensures ∙ ap₂ (cond (a .back)) (c .before .before .before .before .path-second .ensures) (c .before .before .before .before .before .path-first .ensures)) (cond-lt (a .back) (pathSecondAt (a .cells .now) (a .e)) (pathFirstAt (a .cells .now) (a .e)) (a .e) (h .1) (h .0))
+    let h = seq-below (a .cells .now) (pre .1) (a .e) (pre .2) (sym (c .before .before .before .before .path-code .ensures) ∙ c .before .before .before .match .keys3) in
+    lower (a .s .now) (a .p .now) (a .o .now) (a .len) (a .n) (a .cells .now) (c .before .before .before .before .before .before .before .before .before .before .before .before .before .pre .0) pre (picked (a .back) (c .before .before .pick .ensures) (omega (arith, c .before .before .before .before .before .before .path-first .ensures, c .before .before .before .before .before .path-second .ensures, h .0, h .1)) (omega (arith, c .before .before .before .before .before .before .path-first .ensures, c .before .before .before .before .before .path-second .ensures, h .0, h .1)))
 
 spread-slice-aggregate-spread-2 : (t : ℕ) → spread-lts.Need-slice-aggregate-spread-2 (calls t) (spread-at t) spread.Post
 spread-slice-aggregate-spread-2 t c = search needs
@@ -88,22 +91,24 @@ spread-spread-requires-3 : (t : ℕ) → spread-lts.Need-spread-requires-3 (call
 spread-spread-requires-3 t c κs =
     let a = c .before .before .before .before .before .before .before .before .before .before .before .before .before .before .before .before .before .args in
     let pre = c .before .before .before .before .before .before .before .before .before .before .before .before .before .before .before .before .before .pre .1 in
-    let h = seq-below (a .cells .now) (pre .1) (a .e) (pre .2) (sym (c .before .before .before .before .before .before .before .before .before .before .path-code .ensures) ∙ c .before .before .before .before .before .before .before .match .keys3) in
-    lower (a .s .now) (a .p .now) (a .o .now) (a .count) (a .n) (a .cells .now) (c .before .before .before .before .before .before .before .before .before .before .before .before .before .before .before .before .before .pre .0) pre (c .before .before .before .before .before .pick2 .ensures ∙ ap₂ (cond (a .back)) (c .before .before .before .before .before .before .before .before .before .path-first .ensures) (c .before .before .before .before .before .before .before .before .path-second .ensures)) (cond-lt (a .back) (pathFirstAt (a .cells .now) (a .e)) (pathSecondAt (a .cells .now) (a .e)) (a .e) (h .0) (h .1))
+    let h = seq-below (a .cells .now) (pre .1) (a .e) (pre .2) (sym (c .before .before .before .before .before .before .before .before .path-code .ensures) ∙ c .before .before .before .before .before .before .before .match .keys3) in
+    lower (a .s .now) (a .p .now) (a .o .now) (a .len) (a .n) (a .cells .now) (c .before .before .before .before .before .before .before .before .before .before .before .before .before .before .before .before .before .pre .0) pre (picked (a .back) (c .before .before .before .before .before .pick2 .ensures) (omega (arith, c .before .before .before .before .before .before .before .before .before .before .path-first .ensures, c .before .before .before .before .before .before .before .before .before .path-second .ensures, h .0, h .1)) (omega (arith, c .before .before .before .before .before .before .before .before .before .before .path-first .ensures, c .before .before .before .before .before .before .before .before .before .path-second .ensures, h .0, h .1)))
 
 spread-spread-requires-4 : (t : ℕ) → spread-lts.Need-spread-requires-4 (calls t) (spread-at t) spread.Post
 spread-spread-requires-4 t c κs =
     let a = c .before .before .before .before .before .before .before .before .before .before .before .args in
     let pre = c .before .before .before .before .before .before .before .before .before .before .before .pre .1 in
-    let q : 3 ≤ pathCodeAt (a .cells .now) (a .e) = omega (arith, c .before .before .before .before .path-code .ensures, c .before .match .rest) in
-    lower (a .s .now) (a .p .now) (a .o .now) (a .count) (a .n) (a .cells .now) (c .before .before .before .before .before .before .before .before .before .before .before .pre .0) pre (c .before .before .before .path-first .ensures) (alt-below (a .cells .now) (pre .1) (a .e) (pre .2) q .0)
+    let q : 3 ≤ pathCodeAt (a .cells .now) (a .e) = omega (arith, c .before .before .path-code .ensures, c .before .match .rest) in
+    let h = alt-below (a .cells .now) (pre .1) (a .e) (pre .2) q in
+    lower (a .s .now) (a .p .now) (a .o .now) (a .len) (a .n) (a .cells .now) (c .before .before .before .before .before .before .before .before .before .before .before .pre .0) pre (omega (arith, c .before .before .before .before .path-first .ensures, c .before .before .before .path-second .ensures, h .0, h .1))
 
 spread-spread-requires-5 : (t : ℕ) → spread-lts.Need-spread-requires-5 (calls t) (spread-at t) spread.Post
 spread-spread-requires-5 t c κs =
     let a = c .before .before .before .before .before .before .before .before .before .before .before .before .before .before .before .args in
     let pre = c .before .before .before .before .before .before .before .before .before .before .before .before .before .before .before .pre .1 in
-    let q : 3 ≤ pathCodeAt (a .cells .now) (a .e) = omega (arith, c .before .before .before .before .before .before .before .before .path-code .ensures, c .before .before .before .before .before .match .rest) in
-    lower (a .s .now) (a .p .now) (a .o .now) (a .count) (a .n) (a .cells .now) (c .before .before .before .before .before .before .before .before .before .before .before .before .before .before .before .pre .0) pre (c .before .before .before .before .before .before .path-second .ensures) (alt-below (a .cells .now) (pre .1) (a .e) (pre .2) q .1)
+    let q : 3 ≤ pathCodeAt (a .cells .now) (a .e) = omega (arith, c .before .before .before .before .before .before .path-code .ensures, c .before .before .before .before .before .match .rest) in
+    let h = alt-below (a .cells .now) (pre .1) (a .e) (pre .2) q in
+    lower (a .s .now) (a .p .now) (a .o .now) (a .len) (a .n) (a .cells .now) (c .before .before .before .before .before .before .before .before .before .before .before .before .before .before .before .pre .0) pre (omega (arith, c .before .before .before .before .before .before .before .before .path-first .ensures, c .before .before .before .before .before .before .before .path-second .ensures, h .0, h .1))
 
 spread-same-length : (t : ℕ) → spread-lts.Need-same-length (calls t) (spread-at t) spread.Post
 spread-same-length t c = search needs
@@ -112,8 +117,8 @@ spread-returns : (t : ℕ) → spread-lts.Need-returns (calls t) (spread-at t) s
 spread-returns t c =
     let a = c .before .before .before .before .before .before .before .before .before .before .before .before .before .before .before .args in
     let pre = c .before .before .before .before .before .before .before .before .before .before .before .before .before .before .before .pre .1 in
-    c .before .before .join-link .ensures ∙ ap (λ (l : ℕ). withImages (abreast (a .many)) (a .n) (hops (a .s .now) (a .p .now) (a .o .now) l (a .back) (a .count)) (a .from .now) (a .into .now)) (c .before .before .before .before .path-link .ensures)
-    ∙ spread-link (a .cells .now) (pre .1) (a .e) (pre .2) (a .many) (a .n) (a .back) (a .from .now) (a .into .now) (a .s .now) (a .p .now) (a .o .now) (a .count) (sym (c .before .before .before .before .before .before .before .before .path-code .ensures) ∙ c .before .before .before .before .before .match .keys1)
+    c .before .before .join-link .ensures ∙ ap (λ (l : ℕ). withImages (setCount (a .many)) (a .n) (edges (a .s .now) (a .p .now) (a .o .now) l (a .back) (a .len)) (a .from .now) (a .into .now)) (c .before .before .before .path-link .ensures)
+    ∙ spread-link (a .cells .now) (pre .1) (a .e) (pre .2) (a .many) (a .n) (a .back) (a .from .now) (a .into .now) (a .s .now) (a .p .now) (a .o .now) (a .len) (sym (c .before .before .before .before .before .before .path-code .ensures) ∙ c .before .before .before .before .before .match .keys1)
 
 spread-same-length-2 : (t : ℕ) → spread-lts.Need-same-length-2 (calls t) (spread-at t) spread.Post
 spread-same-length-2 t c = search needs
@@ -122,8 +127,8 @@ spread-returns-2 : (t : ℕ) → spread-lts.Need-returns-2 (calls t) (spread-at 
 spread-returns-2 t c =
     let a = c .before .before .before .before .before .before .before .before .before .before .before .before .before .before .args in
     let pre = c .before .before .before .before .before .before .before .before .before .before .before .before .before .before .pre .1 in
-    let ts = triplesOf (a .s .now) (a .p .now) (a .o .now) (a .count) in
-    c .before .before .spread .ensures ∙ ap (λ (x : ℕ). withEnds (abreast (a .many)) (a .n) ts (pathAt (a .cells .now) x) (not (a .back)) (a .from .now) (a .into .now)) (c .before .before .before .before .before .before .path-first .ensures) ∙ spread-inv (a .cells .now) (pre .1) (a .e) (pre .2) (a .many) (a .n) (a .back) (a .from .now) (a .into .now) ts (sym (c .before .before .before .before .before .before .before .path-code .ensures) ∙ c .before .before .before .before .match .keys2)
+    let ts = triplesOf (a .s .now) (a .p .now) (a .o .now) (a .len) in
+    c .before .before .spread .ensures ∙ ap (λ (x : ℕ). withEnds (setCount (a .many)) (a .n) ts (pathAt (a .cells .now) x) (not (a .back)) (a .from .now) (a .into .now)) (c .before .before .before .before .before .before .before .path-first .ensures) ∙ spread-inv (a .cells .now) (pre .1) (a .e) (pre .2) (a .many) (a .n) (a .back) (a .from .now) (a .into .now) ts (sym (c .before .before .before .before .before .path-code .ensures) ∙ c .before .before .before .before .match .keys2)
 
 spread-same-length-3 : (t : ℕ) → spread-lts.Need-same-length-3 (calls t) (spread-at t) spread.Post
 spread-same-length-3 t c = search needs
@@ -132,10 +137,10 @@ spread-returns-3 : (t : ℕ) → spread-lts.Need-returns-3 (calls t) (spread-at 
 spread-returns-3 t c =
     let a = c .before .before .before .before .before .before .before .before .before .before .before .before .before .before .before .before .before .before .before .before .args in
     let pre = c .before .before .before .before .before .before .before .before .before .before .before .before .before .before .before .before .before .before .before .before .pre .1 in
-    let ts = triplesOf (a .s .now) (a .p .now) (a .o .now) (a .count) in
-    c .before .before .spread3 .ensures ∙ ap (λ (m : List ℕ). withEnds (abreast (a .many)) (a .n) ts (pathAt (a .cells .now) (c .before .before .before .before .before .before .before .before .pick2 .result)) (a .back) m (a .into .now)) (c .before .before .before .before .before .before .spread2 .ensures)
-    ∙ spread-seq (a .cells .now) (pre .1) (a .e) (pre .2) (a .many) (a .n) (a .back) (a .from .now) (a .into .now) ts (pre .0 .nodes) (sym (c .before .before .before .before .before .before .before .before .before .before .before .before .before .path-code .ensures) ∙ c .before .before .before .before .before .before .before .before .before .before .match .keys3) (c .before .before .before .before .before .before .before .before .before .pick .result) (c .before .before .before .before .before .before .before .before .pick2 .result)
-    (c .before .before .before .before .before .before .before .before .before .pick .ensures ∙ ap₂ (cond (a .back)) (c .before .before .before .before .before .before .before .before .before .before .before .path-second .ensures) (c .before .before .before .before .before .before .before .before .before .before .before .before .path-first .ensures)) (c .before .before .before .before .before .before .before .before .pick2 .ensures ∙ ap₂ (cond (a .back)) (c .before .before .before .before .before .before .before .before .before .before .before .before .path-first .ensures) (c .before .before .before .before .before .before .before .before .before .before .before .path-second .ensures))
+    let ts = triplesOf (a .s .now) (a .p .now) (a .o .now) (a .len) in
+    c .before .before .spread3 .ensures ∙ ap (λ (m : List ℕ). withEnds (setCount (a .many)) (a .n) ts (pathAt (a .cells .now) (c .before .before .before .before .before .before .before .before .pick2 .result)) (a .back) m (a .into .now)) (c .before .before .before .before .before .before .spread2 .ensures)
+    ∙ spread-seq (a .cells .now) (pre .1) (a .e) (pre .2) (a .many) (a .n) (a .back) (a .from .now) (a .into .now) ts (pre .0 .nodes) (sym (c .before .before .before .before .before .before .before .before .before .before .before .path-code .ensures) ∙ c .before .before .before .before .before .before .before .before .before .before .match .keys3) (c .before .before .before .before .before .before .before .before .before .pick .result) (c .before .before .before .before .before .before .before .before .pick2 .result)
+    (c .before .before .before .before .before .before .before .before .before .pick .ensures ∙ ap₂ (cond (a .back)) (c .before .before .before .before .before .before .before .before .before .before .before .before .path-second .ensures) (c .before .before .before .before .before .before .before .before .before .before .before .before .before .path-first .ensures)) (c .before .before .before .before .before .before .before .before .pick2 .ensures ∙ ap₂ (cond (a .back)) (c .before .before .before .before .before .before .before .before .before .before .before .before .before .path-first .ensures) (c .before .before .before .before .before .before .before .before .before .before .before .before .path-second .ensures))
 
 spread-same-length-4 : (t : ℕ) → spread-lts.Need-same-length-4 (calls t) (spread-at t) spread.Post
 spread-same-length-4 t c = search needs
@@ -144,19 +149,19 @@ spread-returns-4 : (t : ℕ) → spread-lts.Need-returns-4 (calls t) (spread-at 
 spread-returns-4 t c =
     let a = c .before .before .before .before .before .before .before .before .before .before .before .before .before .before .before .before .before .before .args in
     let pre = c .before .before .before .before .before .before .before .before .before .before .before .before .before .before .before .before .before .before .pre .1 in
-    let ts = triplesOf (a .s .now) (a .p .now) (a .o .now) (a .count) in
-    let q : 3 ≤ pathCodeAt (a .cells .now) (a .e) = omega (arith, c .before .before .before .before .before .before .before .before .before .before .before .path-code .ensures, c .before .before .before .before .before .before .before .before .match .rest) in
+    let ts = triplesOf (a .s .now) (a .p .now) (a .o .now) (a .len) in
+    let q : 3 ≤ pathCodeAt (a .cells .now) (a .e) = omega (arith, c .before .before .before .before .before .before .before .before .before .path-code .ensures, c .before .before .before .before .before .before .before .before .match .rest) in
     c .before .before .spread5 .ensures
-    ∙ ap₂ (λ (x : ℕ) (m : List ℕ). withEnds (abreast (a .many)) (a .n) ts (pathAt (a .cells .now) x) (a .back) (a .from .now) m) (c .before .before .before .before .before .before .before .before .before .path-second .ensures) (c .before .before .before .before .before .before .spread4 .ensures ∙ ap (λ (x : ℕ). withEnds (abreast (a .many)) (a .n) ts (pathAt (a .cells .now) x) (a .back) (a .from .now) (a .into .now)) (c .before .before .before .before .before .before .before .before .before .before .path-first .ensures))
+    ∙ ap₂ (λ (x : ℕ) (m : List ℕ). withEnds (setCount (a .many)) (a .n) ts (pathAt (a .cells .now) x) (a .back) (a .from .now) m) (c .before .before .before .before .before .before .before .before .before .before .path-second .ensures) (c .before .before .before .before .before .before .spread4 .ensures ∙ ap (λ (x : ℕ). withEnds (setCount (a .many)) (a .n) ts (pathAt (a .cells .now) x) (a .back) (a .from .now) (a .into .now)) (c .before .before .before .before .before .before .before .before .before .before .before .path-first .ensures))
     ∙ spread-alt (a .cells .now) (pre .1) (a .e) (pre .2) (a .many) (a .n) (a .back) (a .from .now) (a .into .now) ts q
 
 pub +spread-spec : {M : Type 1} → statement M
 +spread-spec = close μ-spread λ t. spread-lts.spec (calls t)
     (spread-at t)
     spread.Post
-    (spread-path-code-requires t)
     (spread-path-first-requires t)
     (spread-path-second-requires t)
+    (spread-path-code-requires t)
     (spread-path-link-requires t)
     (spread-join-link-requires t)
     (spread-spread-requires t)

@@ -4,17 +4,12 @@ use mathlib.Core.List.{List}
 use mathlib.Core.Path.{ap₂, _∙_}
 use Rattle.model.specs.Graph.{Triple}
 use Rattle.model.specs.Paths.{endsOf}
-use Rattle.paths.specs.Images.{turned, withImage}
+use Rattle.paths.specs.Images.{converseIf, withImage}
 use Rattle.paths.specs.Ends.{endIn}
 use Rattle.paths.proofs.Parts.{lent-ok, lent-triples}
 use borrow.Author.Needs.{needs}
 use Rattle.paths.proofs.add_table_ends.Statement.{statement}
 use Rattle.paths.proofs.add_table_ends.Tie as tie
-use Rattle.paths.proofs.add_table_ends.Reads as reads
-use Rattle.paths.proofs.add_table_ends.Lts as lts
-use Rattle.paths.proofs.add_ends.Reads as add-ends-reads
-use Rattle.tables.proofs.reads.fact_count.Reads as fact-count-reads
-use Rattle.tables.proofs.reads.node_count.Reads as node-count-reads
 
 node-count-requires : tie.Need-node-count-requires
 node-count-requires c κs = search needs
@@ -62,7 +57,7 @@ returns c =
     let a = c .before .before .before .before .before .before .before .before .before .before .before .before .args in
     let cs = a .cells .now in
     c .before .before .add-ends .ensures
-    ∙ ap₂ (λ (n : ℕ) (ts : List Triple). withImage n (turned (a .back) (endsOf n ts (endIn cs (a .end)))) (a .from .now) (a .into .now)) (c .before .before .before .before .before .before .before .before .node-count .ensures) (lent-triples cs (c .before .before .before .before .before .before .before .before .before .before .before .before .pre .1) (c .before .before .before .before .before .before .before .fact-count .ensures))
+    ∙ ap₂ (λ (n : ℕ) (ts : List Triple). withImage n (converseIf (a .back) (endsOf n ts (endIn cs (a .end)))) (a .from .now) (a .into .now)) (c .before .before .before .before .before .before .before .before .node-count .ensures) (lent-triples cs (c .before .before .before .before .before .before .before .before .before .before .before .before .pre .1) (c .before .before .before .before .before .before .before .fact-count .ensures))
 
 pub add-table-ends-spec : {M : Type 1} → statement M
 add-table-ends-spec =

@@ -4,22 +4,19 @@ use mathlib.Core.Path.{_≡_, refl, _∙_}
 use native.Mathlib.Omega.{arith}
 use lib.ListN.{length}
 use borrow.Author.Needs.{needs}
-use Rattle.paths.specs.Images.{withImages, abreast}
+use Rattle.paths.specs.Images.{withImages, setCount}
 use Rattle.paths.proofs.Joins.{itself, itself-none, itself-more, itself-all}
 use Rattle.paths.proofs.join_itself.Statement.{statement}
 use Rattle.paths.proofs.join_itself.Tie as tie
-use Rattle.paths.proofs.join_itself.Reads as reads
-use Rattle.paths.proofs.join_itself.Lts as lts
-use Rattle.paths.proofs.join.Reads as join-reads
 
 abbrev Inv-loop : tie.InvT-loop
-Inv-loop into₀ many from n v₀ into v = (v ≤ n) × (length into ≡ length into₀) × (into ≡ withImages (abreast many) n (itself v) from into₀)
+Inv-loop into₀ many from n v₀ into v = (v ≤ n) × (length into ≡ length into₀) × (into ≡ withImages (setCount many) n (itself v) from into₀)
 
 abbrev μ-loop : tie.MeasureT-loop
 μ-loop into₀ many from n v₀ into v = n - v
 
 loop-holds : tie.Need-loop-holds Inv-loop μ-loop
-loop-holds c = let a = c .before .before .args in (search needs, refl, itself-none (abreast (a .many)) (a .n) (a .from .now) (a .into .now) (λ i. c .before .slice-known .given i .fits))
+loop-holds c = let a = c .before .before .args in (search needs, refl, itself-none (setCount (a .many)) (a .n) (a .from .now) (a .into .now) (λ i. c .before .slice-known .given i .fits))
 
 join-requires : tie.Need-join-requires Inv-loop μ-loop
 join-requires c κs = search needs
@@ -34,13 +31,13 @@ loop-again : tie.Need-loop-again Inv-loop μ-loop
 loop-again c =
     let a = c .before .before .before .before .before .before .before .before .args in
     let t = c .before .before .before .before .before .loop in
-    (search needs, c .before .before .join .kept .0 ∙ t .inv .1, c .before .before .join .ensures ∙ itself-more (abreast (a .many)) (a .n) (a .from .now) (a .into .now) (t .v) (search needs) (t .inv .2))
+    (search needs, c .before .before .join .kept .0 ∙ t .inv .1, c .before .before .join .ensures ∙ itself-more (setCount (a .many)) (a .n) (a .from .now) (a .into .now) (t .v) (search needs) (t .inv .2))
 
 same-length : tie.Need-same-length Inv-loop μ-loop
 same-length c = search needs
 
 returns : tie.Need-returns Inv-loop μ-loop
-returns c = let a = c .before .before .before .before .args in itself-all (abreast (a .many)) (a .n) (a .from .now) (a .into .now) (c .before .loop .v) (omega arith) (c .before .loop .inv .2)
+returns c = let a = c .before .before .before .before .args in itself-all (setCount (a .many)) (a .n) (a .from .now) (a .into .now) (c .before .loop .v) (omega arith) (c .before .loop .inv .2)
 
 pub join-itself-spec : {M : Type 1} → statement M
 join-itself-spec =

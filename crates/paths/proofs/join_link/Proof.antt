@@ -4,17 +4,14 @@ use mathlib.Core.Path.{_≡_, refl, ap, _∙_}
 use native.Mathlib.Omega.{arith}
 use lib.ListN.{length}
 use borrow.Author.Needs.{needs}
-use Rattle.paths.specs.Facts.{hops}
-use Rattle.paths.specs.Images.{withImages, abreast}
+use Rattle.paths.specs.Facts.{edges}
+use Rattle.paths.specs.Images.{withImages, setCount}
 use Rattle.paths.proofs.Joins.{facts-none, facts-more}
 use Rattle.paths.proofs.join_link.Statement.{statement}
 use Rattle.paths.proofs.join_link.Tie as tie
-use Rattle.paths.proofs.join_link.Reads as reads
-use Rattle.paths.proofs.join_link.Lts as lts
-use Rattle.paths.proofs.join_fact.Reads as join-fact-reads
 
 abbrev Inv-loop : tie.InvT-loop
-Inv-loop into₀ l back many from s p o count n i₀ into i = (i ≤ count) × (length into ≡ length into₀) × (into ≡ withImages (abreast many) n (hops s p o (l .0) back i) from into₀)
+Inv-loop into₀ l back many from s p o count n i₀ into i = (i ≤ count) × (length into ≡ length into₀) × (into ≡ withImages (setCount many) n (edges s p o (l .0) back i) from into₀)
 
 abbrev μ-loop : tie.MeasureT-loop
 μ-loop into₀ l back many from s p o count n i₀ into i = count - i
@@ -22,7 +19,7 @@ abbrev μ-loop : tie.MeasureT-loop
 loop-holds : tie.Need-loop-holds Inv-loop μ-loop
 loop-holds c =
     let a = c .before .before .before .before .before .args in
-    (search needs, refl, facts-none (a .s .now) (a .p .now) (a .o .now) (abreast (a .many)) (a .n) (a .l .0) (a .back) (a .from .now) (a .into .now) (λ i. c .before .before .before .before .slice-known .given i .fits))
+    (search needs, refl, facts-none (a .s .now) (a .p .now) (a .o .now) (setCount (a .many)) (a .n) (a .l .0) (a .back) (a .from .now) (a .into .now) (λ i. c .before .before .before .before .slice-known .given i .fits))
 
 join-fact-requires : tie.Need-join-fact-requires Inv-loop μ-loop
 join-fact-requires c κs = (c .before .before .before .before .before .before .before .before .pre, search needs)
@@ -37,7 +34,7 @@ loop-again : tie.Need-loop-again Inv-loop μ-loop
 loop-again c =
     let a = c .before .before .before .before .before .before .before .before .before .before .before .args in
     let t = c .before .before .before .before .before .loop in
-    (search needs, c .before .before .join-fact .kept .0 ∙ t .inv .1, c .before .before .join-fact .ensures ∙ facts-more (a .s .now) (a .p .now) (a .o .now) (abreast (a .many)) (a .n) (a .l .0) (a .back) (a .from .now) (a .into .now) (t .i) (t .inv .2))
+    (search needs, c .before .before .join-fact .kept .0 ∙ t .inv .1, c .before .before .join-fact .ensures ∙ facts-more (a .s .now) (a .p .now) (a .o .now) (setCount (a .many)) (a .n) (a .l .0) (a .back) (a .from .now) (a .into .now) (t .i) (t .inv .2))
 
 same-length : tie.Need-same-length Inv-loop μ-loop
 same-length c = search needs
@@ -45,8 +42,8 @@ same-length c = search needs
 returns : tie.Need-returns Inv-loop μ-loop
 returns c =
     let a = c .before .before .before .before .before .before .before .args in
-    let e : c .before .loop .i ≡ a .count = omega arith in
-    c .before .loop .inv .2 ∙ ap (λ (i : ℕ). withImages (abreast (a .many)) (a .n) (hops (a .s .now) (a .p .now) (a .o .now) (a .l .0) (a .back) i) (a .from .now) (a .into .now)) e
+    let e : c .before .loop .i ≡ a .len = omega arith in
+    c .before .loop .inv .2 ∙ ap (λ (i : ℕ). withImages (setCount (a .many)) (a .n) (edges (a .s .now) (a .p .now) (a .o .now) (a .l .0) (a .back) i) (a .from .now) (a .into .now)) e
 
 pub join-link-spec : {M : Type 1} → statement M
 join-link-spec =

@@ -4,16 +4,13 @@ use mathlib.Core.Path.{_≡_, refl, _∙_}
 use native.Mathlib.Omega.{arith}
 use lib.ListN.{length}
 use borrow.Author.Needs.{needs}
-use Rattle.base.specs.Lists.{values, valuesFrom}
+use Rattle.base.specs.Lists.{values}
 use Rattle.model.specs.Paths.{endsOf}
 use Rattle.paths.specs.Facts.{triplesOf}
 use Rattle.paths.specs.Ends.{endIn}
 use Rattle.rows.proofs.Passes.{passed, passed-none, passed-more, passed-all}
 use Rattle.rows.proofs.all_ends.Statement.{statement}
 use Rattle.rows.proofs.all_ends.Tie as tie
-use Rattle.rows.proofs.all_ends.Reads as reads
-use Rattle.rows.proofs.all_ends.Lts as lts
-use Rattle.rows.proofs.pass.Reads as pass-reads
 
 abbrev Inv-loop : tie.InvT-loop
 Inv-loop rows₀ end cells s p o count n j₀ rows j = (j ≤ 16) × (length rows ≡ length rows₀) × (rows ≡ values (passed n (endsOf n (triplesOf s p o count) (endIn cells end)) rows₀ j) (length rows₀))
@@ -22,7 +19,7 @@ abbrev μ-loop : tie.MeasureT-loop
 μ-loop rows₀ end cells s p o count n j₀ rows j = 16 - j
 
 loop-holds : tie.Need-loop-holds Inv-loop μ-loop
-loop-holds c = let a = c .before .before .before .before .before .args in (search needs, refl, passed-none (a .n) (endsOf (a .n) (triplesOf (a .s .now) (a .p .now) (a .o .now) (a .count)) (endIn (a .cells .now) (a .end))) (a .rows .now))
+loop-holds c = let a = c .before .before .before .before .before .args in (search needs, refl, passed-none (a .n) (endsOf (a .n) (triplesOf (a .s .now) (a .p .now) (a .o .now) (a .len)) (endIn (a .cells .now) (a .end))) (a .rows .now))
 
 pass-requires : tie.Need-pass-requires Inv-loop μ-loop
 pass-requires c κs = let pre = c .before .before .before .before .before .before .before .before .pre in (pre .0, pre .1, pre .2, search needs)
@@ -37,13 +34,13 @@ loop-again : tie.Need-loop-again Inv-loop μ-loop
 loop-again c =
     let a = c .before .before .before .before .before .before .before .before .before .before .before .args in
     let t = c .before .before .before .before .before .loop in
-    (search needs, c .before .before .pass .kept .0 ∙ t .inv .1, c .before .before .pass .ensures ∙ passed-more (a .n) (endsOf (a .n) (triplesOf (a .s .now) (a .p .now) (a .o .now) (a .count)) (endIn (a .cells .now) (a .end))) (a .rows .now) (c .before .before .before .before .before .before .before .before .before .before .before .pre .3) (t .j) (t .inv .2))
+    (search needs, c .before .before .pass .kept .0 ∙ t .inv .1, c .before .before .pass .ensures ∙ passed-more (a .n) (endsOf (a .n) (triplesOf (a .s .now) (a .p .now) (a .o .now) (a .len)) (endIn (a .cells .now) (a .end))) (a .rows .now) (c .before .before .before .before .before .before .before .before .before .before .before .pre .3) (t .j) (t .inv .2))
 
 same-length : tie.Need-same-length Inv-loop μ-loop
 same-length c = search needs
 
 returns : tie.Need-returns Inv-loop μ-loop
-returns c = let a = c .before .before .before .before .before .before .before .args in passed-all (a .n) (endsOf (a .n) (triplesOf (a .s .now) (a .p .now) (a .o .now) (a .count)) (endIn (a .cells .now) (a .end))) (a .rows .now) (c .before .before .before .before .before .before .before .pre .3) (c .before .loop .j) (c .before .loop .inv .2) (omega arith)
+returns c = let a = c .before .before .before .before .before .before .before .args in passed-all (a .n) (endsOf (a .n) (triplesOf (a .s .now) (a .p .now) (a .o .now) (a .len)) (endIn (a .cells .now) (a .end))) (a .rows .now) (c .before .before .before .before .before .before .before .pre .3) (c .before .loop .j) (c .before .loop .inv .2) (omega arith)
 
 pub all-ends-spec : {M : Type 1} → statement M
 all-ends-spec =

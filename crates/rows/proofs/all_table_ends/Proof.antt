@@ -10,11 +10,6 @@ use Rattle.rows.specs.Rows.{rowsOf}
 use borrow.Author.Needs.{needs}
 use Rattle.rows.proofs.all_table_ends.Statement.{statement}
 use Rattle.rows.proofs.all_table_ends.Tie as tie
-use Rattle.rows.proofs.all_table_ends.Reads as reads
-use Rattle.rows.proofs.all_table_ends.Lts as lts
-use Rattle.rows.proofs.all_ends.Reads as all-ends-reads
-use Rattle.tables.proofs.reads.fact_count.Reads as fact-count-reads
-use Rattle.tables.proofs.reads.node_count.Reads as node-count-reads
 
 node-count-requires : tie.Need-node-count-requires
 node-count-requires c κs = search needs

@@ -9,17 +9,12 @@ use Rattle.rows.proofs.Columns.{column-of}
 use borrow.Author.Needs.{needs}
 use Rattle.rows.proofs.pass.Statement.{statement}
 use Rattle.rows.proofs.pass.Tie as tie
-use Rattle.rows.proofs.pass.Reads as reads
-use Rattle.rows.proofs.pass.Lts as lts
-use Rattle.paths.proofs.follow.Reads as follow-reads
-use Rattle.rows.proofs.store_column.Reads as store-column-reads
-use Rattle.rows.proofs.unit.Reads as unit-reads
 
-slice-aggregate-unit : tie.Need-slice-aggregate-unit
-slice-aggregate-unit c = search needs
+slice-aggregate-identity : tie.Need-slice-aggregate-identity
+slice-aggregate-identity c = search needs
 
-unit-requires : tie.Need-unit-requires
-unit-requires c κs = search needs
+identity-requires : tie.Need-identity-requires
+identity-requires c κs = search needs
 
 slice-aggregate-follow : tie.Need-slice-aggregate-follow
 slice-aggregate-follow c = search needs
@@ -45,14 +40,14 @@ returns c =
     let ok = c .before .before .before .before .before .before .before .before .before .before .before .before .before .before .before .before .before .pre .0 in
     c .before .before .store-column .ensures
     ∙ ap (withColumn (a .rows .now) (a .j))
-    (column-of (a .n) (endsOf (a .n) (triplesOf (a .s .now) (a .p .now) (a .o .now) (a .count)) (endIn (a .cells .now) (a .end))) (a .j) (ok .nodes) (starts-node (a .s .now) (a .p .now) (a .o .now) (a .count) (a .n) ok (endIn (a .cells .now) (a .end))) (c .before .before .before .before .before .before .before .before .before .before .unit .ensures) (c .before .before .before .before .before .before .follow .ensures))
+    (column-of (a .n) (endsOf (a .n) (triplesOf (a .s .now) (a .p .now) (a .o .now) (a .len)) (endIn (a .cells .now) (a .end))) (a .j) (ok .nodes) (starts-node (a .s .now) (a .p .now) (a .o .now) (a .len) (a .n) ok (endIn (a .cells .now) (a .end))) (c .before .before .before .before .before .before .before .before .before .before .identity .ensures) (c .before .before .before .before .before .before .follow .ensures))
 
 pub pass-spec : {M : Type 1} → statement M
 pass-spec =
     tie.close
     (tie.spec
-    slice-aggregate-unit
-    unit-requires
+    slice-aggregate-identity
+    identity-requires
     slice-aggregate-follow
     slice-aggregate-follow-2
     follow-requires

@@ -4,14 +4,10 @@ use mathlib.Core.Path.{_≡_, refl, ap, _∙_}
 use native.Mathlib.Omega.{arith}
 use lib.ListN.{length, set}
 use borrow.Author.Needs.{needs}
-use Rattle.base.specs.Lists.{values, valuesFrom}
+use Rattle.base.specs.Lists.{values}
 use Rattle.rows.proofs.Columns.{stored, stored-none, stored-more, stored-all}
 use Rattle.rows.proofs.store_column.Statement.{statement}
 use Rattle.rows.proofs.store_column.Tie as tie
-use Rattle.rows.proofs.store_column.Reads as reads
-use Rattle.rows.proofs.store_column.Lts as lts
-use Rattle.nodeset.proofs.put_word.Reads as put-word-reads
-use Rattle.nodeset.proofs.word.Reads as word-reads
 
 abbrev Inv-loop : tie.InvT-loop
 Inv-loop rows₀ j m v₀ rows v = (v ≤ 1024) × (length rows ≡ length rows₀) × (rows ≡ values (stored rows₀ j m v) (length rows₀))

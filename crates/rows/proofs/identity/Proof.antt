@@ -1,4 +1,4 @@
--- `unit` meets its contract. The invariant: the first k targets are in their sets.
+-- `identity` meets its contract. The invariant: the first k targets are in their sets.
 use Prim.Native.Nat.{_≤_, _-_}
 use mathlib.Core.Path.{_≡_, refl, _∙_}
 use native.Mathlib.Omega.{arith}
@@ -6,11 +6,8 @@ use lib.ListN.{length}
 use borrow.Author.Needs.{needs}
 use Rattle.nodeset.specs.Words.{wordsOf}
 use Rattle.rows.proofs.Columns.{targets, targets-none, targets-more, targets-all}
-use Rattle.rows.proofs.unit.Statement.{statement}
-use Rattle.rows.proofs.unit.Tie as tie
-use Rattle.rows.proofs.unit.Reads as reads
-use Rattle.rows.proofs.unit.Lts as lts
-use Rattle.nodeset.proofs.insert.Reads as insert-reads
+use Rattle.rows.proofs.identity.Statement.{statement}
+use Rattle.rows.proofs.identity.Tie as tie
 
 abbrev Inv-loop : tie.InvT-loop
 Inv-loop t₀ j k₀ t k = (k ≤ 64) × (length t ≡ length t₀) × (t ≡ wordsOf (targets j k) 1024)
@@ -53,8 +50,8 @@ same-length c = search needs
 returns : tie.Need-returns Inv-loop μ-loop
 returns c = targets-all (c .before .before .before .args .j) (c .before .loop .k) (omega arith) (c .before .loop .inv .2)
 
-pub unit-spec : {M : Type 1} → statement M
-unit-spec =
+pub identity-spec : {M : Type 1} → statement M
+identity-spec =
     tie.close
     (tie.spec
     Inv-loop

@@ -1,0 +1,4 @@
+pub mod Terms
+pub mod Items
+pub mod Members
+pub mod Pairs

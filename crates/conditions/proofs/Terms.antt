@@ -1,0 +1,144 @@
+-- What is asked of a node's term, by the code of its kind; and the test that a form entry is, by its code.
+use Prim.Native.Nat.{ℕ, zero, suc, _+_, _≤_, _<_}
+use mathlib.Core.List.{List, [], _∷_}
+use mathlib.Core.Bool.{Bool, true, false, cond, _&&_, _||_, and-false, or-false}
+use mathlib.Core.Path.{_≡_, refl, sym, ap, ap₂, _∙_}
+use native.Mathlib.Omega.{arith}
+use lib.Dec.{eqb, ltb}
+use lib.IntN.{ℤ}
+use lib.Signed.{mag, ltZ, leZ}
+use mir.Syntax.{w64}
+use mir.Val.{toZ, ofZ}
+use mir.Facts.{toZ-ofZ}
+use lib.ListN.{getD, List·getD-map, List·getD-eq-default}
+use borrow.Author.Tests.{ne-eqb, lt-ltb, le-ltb}
+use Rattle.base.specs.Numbered.{below}
+use Rattle.model.specs.Graph.{Term, iri, blankNode, numeric, plain, tagged, valueOf, datatypeOf, languageOf, holds}
+use Rattle.model.specs.Shapes.{Shape, anIri, aBlank, aLiteral, isKind, nodeKind, datatype, satisfies, conforms, less, lessEq, sameLang}
+use Rattle.tables.specs.Layout.{nodeCount, kindAt, typeAt, langAt, numberAt, limitAt, formCodeAt, formFirstAt, formSecondAt, formThirdAt, formFourthAt}
+use Rattle.tables.specs.Entries.{entryOf}
+use Rattle.tables.specs.Decode.{termOf, termAt, graphAt, kindOf, shapeOf, entryAt, shapeAt}
+use Rattle.tables.proofs.Decode.{shape-number}
+
+-- ---- what stands in a list of five by a kind's code
+other : (k j : ℕ) → j < 5 → eqb (suc (suc (suc (suc (suc k))))) j ≡ false
+other k j l = ne-eqb (suc (suc (suc (suc (suc k))))) j (λ e. let z : ⊥ = omega arith in z)
+
+pub at-number : (b : Bool) (k : ℕ) → getD (false ∷ false ∷ b ∷ false ∷ false ∷ []) k false ≡ (eqb k 2 && b)
+at-number b zero = refl
+at-number b (suc zero) = refl
+at-number b (suc (suc zero)) = refl
+at-number b (suc (suc (suc zero))) = refl
+at-number b (suc (suc (suc (suc zero)))) = refl
+at-number b (suc (suc (suc (suc (suc k))))) = sym (ap (λ (t : Bool). t && b) (other k 2 (omega arith)))
+
+pub at-words : (b : Bool) (k : ℕ) → getD (false ∷ false ∷ false ∷ false ∷ b ∷ []) k false ≡ (eqb k 4 && b)
+at-words b zero = refl
+at-words b (suc zero) = refl
+at-words b (suc (suc zero)) = refl
+at-words b (suc (suc (suc zero))) = refl
+at-words b (suc (suc (suc (suc zero)))) = refl
+at-words b (suc (suc (suc (suc (suc k))))) = sym (ap (λ (t : Bool). t && b) (other k 4 (omega arith)))
+
+at-literals : (b d : Bool) (k : ℕ) → getD (false ∷ false ∷ b ∷ b ∷ d ∷ []) k false ≡ (((eqb k 2 || eqb k 3) && b) || (eqb k 4 && d))
+at-literals b d zero = refl
+at-literals b d (suc zero) = refl
+at-literals b d (suc (suc zero)) = sym (or-false b)
+at-literals b d (suc (suc (suc zero))) = sym (or-false b)
+at-literals b d (suc (suc (suc (suc zero)))) = refl
+at-literals b d (suc (suc (suc (suc (suc k))))) = sym (ap₂ (λ (s t : Bool). ((s || t) && b) || (eqb (suc (suc (suc (suc (suc k))))) 4 && d)) (other k 2 (omega arith)) (other k 3 (omega arith)) ∙ ap (λ (t : Bool). t && d) (other k 4 (omega arith)))
+
+at-iri : (k : ℕ) → getD (true ∷ false ∷ false ∷ false ∷ false ∷ []) k true ≡ (eqb k 0 || ltb 4 k)
+at-iri zero = refl
+at-iri (suc zero) = refl
+at-iri (suc (suc zero)) = refl
+at-iri (suc (suc (suc zero))) = refl
+at-iri (suc (suc (suc (suc zero)))) = refl
+at-iri (suc (suc (suc (suc (suc k))))) = sym (ap₂ (λ (s t : Bool). s || t) (other k 0 (omega arith)) (lt-ltb 4 (suc (suc (suc (suc (suc k))))) (omega arith)))
+
+at-blank : (k : ℕ) → getD (false ∷ true ∷ false ∷ false ∷ false ∷ []) k false ≡ eqb k 1
+at-blank zero = refl
+at-blank (suc zero) = refl
+at-blank (suc (suc zero)) = refl
+at-blank (suc (suc (suc zero))) = refl
+at-blank (suc (suc (suc (suc zero)))) = refl
+at-blank (suc (suc (suc (suc (suc k))))) = sym (other k 1 (omega arith))
+
+at-literal : (k : ℕ) → getD (false ∷ false ∷ true ∷ true ∷ true ∷ []) k false ≡ (ltb 1 k && ltb k 5)
+at-literal zero = refl
+at-literal (suc zero) = refl
+at-literal (suc (suc zero)) = refl
+at-literal (suc (suc (suc zero))) = refl
+at-literal (suc (suc (suc (suc zero)))) = refl
+at-literal (suc (suc (suc (suc (suc k))))) = sym (ap (λ (t : Bool). ltb 1 (suc (suc (suc (suc (suc k))))) && t) (le-ltb (suc (suc (suc (suc (suc k))))) 5 (omega arith)) ∙ and-false (ltb 1 (suc (suc (suc (suc (suc k)))))))
+
+-- ---- the term of a node that is there
+module _ (cs : List ℕ) (vs : List ℤ) (v : ℕ) (l : v < nodeCount cs) where
+  abbrev terms : List Term
+  terms = iri ∷ blankNode ∷ numeric (typeAt cs v) (numberAt vs v) ∷ plain (typeAt cs v) ∷ tagged (langAt cs v) ∷ []
+
+  term-by : (f : Term → Bool) → f (termAt cs vs v) ≡ getD (mathlib.Core.List.map f terms) (kindAt cs v) (f iri)
+  unfolding termAt termOf
+  term-by f = ap (λ (b : Bool). f (cond b (getD terms (kindAt cs v) iri) iri)) (lt-ltb v (nodeCount cs) l) ∙ sym (List·getD-map f terms (kindAt cs v) iri)
+
+  -- it has a number, and f holds of it; it has a language
+  pub value-test : (f : ℤ → Bool) → holds f (valueOf (termAt cs vs v)) ≡ (eqb (kindAt cs v) 2 && f (numberAt vs v))
+  unfolding holds valueOf
+  value-test f = term-by (λ a. holds f (valueOf a)) ∙ at-number (f (numberAt vs v)) (kindAt cs v)
+
+  pub language-test : (f : ℕ → Bool) → holds f (languageOf (termAt cs vs v)) ≡ (eqb (kindAt cs v) 4 && f (langAt cs v))
+  unfolding holds languageOf
+  language-test f = term-by (λ a. holds f (languageOf a)) ∙ at-words (f (langAt cs v)) (kindAt cs v)
+
+  pub datatype-test : (t k d : ℕ) → k ≡ kindAt cs v → d ≡ typeAt cs v → (((eqb k 2 || eqb k 3) && eqb t d) || (eqb k 4 && eqb t 0)) ≡ satisfies (datatype t) (termAt cs vs v)
+  unfolding satisfies holds datatypeOf
+  datatype-test t k d e f = sym (term-by (λ a. holds (eqb t) (datatypeOf a)) ∙ at-literals (eqb t (typeAt cs v)) (eqb t 0) (kindAt cs v) ∙ ap₂ (λ (k d : ℕ). ((eqb k 2 || eqb k 3) && eqb t d) || (eqb k 4 && eqb t 0)) (sym e) (sym f))
+
+  -- its kind; k is the code that was read
+  module _ (k : ℕ) (e : k ≡ kindAt cs v) {j : ℕ} where
+    pub kind-iri : j ≡ 0 → (eqb k 0 || ltb 4 k) ≡ satisfies (nodeKind (kindOf j)) (termAt cs vs v)
+    unfolding satisfies isKind kindOf
+    kind-iri q = sym (ap (λ (j : ℕ). satisfies (nodeKind (kindOf j)) (termAt cs vs v)) q ∙ term-by (isKind anIri) ∙ at-iri (kindAt cs v) ∙ ap (λ (k : ℕ). eqb k 0 || ltb 4 k) (sym e))
+
+    pub kind-blank : j ≡ 1 → eqb k 1 ≡ satisfies (nodeKind (kindOf j)) (termAt cs vs v)
+    unfolding satisfies isKind kindOf
+    kind-blank q = sym (ap (λ (j : ℕ). satisfies (nodeKind (kindOf j)) (termAt cs vs v)) q ∙ term-by (isKind aBlank) ∙ at-blank (kindAt cs v) ∙ ap (λ (k : ℕ). eqb k 1) (sym e))
+
+    pub kind-literal : 1 < j → (ltb 1 k && ltb k 5) ≡ satisfies (nodeKind (kindOf j)) (termAt cs vs v)
+    unfolding satisfies isKind kindOf
+    kind-literal q = sym (ap (λ (x : Rattle.model.specs.Shapes.Kind). isKind x (termAt cs vs v)) (List·getD-eq-default (anIri ∷ aBlank ∷ []) aLiteral q) ∙ term-by (isKind aLiteral) ∙ at-literal (kindAt cs v) ∙ ap (λ (k : ℕ). ltb 1 k && ltb k 5) (sym e))
+
+-- ---- the terms of two nodes
+module _ (cs : List ℕ) (vs : List ℤ) (x y : ℕ) (l : x < nodeCount cs) (m : y < nodeCount cs) where
+  pub less-test : (eqb (kindAt cs x) 2 && (eqb (kindAt cs y) 2 && ltZ (numberAt vs x) (numberAt vs y))) ≡ less (termAt cs vs x) (termAt cs vs y)
+  unfolding less
+  less-test = sym (value-test cs vs x l (λ p. holds (ltZ p) (valueOf (termAt cs vs y))) ∙ ap (λ (b : Bool). eqb (kindAt cs x) 2 && b) (value-test cs vs y m (ltZ (numberAt vs x))))
+
+  pub lesseq-test : (eqb (kindAt cs x) 2 && (eqb (kindAt cs y) 2 && leZ (numberAt vs x) (numberAt vs y))) ≡ lessEq (termAt cs vs x) (termAt cs vs y)
+  unfolding lessEq
+  lesseq-test = sym (value-test cs vs x l (λ p. holds (leZ p) (valueOf (termAt cs vs y))) ∙ ap (λ (b : Bool). eqb (kindAt cs x) 2 && b) (value-test cs vs y m (leZ (numberAt vs x))))
+
+  pub lang-test : (eqb (kindAt cs x) 4 && (eqb (kindAt cs y) 4 && eqb (langAt cs x) (langAt cs y))) ≡ sameLang (termAt cs vs x) (termAt cs vs y)
+  unfolding sameLang
+  lang-test = sym (language-test cs vs x l (λ p. holds (eqb p) (languageOf (termAt cs vs y))) ∙ ap (λ (b : Bool). eqb (kindAt cs x) 4 && b) (language-test cs vs y m (eqb (langAt cs x))))
+
+-- a signed number in a local, read back
+pub read-back : (x : ℤ) {y : ℤ} → mag x < 9223372036854775808 → x ≡ y → toZ w64 (ofZ w64 x) ≡ y
+read-back x f e = toZ-ofZ {w = w64} {z = x} (record { sfits = f }) ∙ e
+
+-- ---- an entry without parts, by its code
+-- k is none of the n numbers from m on
+abbrev pub NoneOf : ℕ → ℕ → ℕ → Type 0
+NoneOf k m zero = Unit {0}
+NoneOf k m (suc n) = NoneOf k m n × (k ≡ m + n → ⊥)
+
+pub past : (k m n : ℕ) → m ≤ k → NoneOf k m n → m + n ≤ k
+past k m zero l h = omega arith
+past k m (suc n) l h = let d : m + n ≤ k = past k m n l (h .0) in let ne : k ≡ m + n → ⊥ = h .1 in omega arith
+
+module _ (cs : List ℕ) (vs : List ℤ) (e v : ℕ) where
+  pub entry-by : (n : ℕ) → formCodeAt cs e ≡ n → conforms (graphAt cs vs) (shapeOf cs (entryOf n (formFirstAt cs e) (formSecondAt cs e) (formThirdAt cs e) (formFourthAt cs e) (limitAt vs e)) (below Shape.top (λ k at. shapeOf cs (entryAt cs vs k) at) e)) v ≡ conforms (graphAt cs vs) (shapeAt cs vs e) v
+  unfolding entryAt
+  entry-by n q =
+      ap (λ (k : ℕ). conforms (graphAt cs vs) (shapeOf cs (entryOf k (formFirstAt cs e) (formSecondAt cs e) (formThirdAt cs e) (formFourthAt cs e) (limitAt vs e)) (below Shape.top (λ k at. shapeOf cs (entryAt cs vs k) at) e)) v) (sym q)
+      ∙ ap (λ (s : Shape). conforms (graphAt cs vs) s v) (sym (shape-number cs e vs))

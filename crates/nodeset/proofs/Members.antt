@@ -1,0 +1,159 @@
+-- The next member of a set: what it is, and how a search finds it.
+use Prim.Native.Nat.{ℕ, zero, suc, _+_, _-_, _*_, _/_, _%_, _^_, _≤_, _<_}
+use mathlib.Core.Bool.{Bool, true, false, cond}
+use mathlib.Core.List.{List}
+use mathlib.Core.Path.{_≡_, refl, sym, ap, _∙_, subst}
+use native.Mathlib.Nat.{add-zero, add-suc, suc-add, le-of-suc-le-suc, lt-of-le-of-lt, lt-of-lt-of-le, div-eq-of-lt}
+use native.Mathlib.Numerals.{one-add, add-one}
+use native.Mathlib.Omega.{arith}
+use lib.Dec.{eqb, ltb}
+use lib.Arith.{lt-one, le-zero}
+use lib.Count.{under, trailingZeros}
+use lib.ListN.{getD}
+use lib.Pow.{shr-shr, shr-lt, shr-le, pow-mono}
+use borrow.Author.Tests.{eqb-true, ltb-true, ltb-false}
+use Rattle.base.proofs.Bools.{bool-cases, never-both}
+use Rattle.nodeset.specs.Words.{bit, has}
+use Rattle.nodeset.specs.Members.{nextOf, nextFrom}
+use Rattle.nodeset.proofs.Bits.{two, bit-zero}
+use Rattle.nodeset.proofs.Sets.{has-at}
+
+-- r is the least number from i on and below n that has p, or n where there is none
+pub record Next (p : ℕ → Bool) (i n r : ℕ) : Type 0 where
+  pub onward : i ≤ r
+  pub within : r ≤ n
+  pub none : (j : ℕ) → i ≤ j → j < r → p j ≡ false
+  pub hit : r < n → p r ≡ true
+
+module _ (p : ℕ → Bool) (n : ℕ) where
+  pub next-end : (i : ℕ) → n ≤ i → nextFrom p i n ≡ n
+  unfolding nextFrom nextOf
+  next-end i l = ap (nextOf p n) (let e : n - i ≡ 0 = omega arith in e)
+
+  -- the number i itself, or one after it
+  next-step : (i : ℕ) → i < n → nextFrom p i n ≡ cond (p i) i (nextFrom p (suc i) n)
+  unfolding nextFrom nextOf
+  next-step i l =
+      let e : n - i ≡ suc (n - suc i) = omega arith in
+      let f : n - suc (n - suc i) ≡ i = omega arith in
+      ap (nextOf p n) e ∙ ap (λ (j : ℕ). cond (p j) j (nextOf p n (n - suc i))) f
+
+  pub next-here : (i : ℕ) → i < n → p i ≡ true → nextFrom p i n ≡ i
+  next-here i l h = next-step i l ∙ ap (λ (b : Bool). cond b i (nextFrom p (suc i) n)) h
+
+  next-past : (i : ℕ) → i < n → p i ≡ false → nextFrom p i n ≡ nextFrom p (suc i) n
+  next-past i l h = next-step i l ∙ ap (λ (b : Bool). cond b i (nextFrom p (suc i) n)) h
+
+  -- k numbers that have not p
+  pub next-skip : (k i : ℕ) → i + k ≤ n → ((j : ℕ) → j < k → p (i + j) ≡ false) → nextFrom p i n ≡ nextFrom p (i + k) n
+  next-skip zero i l h = ap (λ (j : ℕ). nextFrom p j n) (sym (add-zero i))
+  next-skip (suc k) i l h =
+      next-past i (omega arith) (ap p (sym (add-zero i)) ∙ h 0 (omega arith))
+      ∙ next-skip k (suc i) (omega arith) (λ j m. ap p (suc-add i j ∙ sym (add-suc i j)) ∙ h (suc j) (omega arith))
+      ∙ ap (λ (j : ℕ). nextFrom p j n) (suc-add i k ∙ sym (add-suc i k))
+
+  pub next-none : (k i : ℕ) → i ≤ n → n - i ≤ k → ((j : ℕ) → j < k → p (i + j) ≡ false) → nextFrom p i n ≡ n
+  next-none k i l m h = next-skip (n - i) i (omega arith) (λ j q. h j (omega arith)) ∙ next-end (i + (n - i)) (omega arith)
+
+  -- what the definition finds
+  found : (k i : ℕ) → i + k ≡ n → Next p i n (nextFrom p i n)
+  found zero i e = subst (λ (r : ℕ). Next p i n r) (sym (next-end i (omega arith))) (record { onward = omega arith; within = omega arith; none = λ j a b. absurd (omega arith); hit = λ l. absurd (omega arith) })
+  found (suc k) i e = bool-cases (λ b. p i ≡ b → Next p i n (nextFrom p i n)) (p i)
+      (λ _ h. subst (λ (r : ℕ). Next p i n r) (sym (next-here i (omega arith) h)) (record { onward = omega arith; within = omega arith; none = λ j a b. absurd (omega arith); hit = λ l. h }))
+      (λ _ h. let x : Next p (suc i) n (nextFrom p (suc i) n) = found k (suc i) (omega arith) in subst (λ (r : ℕ). Next p i n r) (sym (next-past i (omega arith) h)) (record {
+        onward = omega (arith, x .onward);
+        within = x .within;
+        none = λ j a b. bool-cases (λ t. eqb i j ≡ t → p j ≡ false) (eqb i j) (λ _ q. ap p (sym (eqb-true i j q)) ∙ h) (λ _ q. let ne : i ≡ j → ⊥ = borrow.Author.Tests.eqb-false i j q in x .none j (omega arith) b) refl;
+        hit = x .hit;
+      }))
+      refl
+
+  pub next-found : (i : ℕ) → i ≤ n → Next p i n (nextFrom p i n)
+  next-found i l = found (n - i) i (omega arith)
+
+-- ---- the digits of a word from a place on
+
+-- digit i from digit k on
+bit-shr : (x k i : ℕ) → bit (x / 2 ^ k) i ≡ bit x (k + i)
+unfolding bit
+bit-shr x k i = ap (λ (y : ℕ). eqb (y % 2) 1) (shr-shr x k i)
+
+bit-high : (x m j : ℕ) → x < 2 ^ m → m ≤ j → bit x j ≡ false
+unfolding bit
+bit-high x m j l h = ap (λ (y : ℕ). eqb (y % 2) 1) (div-eq-of-lt (lt-of-lt-of-le l (pow-mono h)))
+
+bit-first : (x : ℕ) → bit x 0 ≡ eqb (x % 2) 1
+unfolding bit
+bit-first x = ap (λ (y : ℕ). eqb (y % 2) 1) (let e : x / 1 ≡ x = omega arith in e)
+
+bit-rest : (x i : ℕ) → bit x (suc i) ≡ bit (x / 2) i
+bit-rest x i = ap (bit x) (sym (one-add i)) ∙ sym (bit-shr x 1 i)
+
+-- the zeros below the lowest digit that is set, and that digit
+pub trailing-low : (k x i : ℕ) → i < trailingZeros k x → bit x i ≡ false
+unfolding trailingZeros
+trailing-low zero x i l = absurd (omega arith)
+trailing-low (suc k) x i l = go i (x % 2) refl l (λ j h. trailing-low k (x / 2) j h)
+  where
+    go : (i d : ℕ) → x % 2 ≡ d → i < under d (trailingZeros k (x / 2)) → ((j : ℕ) → j < trailingZeros k (x / 2) → bit (x / 2) j ≡ false) → bit x i ≡ false
+    go zero zero e l ih = bit-first x ∙ ap (λ (y : ℕ). eqb y 1) e
+    go (suc i) zero e l ih = bit-rest x i ∙ ih i (le-of-suc-le-suc l)
+    go i (suc d) e l ih = absurd (omega arith)
+
+pub trailing-hit : (k x : ℕ) → 0 < x → x < 2 ^ k → bit x (trailingZeros k x) ≡ true
+unfolding trailingZeros
+trailing-hit zero x a b = absurd (omega (arith, lt-one b))
+trailing-hit (suc k) x a b = go (x % 2) refl (λ h. trailing-hit k (x / 2) h (shr-lt k 1 (subst (λ (m : ℕ). x < 2 ^ m) (sym (add-one k)) b)))
+  where
+    go : (d : ℕ) → x % 2 ≡ d → (0 < x / 2 → bit (x / 2) (trailingZeros k (x / 2)) ≡ true) → bit x (under d (trailingZeros k (x / 2))) ≡ true
+    go zero e ih = bit-rest x (trailingZeros k (x / 2)) ∙ ih (omega arith)
+    go (suc zero) e ih = bit-first x ∙ ap (λ (y : ℕ). eqb y 1) e
+    go (suc (suc d)) e ih = absurd (omega arith)
+
+-- ---- the search, word by word: what the word of number i has from i on
+
+module _ (ws : List ℕ) (i : ℕ) where
+  -- the word's digits from i on
+  abbrev pub rest : ℕ
+  rest = getD ws (i / 64) 0 / 2 ^ (i % 64)
+
+  has-rest : (j : ℕ) → j < 64 - i % 64 → has ws (i + j) ≡ bit rest j
+  has-rest j l =
+      ap (has ws) (let e : i + j ≡ i / 64 * 64 + (i % 64 + j) = omega arith in e)
+      ∙ has-at ws (i / 64) (i % 64 + j) (omega arith) ∙ sym (bit-shr (getD ws (i / 64) 0) (i % 64) j)
+
+  -- nothing is left in the word
+  pub rest-none : (x : ℕ) → x ≡ rest → x ≡ 0 → (j : ℕ) → j < 64 - i % 64 → has ws (i + j) ≡ false
+  rest-none x e z j l = has-rest j l ∙ ap (λ (y : ℕ). bit y j) (sym e ∙ z) ∙ bit-zero j
+
+  module _ (x : ℕ) (e : x ≡ rest) (pos : 0 < x) (small : getD ws (i / 64) 0 < 2 ^ 64) where
+    rest-lt : x < 2 ^ (64 - i % 64)
+    rest-lt = subst (λ (y : ℕ). y < 2 ^ (64 - i % 64)) (sym e) (shr-lt (64 - i % 64) (i % 64) (subst (λ (m : ℕ). getD ws (i / 64) 0 < 2 ^ m) (let q : 64 ≡ 64 - i % 64 + i % 64 = omega arith in q) small))
+
+    x-lt : x < 2 ^ 64
+    x-lt = subst (λ (y : ℕ). y < 2 ^ 64) (sym e) (lt-of-le-of-lt (shr-le (getD ws (i / 64) 0) (i % 64)) small)
+
+    -- the lowest digit that is set lies in the word
+    place : trailingZeros 64 x < 64 - i % 64
+    place = bool-cases (λ b. ltb (trailingZeros 64 x) (64 - i % 64) ≡ b → trailingZeros 64 x < 64 - i % 64) (ltb (trailingZeros 64 x) (64 - i % 64)) (λ _ h. ltb-true (trailingZeros 64 x) (64 - i % 64) h)
+        (λ _ h. absurd (never-both (trailing-hit 64 x pos x-lt) (bit-high x (64 - i % 64) (trailingZeros 64 x) rest-lt (ltb-false (trailingZeros 64 x) (64 - i % 64) h)))) refl
+
+    pub rest-low : (j : ℕ) → j < trailingZeros 64 x → has ws (i + j) ≡ false
+    rest-low j l = has-rest j (omega (arith, place)) ∙ ap (λ (y : ℕ). bit y j) (sym e) ∙ trailing-low 64 x j l
+
+    pub rest-hit : has ws (i + trailingZeros 64 x) ≡ true
+    rest-hit = has-rest (trailingZeros 64 x) place ∙ ap (λ (y : ℕ). bit y (trailingZeros 64 x)) (sym e) ∙ trailing-hit 64 x pos x-lt
+
+  -- the search at i, where x is what the word has from i on
+  module _ (n : ℕ) (l : i < n) (x : ℕ) (e : x ≡ rest) where
+    pub search-hit : 0 < x → getD ws (i / 64) 0 < 2 ^ 64 → trailingZeros 64 x < n - i → i + trailingZeros 64 x ≡ nextFrom (has ws) i n
+    search-hit pos small h = sym (next-skip (has ws) n (trailingZeros 64 x) i (omega arith) (rest-low x e pos small) ∙ next-here (has ws) n (i + trailingZeros 64 x) (omega arith) (rest-hit x e pos small))
+
+    pub search-past : 0 < x → getD ws (i / 64) 0 < 2 ^ 64 → n - i ≤ trailingZeros 64 x → n ≡ nextFrom (has ws) i n
+    search-past pos small h = sym (next-none (has ws) n (trailingZeros 64 x) i (omega arith) h (rest-low x e pos small))
+
+    pub search-end : x ≤ 0 → n - i ≤ 64 - i % 64 → n ≡ nextFrom (has ws) i n
+    search-end z h = sym (next-none (has ws) n (64 - i % 64) i (omega arith) h (rest-none x e (le-zero z)))
+
+    pub search-on : x ≤ 0 → 64 - i % 64 < n - i → nextFrom (has ws) (i + (64 - i % 64)) n ≡ nextFrom (has ws) i n
+    search-on z h = sym (next-skip (has ws) n (64 - i % 64) i (omega arith) (rest-none x e (le-zero z)))

@@ -1,0 +1,124 @@
+// Refusal 9 on plans: whether a lent plan is well formed, for the tables that it is to be run on. Typed reads of a plan (reads).
+// Operations: plan_well_formed; it takes any content of any length, and looks at 512 steps and 65,535 rules at the most.
+pub mod reads;
+
+use crate::reads::rule_step;
+use crate::reads::step_code;
+use crate::reads::step_count;
+use crate::reads::step_first;
+use crate::reads::step_fourth;
+use crate::reads::step_second;
+use crate::reads::step_third;
+use tables::layout::NO_NUMBER;
+use tables::reads::form_code;
+use tables::reads::form_count;
+use tables::reads::link_count;
+use tables::reads::node_count;
+use tables::reads::path_count;
+use tables::reads::rule_count;
+use tables::reads::wide;
+ghost use mathlib.Core.Path.{_≡_};
+ghost use Rattle.base.specs.Bounded.{every};
+ghost use Rattle.tables.specs.WellFormed.{upperOk, endOk};
+ghost use Rattle.plan.specs.Steps.{Step};
+ghost use Rattle.plan.specs.Layout.{stepAt};
+ghost use Rattle.plan.specs.WellFormed.{testOk, closedOk, stepOk, planWellFormed};
+ghost use Rattle.plancheck.specs.Parts.{partCount, partOk};
+
+// Form entry e is there, and is a test.
+fn test_ok(cells: &[u16], e: usize) -> bool
+    ensures { λ r. ⌜ r ≡ testOk (now (cells .entry)) e ⌝ }
+{
+    let code = form_code(cells, e);
+    (e < form_count(cells)) & ((6 <= code) & (code <= 12))
+}
+
+// Form entry e is there, and is `closed`.
+fn closed_ok(cells: &[u16], e: usize) -> bool
+    ensures { λ r. ⌜ r ≡ closedOk (now (cells .entry)) e ⌝ }
+{
+    let code = form_code(cells, e);
+    (e < form_count(cells)) & (code == 17)
+}
+
+fn end_ok(cells: &[u16], p: usize) -> bool
+    ensures { λ r. ⌜ r ≡ endOk (now (cells .entry)) p ⌝ }
+{
+    (p < path_count(cells)) | (p == wide(NO_NUMBER))
+}
+
+// A Count step: a path entry, a step before step k, LO and HI. LO may be one past the limit.
+fn count_ok(cells: &[u16], k: usize, p: usize, j: usize, lo: usize, hi: usize) -> bool
+    ensures { λ r. ⌜ r ≡ stepOk (now (cells .entry)) k (Step.count p j lo hi) ⌝ }
+{
+    ((p < path_count(cells)) & (j < k))
+        & ((lo <= model::MAX_COUNT + 1) & ((hi <= model::MAX_COUNT) | (hi == wide(NO_NUMBER))))
+}
+
+fn step_ok(cells: &[u16], plan: &[u16], k: usize) -> bool
+    ensures { λ r. ⌜ r ≡ stepOk (now (cells .entry)) k (stepAt (now (plan .entry)) k) ⌝ }
+{
+    let a = step_first(plan, k);
+    let b = step_second(plan, k);
+    match step_code(plan, k) {
+        0 | 1 => true,
+        2 | 3 => a < node_count(cells),
+        4 | 5 => test_ok(cells, a),
+        6 | 7 => (a < k) & (b < k),
+        8 => count_ok(cells, k, a, b, step_third(plan, k), step_fourth(plan, k)),
+        9 => (a < path_count(cells)) & (b < k),
+        10..=13 => end_ok(cells, a) & (b < link_count(cells)),
+        14 | 15 => closed_ok(cells, a),
+        16..=19 => (a < path_count(cells)) & (b < link_count(cells)),
+        20 | 21 => a < path_count(cells),
+        22 | 23 => a < link_count(cells),
+        24 => a < node_count(cells),
+        25..=65535 => false,
+    }
+}
+
+// What is looked at number by number.
+enum Part {
+    Steps,
+    Rules,
+}
+
+fn part_count(cells: &[u16], plan: &[u16], part: Part) -> usize
+    ensures { λ r. ⌜ r ≡ partCount (now (cells .entry)) (now (plan .entry)) part ⌝ }
+{
+    match part {
+        Part::Steps => step_count(plan),
+        Part::Rules => rule_count(cells),
+    }
+}
+
+fn part_ok(cells: &[u16], plan: &[u16], part: Part, i: usize) -> bool
+    ensures { λ r. ⌜ r ≡ partOk (now (cells .entry)) (now (plan .entry)) part i ⌝ }
+{
+    match part {
+        Part::Steps => step_ok(cells, plan, i),
+        Part::Rules => rule_step(plan, i) < step_count(plan),
+    }
+}
+
+fn all_ok(cells: &[u16], plan: &[u16], part: Part) -> bool
+    ensures { λ r. ⌜ r ≡ every (partOk (now (cells .entry)) (now (plan .entry)) part) (partCount (now (cells .entry)) (now (plan .entry)) part) ⌝ }
+{
+    let n = part_count(cells, plan, part);
+    for i in 0..n {
+        if !part_ok(cells, plan, part, i) {
+            return false;
+        }
+    }
+    true
+}
+
+// Refusal 9 is for a plan of which this is false. The number of steps is looked at first.
+pub fn plan_well_formed(cells: &[u16], plan: &[u16]) -> bool
+    ensures { λ r. ⌜ r ≡ planWellFormed (now (cells .entry)) (now (plan .entry)) ⌝ }
+{
+    if model::MAX_STEPS < step_count(plan) {
+        return false;
+    }
+    all_ok(cells, plan, Part::Steps) & all_ok(cells, plan, Part::Rules)
+}

@@ -1,0 +1,4 @@
+pub mod Nodes
+pub mod Asks
+pub mod Rows
+pub mod Picks
