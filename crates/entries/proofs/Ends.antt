@@ -1,0 +1,54 @@
+-- The ends from one node and from a set, in words; and ends as the code has them.
+use Prim.Native.Nat.{ℕ, _≤_, _<_}
+use mathlib.Core.List.{List}
+use mathlib.Core.Bool.{Bool, false, cond, _&&_, _||_, and-true}
+use mathlib.Core.Path.{_≡_, refl, sym, ap, _∙_}
+use native.Mathlib.Omega.{arith}
+use lib.Dec.{eqb, ltb, leb}
+use lib.ListN.{replicate, length-replicate}
+use borrow.Author.Tests.{eq-eqb, ne-eqb, eqb-true}
+use Rattle.base.proofs.Bools.{same-test, bool-cases}
+use Rattle.base.proofs.Bounded.{some-ext, some-eq}
+use Rattle.nodeset.specs.Words.{has, wordsOf, with}
+use Rattle.nodeset.proofs.Sets.{wordsOf-ext, has-of, has-zeros, zeros, with-step}
+use Rattle.model.specs.Paths.{self, along}
+use Rattle.model.specs.Shapes.{within, atMost, unbounded}
+use Rattle.tables.specs.Layout.{pathCount}
+use Rattle.tables.specs.Decode.{pathAt, endAt, upperOf}
+use Rattle.paths.specs.Images.{image, withImage, turned}
+use Rattle.paths.specs.Ends.{endIn, endOk}
+use Rattle.paths.specs.declared.End.the-variants.{Itself, Path}
+use Rattle.entries.specs.Tables.{EndFor}
+use Rattle.entries.proofs.Codes.{end-below}
+
+-- into an empty set
+pub image-zeros : (n : ℕ) (r : ℕ → ℕ → Bool) (from : List ℕ) → withImage n (turned false r) from (replicate 16 0) ≡ wordsOf (image n r (has from)) 16
+unfolding withImage image
+image-zeros n r from = ap (wordsOf (λ w. has (replicate 16 0) w || image n r (has from) w)) (length-replicate {A = ℕ} 16 0) ∙ wordsOf-ext (λ w. has (replicate 16 0) w || image n r (has from) w) (image n r (has from)) 16 (λ w l. ap (λ (b : Bool). b || image n r (has from) w) (has-zeros 16 w))
+
+-- a set of one node
+pub single : (v : ℕ) → with (replicate 16 0) v ≡ wordsOf (λ m. eqb v m) 16
+single v = with-step (λ m. false) (λ m. eqb v m) 16 v (zeros 16) (λ m l. same-test (eqb m v) (eqb v m) (λ h. eq-eqb v m (sym (eqb-true m v h))) (λ h. eq-eqb m v (sym (eqb-true v m h))))
+
+pub image-single : (n : ℕ) (r : ℕ → ℕ → Bool) (from : List ℕ) (v : ℕ) → n ≤ 1024 → v < n → from ≡ with (replicate 16 0) v → wordsOf (image n r (has from)) 16 ≡ wordsOf (r v) 16
+unfolding image
+image-single n r from v room l e = wordsOf-ext (image n r (has from)) (r v) 16 λ w _.
+    some-ext (λ u. has from u && r u w) (λ u. eqb v u && r u w) n (λ u lu. ap (λ (b : Bool). b && r u w) (has-of (λ m. eqb v m) 16 (e ∙ single v) u (omega arith)))
+    ∙ some-eq (λ u. r u w) v n l
+
+-- the operand END
+pub end-self : {p : ℕ} → p ≡ 65535 → EndFor p Itself
+unfolding endIn endAt endOk
+end-self {p} q = record { is = λ cs. ap (λ (b : Bool). cond b self (along (pathAt cs p))) (sym (eq-eqb p 65535 q)); ok = λ cs h. refl }
+
+pub end-path : {p e : ℕ} → (p ≡ 65535 → ⊥) → e ≡ p → EndFor p (Path e)
+unfolding endIn endAt endOk
+end-path {p} {e} ne q = record {
+  is = λ cs. ap (λ (e : ℕ). along (pathAt cs e)) q ∙ ap (λ (b : Bool). cond b self (along (pathAt cs p))) (sym (ne-eqb p 65535 ne));
+  ok = λ cs h. ap (λ (e : ℕ). ltb e (pathCount cs)) q ∙ end-below cs p ne h;
+}
+
+-- LO and HI
+pub between-law : (lo hi k : ℕ) → (leb lo k && (eqb hi 65535 || leb k hi)) ≡ within lo (upperOf hi) k
+unfolding within upperOf
+between-law lo hi k = bool-cases (λ b. (leb lo k && (b || leb k hi)) ≡ within lo (cond b unbounded (atMost hi)) k) (eqb hi 65535) (λ _. and-true (leb lo k)) (λ _. refl)

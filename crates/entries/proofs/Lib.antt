@@ -1,0 +1,4 @@
+pub mod Codes
+pub mod Ends
+pub mod Sets
+pub mod Forms

@@ -1,0 +1,20 @@
+-- `between` meets its contract: 65,535 is `*`.
+use mathlib.Core.Path.{_∙_}
+use mathlib.Core.Bool.{_&&_, _||_}
+use lib.Dec.{eqb, leb}
+use Rattle.entries.proofs.Ends.{between-law}
+use borrow.Author.Needs.{needs}
+use Rattle.entries.proofs.between.Statement.{statement}
+use Rattle.entries.proofs.between.Tie as tie
+
+wide-requires : tie.Need-wide-requires
+wide-requires c κs = search needs
+
+wide-requires-2 : tie.Need-wide-requires-2
+wide-requires-2 c κs = search needs
+
+returns : tie.Need-returns
+returns c = let a = c .before .before .args in (λ i. leb (c .before .wide .ensures i) (a .k) && (eqb (a .hi) 65535 || leb (a .k) (c .wide2 .ensures i))) ∙ between-law (a .lo) (a .hi) (a .k)
+
+pub between-spec : {M : Type 1} → statement M
+between-spec = tie.close (tie.spec wide-requires wide-requires-2 returns)

@@ -1,0 +1,125 @@
+// Form entries that look along paths: whether a node conforms to one.
+//
+// For the crates above, which show that the tables are well formed:
+//   ends_from      all ends from the members of a set
+//   count_holds    `count`, with the nodes that conform to the part
+//   all_holds      `all`, likewise
+//   sets_hold      `equal`, `apart`, `less`, `lesseq`
+//   lang_holds     `onelang`
+use conditions::apart_holds;
+use conditions::equal_holds;
+use conditions::less_holds;
+use conditions::lesseq_holds;
+use conditions::onelang_holds;
+use conditions::subset_holds;
+use nodeset::NodeSet;
+use nodeset::count_both;
+use nodeset::insert;
+use paths::End;
+use paths::add_table_ends;
+use tables::layout::NO_NUMBER;
+use tables::reads::form_code;
+use tables::reads::form_first;
+use tables::reads::form_fourth;
+use tables::reads::form_link;
+use tables::reads::form_third;
+use tables::reads::node_count;
+use tables::reads::wide;
+ghost use mathlib.Core.Path.{_≡_};
+ghost use mathlib.Core.Bool.{true, _&&_};
+ghost use Prim.Native.Nat.{ℕ, _<_, _≤_};
+ghost use Rattle.base.specs.Bounded.{_⇒_, every, size};
+ghost use Rattle.nodeset.specs.Words.{has, wordsOf};
+ghost use Rattle.model.specs.Paths.{ends, endsOf};
+ghost use Rattle.model.specs.Shapes.{within, conforms};
+ghost use Rattle.tables.specs.Layout.{nodeCount, formCodeAt, formFirstAt, formThirdAt, formFourthAt};
+ghost use Rattle.tables.specs.Decode.{triplesAt, graphAt, pathAt, upperOf, shapeAt};
+ghost use Rattle.paths.specs.Images.{image};
+ghost use Rattle.paths.specs.Ends.{endIn, endOk};
+ghost use Rattle.entries.specs.Tables.{Tables, Asked, EndFor};
+
+// All ends from the members of a set.
+pub fn ends_from(cells: &[u16], end: End, from: &[u64]) -> NodeSet
+    requires { ⌜ Tables (now cells) × (endOk (now cells) end ≡ true) ⌝ }
+    ensures { λ r. ⌜ r .words ≡ wordsOf (image (nodeCount (now (cells .entry))) (endsOf (nodeCount (now (cells .entry))) (triplesAt (now (cells .entry))) (endIn (now (cells .entry)) end)) (has (now (from .entry)))) 16 ⌝ }
+{
+    let mut words = [0u64; 16];
+    add_table_ends(&mut words, end, false, from, cells);
+    NodeSet { words }
+}
+
+// The ends from node v.
+fn ends_of(cells: &[u16], end: End, v: usize) -> NodeSet
+    requires { ⌜ Tables (now cells) × (endOk (now cells) end ≡ true) × (v < nodeCount (now cells)) ⌝ }
+    ensures { λ r. ⌜ r .words ≡ wordsOf (endsOf (nodeCount (now (cells .entry))) (triplesAt (now (cells .entry))) (endIn (now (cells .entry)) end) v) 16 ⌝ }
+{
+    let mut from = [0u64; 16];
+    insert(&mut from, v);
+    ends_from(cells, end, &from)
+}
+
+// The operand END: `id` or a path entry.
+fn end_at(p: u16) -> End
+    ensures { λ r. ⌜ EndFor p r ⌝ }
+{
+    if p == NO_NUMBER {
+        End::Itself
+    } else {
+        End::Path(wide(p))
+    }
+}
+
+// k lies between LO and HI, which may be `*`.
+fn between(lo: u16, hi: u16, k: usize) -> bool
+    ensures { λ r. ⌜ r ≡ within lo (upperOf hi) k ⌝ }
+{
+    (wide(lo) <= k) & ((hi == NO_NUMBER) | (k <= wide(hi)))
+}
+
+// `count`: the ones in the end set ANDed with those that conform to the part, which are nodes.
+pub fn count_holds(cells: &[u16], e: usize, v: usize, part: &[u64]) -> bool
+    requires { ⌜ Asked (now cells) e v × (formCodeAt (now cells) e ≡ 13) × ((b : ℕ) → b < 1024 → has (now part) b ≡ true → b < nodeCount (now cells)) ⌝ }
+    ensures { λ r. ⌜ r ≡ within (formThirdAt (now (cells .entry)) e) (upperOf (formFourthAt (now (cells .entry)) e)) (size (λ b. ends (nodeCount (now (cells .entry))) (triplesAt (now (cells .entry))) (pathAt (now (cells .entry)) (formFirstAt (now (cells .entry)) e)) v b && has (now (part .entry)) b) (nodeCount (now (cells .entry)))) ⌝ }
+{
+    let set = ends_of(cells, End::Path(wide(form_first(cells, e))), v);
+    let words = set.words;
+    let k = count_both(&words, part);
+    between(form_third(cells, e), form_fourth(cells, e), k)
+}
+
+// `all`: every end conforms to the part.
+pub fn all_holds(cells: &[u16], e: usize, v: usize, part: &[u64]) -> bool
+    requires { ⌜ Asked (now cells) e v × (formCodeAt (now cells) e ≡ 14) ⌝ }
+    ensures { λ r. ⌜ r ≡ every (λ b. ends (nodeCount (now (cells .entry))) (triplesAt (now (cells .entry))) (pathAt (now (cells .entry)) (formFirstAt (now (cells .entry)) e)) v b ⇒ has (now (part .entry)) b) (nodeCount (now (cells .entry))) ⌝ }
+{
+    let set = ends_of(cells, End::Path(wide(form_first(cells, e))), v);
+    let words = set.words;
+    subset_holds(&words, part, node_count(cells))
+}
+
+// `equal`, `apart`, `less`, `lesseq`: the ends and the objects of a link.
+pub fn sets_hold(cells: &[u16], values: &[i64], e: usize, v: usize) -> bool
+    requires { ⌜ Asked (now cells) e v × (15 ≤ formCodeAt (now cells) e) × (formCodeAt (now cells) e ≤ 19) × (formCodeAt (now cells) e ≡ 17 → ⊥) ⌝ }
+    ensures { λ r. ⌜ r ≡ conforms (graphAt (now (cells .entry)) (now (values .entry))) (shapeAt (now (cells .entry)) (now (values .entry)) e) v ⌝ }
+{
+    let first = ends_of(cells, end_at(form_first(cells, e)), v);
+    let a = first.words;
+    let second = ends_of(cells, End::Link(form_link(cells, e)), v);
+    let b = second.words;
+    match form_code(cells, e) {
+        15 => equal_holds(&a, &b, node_count(cells)),
+        16 => apart_holds(&a, &b, node_count(cells)),
+        18 => less_holds(cells, values, &a, &b),
+        _ => lesseq_holds(cells, values, &a, &b),
+    }
+}
+
+// `onelang`.
+pub fn lang_holds(cells: &[u16], values: &[i64], e: usize, v: usize) -> bool
+    requires { ⌜ Asked (now cells) e v × (formCodeAt (now cells) e ≡ 20) ⌝ }
+    ensures { λ r. ⌜ r ≡ conforms (graphAt (now (cells .entry)) (now (values .entry))) (shapeAt (now (cells .entry)) (now (values .entry)) e) v ⌝ }
+{
+    let set = ends_of(cells, End::Path(wide(form_first(cells, e))), v);
+    let words = set.words;
+    onelang_holds(cells, values, &words)
+}
