@@ -44,7 +44,7 @@ ghost use Rattle.tables.specs.Decode.{termAt, triplesAt, graphAt, kindOf, items
 ghost use Rattle.conditions.specs.Pairs.{onlyListed, pairOk, partnersBelow, eachPair};
 
 // x is one of n items from number i on.
-fn listed(cells: &[u16], i: u16, n: u16, x: u16) -> bool
+pub fn listed(cells: &[u16], i: u16, n: u16, x: u16) -> bool
     ensures { λ r. ⌜ r ≡ member x (itemsAt (now (cells .entry)) i n) ⌝ }
 {
     let from = wide(i);

@@ -13,7 +13,8 @@ use Rattle.base.proofs.Bounded.{every-ext, size-ext}
 use Rattle.model.specs.Shapes.{Upper, atMost, unbounded, within, subset, noneShared, allPairs}
 use Rattle.tables.specs.Layout.{nodeCount, formCodeAt, noNumber}
 use Rattle.tables.specs.Decode.{upperOf}
-use Rattle.stepsets.specs.Asks.{asked, askOk}
+use Rattle.stepsets.specs.Asks.{nodesOf, orNot, asked, askOk}
+use Rattle.stepsets.proofs.Nodes.{nodes-ext}
 use Rattle.stepsets.specs.declared.Ask.{Ask}
 use Rattle.stepsets.specs.declared.Ask.the-variants.{Is, Test, Count, Every, Equal, Apart, Less, LessEq, OneLang}
 
@@ -49,6 +50,11 @@ module _ (cs : List ℕ) (vs : List ℤ) (few : nodeCount cs ≤ 1024) {a a′ b
   asked-ext Less = pairs-ext (nodeCount cs) ea′ eb′ _
   asked-ext LessEq = pairs-ext (nodeCount cs) ea′ eb′ _
   asked-ext OneLang = pairs-ext (nodeCount cs) ea′ ea′ _
+
+-- of each node, its own two sets
+pub where-ext : (cs : List ℕ) (vs : List ℤ) → nodeCount cs ≤ 1024 → (ask : Ask) (breaks : Bool) (a a′ b b′ : ℕ → ℕ → Bool) → ((v : ℕ) → v < nodeCount cs → (w : ℕ) → w < 1024 → a v w ≡ a′ v w) → ((v : ℕ) → v < nodeCount cs → (w : ℕ) → w < 1024 → b v w ≡ b′ v w)
+    → nodesOf (λ v. orNot breaks (asked cs vs ask (a v) (b v) v)) (nodeCount cs) ≡ nodesOf (λ v. orNot breaks (asked cs vs ask (a′ v) (b′ v) v)) (nodeCount cs)
+where-ext cs vs few ask breaks a a′ b b′ ea eb = nodes-ext (λ v. orNot breaks (asked cs vs ask (a v) (b v) v)) (λ v. orNot breaks (asked cs vs ask (a′ v) (b′ v) v)) (nodeCount cs) (λ v l. ap (orNot breaks) (asked-ext cs vs few (ea v l) (eb v l) v ask))
 
 -- ---- LO and HI as the code tests them
 pub within-code : (lo hi k : ℕ) → (leb lo k && (leb k hi || eqb hi noNumber)) ≡ within lo (upperOf hi) k

@@ -42,6 +42,10 @@ module _ (p : ℕ → Bool) where
       here m true q = ap (λ (x : Bool). (ltb m i && p m) || x) (and-true b ∙ f ∙ ap p (sym (eqb-true m i q))) ∙ with-i (ltb m i) (p m)
       here m false q = ap (λ (x : Bool). (ltb m i && p m) || x) (and-false b) ∙ or-false (ltb m i && p m) ∙ ap (λ (x : Bool). x && p m) (sym (or-false (ltb m i)))
 
+  pub nodes-length : {ws : List ℕ} (i : ℕ) → ws ≡ nodesOf p i → 16 ≡ length ws
+  unfolding nodesOf
+  nodes-length i e = sym (length-of (λ v. ltb v i && p v) 16 e)
+
   pub nodes-done : {ws : List ℕ} (i n : ℕ) → i ≡ n → ws ≡ nodesOf p i → ws ≡ nodesOf p n
   nodes-done i n e f = f ∙ ap (nodesOf p) e
 

@@ -30,6 +30,10 @@ use Rattle.stepsets.specs.declared.Pick.{Pick}
 use Rattle.stepsets.specs.declared.Pick.the-variants.{From, Into, Typed, Open}
 use Rattle.stepsets.proofs.Nodes.{grown}
 
+-- a node, and one of the first k facts picks it
+abbrev pub byFirst : List ℕ → Pick → ℕ → ℕ → Bool
+byFirst cs pick k v = ltb v (nodeCount cs) && some (λ i. eqb (nodeOf cs pick i) v && picks cs pick i) k
+
 module _ (cs : List ℕ) (ok : wellFormed cs ≡ true) (pick : Pick) where
   node-low : (pick : Pick) (i : ℕ) → i < factCount cs → nodeOf cs pick i < nodeCount cs
   unfolding nodeOf
@@ -38,17 +42,13 @@ module _ (cs : List ℕ) (ok : wellFormed cs ≡ true) (pick : Pick) where
   node-low (Typed c) i l = sound cs ok .subject i l
   node-low (Open e) i l = sound cs ok .subject i l
 
-  -- one of the first k facts picks v
-  abbrev pub byFirst : ℕ → ℕ → Bool
-  byFirst k v = ltb v (nodeCount cs) && some (λ i. eqb (nodeOf cs pick i) v && picks cs pick i) k
-
-  pub facts-none : replicate 16 0 ≡ wordsOf (byFirst 0) 16
+  pub facts-none : replicate 16 0 ≡ wordsOf (byFirst cs pick 0) 16
   unfolding some
-  facts-none = zeros 16 ∙ wordsOf-ext (λ m. false) (byFirst 0) 16 (λ m l. sym (and-false (ltb m (nodeCount cs))))
+  facts-none = zeros 16 ∙ wordsOf-ext (λ m. false) (byFirst cs pick 0) 16 (λ m l. sym (and-false (ltb m (nodeCount cs))))
 
-  pub facts-more : {ws : List ℕ} (i x : ℕ) (b : Bool) → i < factCount cs → ws ≡ wordsOf (byFirst i) 16 → x ≡ nodeOf cs pick i → b ≡ picks cs pick i → wordsOf (λ m. has ws m || (b && eqb m x)) (length ws) ≡ wordsOf (byFirst (i + 1)) 16
+  pub facts-more : {ws : List ℕ} (i x : ℕ) (b : Bool) → i < factCount cs → ws ≡ wordsOf (byFirst cs pick i) 16 → x ≡ nodeOf cs pick i → b ≡ picks cs pick i → wordsOf (λ m. has ws m || (b && eqb m x)) (length ws) ≡ wordsOf (byFirst cs pick (i + 1)) 16
   unfolding some
-  facts-more i x b l e f g = grown (byFirst i) (byFirst (i + 1)) 16 x b e (λ m h. here m (eqb m x) refl ∙ ap (λ (k : ℕ). byFirst k m) (sym (add-one i)))
+  facts-more i x b l e f g = grown (byFirst cs pick i) (byFirst cs pick (i + 1)) 16 x b e (λ m h. here m (eqb m x) refl ∙ ap (λ (k : ℕ). byFirst cs pick k m) (sym (add-one i)))
     where
       by-i : ℕ → Bool
       by-i m = some (λ i. eqb (nodeOf cs pick i) m && picks cs pick i) i
@@ -64,9 +64,9 @@ module _ (cs : List ℕ) (ok : wellFormed cs ≡ true) (pick : Pick) where
           ap (λ (c : Bool). (ltb m (nodeCount cs) && by-i m) || c) (and-false b) ∙ or-false (ltb m (nodeCount cs) && by-i m)
           ∙ ap (λ (u : Bool). ltb m (nodeCount cs) && ((u && picks cs pick i) || by-i m)) (sym (eqb-comm (nodeOf cs pick i) m ∙ ap (eqb m) (sym f) ∙ q))
 
-  pub facts-done : {ws : List ℕ} (i : ℕ) → i ≡ factCount cs → ws ≡ wordsOf (byFirst i) 16 → ws ≡ nodesOf (picked cs pick) (nodeCount cs)
+  pub facts-done : {ws : List ℕ} (i : ℕ) → i ≡ factCount cs → ws ≡ wordsOf (byFirst cs pick i) 16 → ws ≡ nodesOf (picked cs pick) (nodeCount cs)
   unfolding nodesOf picked
-  facts-done i e f = f ∙ ap (λ (k : ℕ). wordsOf (byFirst k) 16) e
+  facts-done i e f = f ∙ ap (λ (k : ℕ). wordsOf (byFirst cs pick k) 16) e
 
 -- ---- what is picked, in the words of targets and of `closed`
 module _ (cs : List ℕ) (vs : List ℤ) (v : ℕ) where

@@ -8,13 +8,29 @@
 //   facts_set     the nodes that the facts pick, in one pass over them
 //   closed_set    the nodes of which every fact has a listed link
 //   both_set, either_set   the nodes in both of two sets, in one of them
+use conditions::apart_holds;
+use conditions::equal_holds;
+use conditions::insert_if;
+use conditions::less_holds;
+use conditions::lesseq_holds;
+use conditions::listed;
+use conditions::onelang_holds;
+use conditions::subset_holds;
+use conditions::test_holds;
 use model::LinkNo;
 use model::NodeNo;
 use nodeset::NodeSet;
+use nodeset::count_both;
 use nodeset::load;
 use paths::End;
+use rows::all_table_ends;
 use tables::layout::NO_NUMBER;
+use tables::reads::fact_count;
+use tables::reads::form_first;
+use tables::reads::form_second;
+use tables::reads::node_count;
 use tables::reads::object;
+use tables::reads::predicate;
 use tables::reads::subject;
 use tables::reads::wide;
 ghost use mathlib.Core.Path.{_≡_};
@@ -60,6 +76,23 @@ fn is_within(lo: usize, hi: usize, count: usize) -> bool
 }
 
 // The answer for node v, with its two sets.
+fn ask_holds(ask: Ask, cells: &[u16], values: &[i64], a: &[u64], b: &[u64], v: usize) -> bool
+    requires { ⌜ (nodeCount (now cells) ≤ 1024) × (v < nodeCount (now cells)) × (askOk (now cells) ask ≡ true) ⌝ }
+    ensures { λ r. ⌜ r ≡ asked (now (cells .entry)) (now (values .entry)) ask (has (now (a .entry))) (has (now (b .entry))) v ⌝ }
+{
+    match ask {
+        Ask::Is(c) => v == wide(c.0),
+        Ask::Test(e) => test_holds(cells, values, e, v),
+        Ask::Count(lo, hi) => is_within(lo, hi, count_both(a, b)),
+        Ask::Every => subset_holds(a, b, node_count(cells)),
+        Ask::Equal => equal_holds(a, b, node_count(cells)),
+        Ask::Apart => apart_holds(a, b, node_count(cells)),
+        Ask::Less => less_holds(cells, values, a, b),
+        Ask::LessEq => lesseq_holds(cells, values, a, b),
+        Ask::OneLang => onelang_holds(cells, values, a),
+    }
+}
+
 // The words from a place on; none past the end.
 fn part(words: &[u64], at: usize) -> &[u64]
     ensures { λ r. ⌜ now r ≡ drop at (now (words .entry)) ⌝ }
@@ -86,8 +119,56 @@ fn or_not(breaks: bool, b: bool) -> bool
 }
 
 // The nodes of which the condition holds, or where breaks does not hold. first has a row for each node, second one where each.
+fn nodes_where(
+    ask: Ask,
+    breaks: bool,
+    cells: &[u16],
+    values: &[i64],
+    first: &[u64],
+    second: &[u64],
+    each: bool,
+) -> NodeSet
+    requires { ⌜ (nodeCount (now cells) ≤ 1024) × (askOk (now cells) ask ≡ true) ⌝ }
+    ensures { λ r. ⌜ r .words ≡ nodesOf (λ v. orNot breaks (asked (now (cells .entry)) (now (values .entry)) ask (has (drop (16 * v) (now (first .entry)))) (has (drop (cond each (16 * v) 0) (now (second .entry)))) v)) (nodeCount (now (cells .entry))) ⌝ }
+{
+    let n = node_count(cells);
+    let mut words = [0u64; 16];
+    for v in 0..n {
+        let a = part(first, 16 * v);
+        let b = part(second, place(each, v));
+        let yes = ask_holds(ask, cells, values, a, b, v);
+        insert_if(&mut words, v, or_not(breaks, yes));
+    }
+    NodeSet { words }
+}
+
 // A condition on the node alone.
+pub fn plain_set(ask: Ask, breaks: bool, cells: &[u16], values: &[i64]) -> NodeSet
+    requires { ⌜ (nodeCount (now cells) ≤ 1024) × (askOk (now cells) ask ≡ true) ⌝ }
+    ensures { λ r. ⌜ r .words ≡ nodesOf (λ v. orNot breaks (asked (now (cells .entry)) (now (values .entry)) ask (λ w. false) (λ w. false) v)) (nodeCount (now (cells .entry))) ⌝ }
+{
+    let none = [0u64; 16];
+    nodes_where(ask, breaks, cells, values, &none, &none, false)
+}
+
 // A condition on the ends of path entry p, and the set of step j in the work space.
+pub fn path_set(
+    ask: Ask,
+    breaks: bool,
+    cells: &[u16],
+    values: &[i64],
+    p: usize,
+    work: &[u64],
+    j: usize,
+) -> NodeSet
+    requires { ⌜ (cellCount ≤ length (now cells)) × (wellFormed (now cells) ≡ true) × (p < pathCount (now cells)) × (j < 65536) × (askOk (now cells) ask ≡ true) ⌝ }
+    ensures { λ r. ⌜ r .words ≡ nodesOf (λ v. orNot breaks (asked (now (cells .entry)) (now (values .entry)) ask (from (graphAt (now (cells .entry)) (now (values .entry))) (pathAt (now (cells .entry)) p) v) (has (drop (16 * j) (now (work .entry)))) v)) (nodeCount (now (cells .entry))) ⌝ }
+{
+    let mut rows = [0u64; 16384];
+    all_table_ends(&mut rows, End::Path(p), cells);
+    nodes_where(ask, breaks, cells, values, &rows, part(work, 16 * j), false)
+}
+
 // END of a pair condition: 65,535 is `id`, another number a path entry.
 fn end_of(f: usize) -> End
     ensures { λ r. ⌜ EndOf f r ⌝ }
@@ -99,6 +180,24 @@ fn end_of(f: usize) -> End
 }
 
 // A condition on the ends of END f and those of link l.
+pub fn ends_set(
+    ask: Ask,
+    breaks: bool,
+    cells: &[u16],
+    values: &[i64],
+    f: usize,
+    l: LinkNo,
+) -> NodeSet
+    requires { ⌜ (cellCount ≤ length (now cells)) × (wellFormed (now cells) ≡ true) × (endOk (now cells) f ≡ true) × (askOk (now cells) ask ≡ true) ⌝ }
+    ensures { λ r. ⌜ r .words ≡ nodesOf (λ v. orNot breaks (asked (now (cells .entry)) (now (values .entry)) ask (starts (graphAt (now (cells .entry)) (now (values .entry))) (endAt (now (cells .entry)) f) v) (objects (graphAt (now (cells .entry)) (now (values .entry))) (l .0) v) v)) (nodeCount (now (cells .entry))) ⌝ }
+{
+    let mut first = [0u64; 16384];
+    all_table_ends(&mut first, end_of(f), cells);
+    let mut second = [0u64; 16384];
+    all_table_ends(&mut second, End::Link(l), cells);
+    nodes_where(ask, breaks, cells, values, &first, &second, true)
+}
+
 // The node that fact i picks, where it picks one.
 fn node_of(pick: Pick, cells: &[u16], i: usize) -> usize
     ensures { λ r. ⌜ r ≡ nodeOf (now (cells .entry)) pick i ⌝ }
@@ -112,8 +211,42 @@ fn node_of(pick: Pick, cells: &[u16], i: usize) -> usize
 }
 
 // Fact i picks one.
+fn picks_one(pick: Pick, cells: &[u16], i: usize) -> bool
+    ensures { λ r. ⌜ r ≡ picks (now (cells .entry)) pick i ⌝ }
+{
+    let p = predicate(cells, i);
+    let o = object(cells, i);
+    match pick {
+        Pick::From(l) => p.0 == l.0,
+        Pick::Into(l) => p.0 == l.0,
+        Pick::Typed(c) => (p.0 == 0) & (o.0 == c.0),
+        Pick::Open(e) => !listed(cells, form_first(cells, e), form_second(cells, e), p.0),
+    }
+}
+
 // The nodes that the facts pick.
+pub fn facts_set(pick: Pick, cells: &[u16]) -> NodeSet
+    requires { ⌜ wellFormed (now cells) ≡ true ⌝ }
+    ensures { λ r. ⌜ r .words ≡ nodesOf (picked (now (cells .entry)) pick) (nodeCount (now (cells .entry))) ⌝ }
+{
+    let count = fact_count(cells);
+    let mut words = [0u64; 16];
+    for i in 0..count {
+        let v = node_of(pick, cells, i);
+        insert_if(&mut words, v, picks_one(pick, cells, i));
+    }
+    NodeSet { words }
+}
+
 // The nodes of which every fact has a link that form entry e lists.
+pub fn closed_set(cells: &[u16], e: usize) -> NodeSet
+    requires { ⌜ wellFormed (now cells) ≡ true ⌝ }
+    ensures { λ r. ⌜ r .words ≡ nodesOf (λ v. not (picked (now (cells .entry)) (Pick.Open e) v)) (nodeCount (now (cells .entry))) ⌝ }
+{
+    let n = node_count(cells);
+    NodeSet::whole(n).difference(facts_set(Pick::Open(e), cells))
+}
+
 // The nodes below n in the sets of steps i and j; in one of them.
 pub fn both_set(work: &[u64], i: usize, j: usize, n: usize) -> NodeSet
     requires { ⌜ (i < 65536) × (j < 65536) ⌝ }

@@ -1,0 +1,88 @@
+use Prim.Native.Nat.{ℕ, _≤_, _<_, _-_, _*_}
+use mathlib.Core.Bool.{Bool, cond}
+use mathlib.Core.List.{List}
+use mathlib.Core.Path.{_≡_, sym, ap, ap₂, _∙_}
+use native.Mathlib.Omega.{arith}
+use borrow.Author.Needs.{needs}
+use denote.Ref.{now}
+use lib.Dec.{ltb}
+use lib.ListN.{drop}
+use Rattle.nodeset.specs.Words.{has}
+use Rattle.nodeset.proofs.Sets.{length-of}
+use Rattle.stepsets.specs.Asks.{nodesOf, orNot, asked}
+use Rattle.stepsets.proofs.Nodes.{nodes-none, nodes-more, nodes-done, nodes-length}
+use Rattle.stepsets.proofs.nodes_where.Statement.{statement}
+use Rattle.stepsets.proofs.nodes_where.Tie as tie
+
+abbrev Inv-loop : tie.InvT-loop
+Inv-loop ask breaks cells values first second each n words₀ v₀ words v = (v ≤ n) × (words ≡ nodesOf (λ u. orNot breaks (asked cells values ask (has (drop (16 * u) first)) (has (drop (cond each (16 * u) 0) second)) u)) v)
+
+abbrev μ-loop : tie.MeasureT-loop
+μ-loop ask breaks cells values first second each n words₀ v₀ words v = n - v
+
+node-count-requires : tie.Need-node-count-requires Inv-loop μ-loop
+node-count-requires c κs = search needs
+
+loop-holds : tie.Need-loop-holds Inv-loop μ-loop
+loop-holds c = (omega arith, nodes-none (λ u. orNot (c .before .before .before .before .args .breaks) (asked (now (c .before .before .before .before .args .cells)) (now (c .before .before .before .before .args .values)) (c .before .before .before .before .args .ask) (has (drop (16 * u) (now (c .before .before .before .before .args .first)))) (has (drop (cond (c .before .before .before .before .args .each) (16 * u) 0) (now (c .before .before .before .before .args .second)))) u)))
+
+mul-part : tie.Need-mul-part Inv-loop μ-loop
+mul-part c = omega (arith, c .before .before .before .before .before .before .pre .0, c .before .before .node-count .ensures)
+
+part-requires : tie.Need-part-requires Inv-loop μ-loop
+part-requires c κs = search needs
+
+place-requires : tie.Need-place-requires Inv-loop μ-loop
+place-requires c κs = omega (arith, c .before .before .before .before .before .before .before .pre .0, c .before .before .before .node-count .ensures)
+
+part-requires-2 : tie.Need-part-requires-2 Inv-loop μ-loop
+part-requires-2 c κs = search needs
+
+ask-holds-requires : tie.Need-ask-holds-requires Inv-loop μ-loop
+ask-holds-requires c κs = (c .before .before .before .before .before .before .before .before .before .pre .0, omega (arith, c .before .before .before .before .before .node-count .ensures), c .before .before .before .before .before .before .before .before .before .pre .1)
+
+slice-aggregate-insert-if : tie.Need-slice-aggregate-insert-if Inv-loop μ-loop
+slice-aggregate-insert-if c = nodes-length (λ u. orNot (c .before .before .before .before .before .before .before .before .before .before .before .args .breaks) (asked (now (c .before .before .before .before .before .before .before .before .before .before .before .args .cells)) (now (c .before .before .before .before .before .before .before .before .before .before .before .args .values)) (c .before .before .before .before .before .before .before .before .before .before .before .args .ask) (has (drop (16 * u) (now (c .before .before .before .before .before .before .before .before .before .before .before .args .first)))) (has (drop (cond (c .before .before .before .before .before .before .before .before .before .before .before .args .each) (16 * u) 0) (now (c .before .before .before .before .before .before .before .before .before .before .before .args .second)))) u)) (c .before .before .before .before .before .before .loop .v) (c .before .before .before .before .before .before .loop .inv .1)
+
+or-not-requires : tie.Need-or-not-requires Inv-loop μ-loop
+or-not-requires c κs = search needs
+
+insert-if-requires : tie.Need-insert-if-requires Inv-loop μ-loop
+insert-if-requires c κs = search needs
+
+add-v : tie.Need-add-v Inv-loop μ-loop
+add-v c = omega arith
+
+loop-less : tie.Need-loop-less Inv-loop μ-loop
+loop-less c = omega arith
+
+loop-again : tie.Need-loop-again Inv-loop μ-loop
+loop-again c = (
+  omega arith,
+  c .before .insert-if .ensures ∙ nodes-more (λ u. orNot (c .before .before .before .before .before .before .before .before .before .before .before .before .before .before .args .breaks) (asked (now (c .before .before .before .before .before .before .before .before .before .before .before .before .before .before .args .cells)) (now (c .before .before .before .before .before .before .before .before .before .before .before .before .before .before .args .values)) (c .before .before .before .before .before .before .before .before .before .before .before .before .before .before .args .ask) (has (drop (16 * u) (now (c .before .before .before .before .before .before .before .before .before .before .before .before .before .before .args .first)))) (has (drop (cond (c .before .before .before .before .before .before .before .before .before .before .before .before .before .before .args .each) (16 * u) 0) (now (c .before .before .before .before .before .before .before .before .before .before .before .before .before .before .args .second)))) u)) (c .before .before .before .before .before .before .before .before .before .loop .v) (c .before .before .or-not .result) (c .before .before .before .before .before .before .before .before .before .loop .inv .1)
+      (c .before .before .or-not .ensures ∙ ap (orNot (c .before .before .before .before .before .before .before .before .before .before .before .before .before .before .args .breaks)) (c .before .before .before .before .ask-holds .ensures ∙ ap₂ (λ (x y : List ℕ). asked (now (c .before .before .before .before .before .before .before .before .before .before .before .before .before .before .args .cells)) (now (c .before .before .before .before .before .before .before .before .before .before .before .before .before .before .args .values)) (c .before .before .before .before .before .before .before .before .before .before .before .before .before .before .args .ask) (has x) (has y) (c .before .before .before .before .before .before .before .before .before .loop .v)) (c .before .before .before .before .before .before .before .part .ensures) (c .before .before .before .before .before .part2 .ensures ∙ ap (λ (k : ℕ). drop k (now (c .before .before .before .before .before .before .before .before .before .before .before .before .before .before .args .second))) (c .before .before .before .before .before .before .place .ensures)))),
+)
+
+returns : tie.Need-returns Inv-loop μ-loop
+returns c = nodes-done (λ u. orNot (c .before .before .before .before .before .before .args .breaks) (asked (now (c .before .before .before .before .before .before .args .cells)) (now (c .before .before .before .before .before .before .args .values)) (c .before .before .before .before .before .before .args .ask) (has (drop (16 * u) (now (c .before .before .before .before .before .before .args .first)))) (has (drop (cond (c .before .before .before .before .before .before .args .each) (16 * u) 0) (now (c .before .before .before .before .before .before .args .second)))) u)) (c .before .loop .v) _ (omega (arith, c .before .before .node-count .ensures)) (c .before .loop .inv .1)
+
+pub nodes-where-spec : {M : Type 1} → statement M
+nodes-where-spec =
+    tie.close
+    (tie.spec
+    Inv-loop
+    μ-loop
+    node-count-requires
+    loop-holds
+    mul-part
+    part-requires
+    place-requires
+    part-requires-2
+    ask-holds-requires
+    slice-aggregate-insert-if
+    or-not-requires
+    insert-if-requires
+    add-v
+    loop-less
+    loop-again
+    returns)
