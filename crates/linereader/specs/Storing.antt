@@ -1,0 +1,133 @@
+-- What the reader of a line answers and stores, for what the grammar's reading gives.
+use Prim.Native.Nat.{ℕ, zero, suc, _+_, _≤_, _<_}
+use mathlib.Core.Path.{_≡_}
+use mathlib.Core.List.{List}
+use mathlib.Core.Bool.{Bool, cond, _||_}
+use lib.Dec.{eqb}
+use lib.ListN.{length, getD, drop, set}
+use lib.IntN.{ℤ}
+use Rattle.model.specs.Graph.{Term, iri, blankNode}
+use Rattle.model.specs.Books.{Name, Line, link, type, lang, node, fact, shape, rule, Book, Pool, nodes, links, types, langs, shapes}
+use Rattle.model.specs.Shapes.{top}
+use Rattle.model.specs.Rules.{Target}
+use Rattle.model.specs.Sizes.{formEntries, shapePaths, listItems}
+use Rattle.tables.specs.Layout.{nameCount, cellCount, valueCount}
+use Rattle.encoding.specs.Rows.{nodeRow, targetCode, targetOperand}
+use Rattle.grammar.specs.Syntax.{LineCode, linkL, typeL, langL, thingL, blankL, shapeL, lineFamily}
+use Rattle.grammar.specs.Reading.{Read, got, refused, andThen, closeAt, bodyAt, readersAt, lineRoom, begunAbove}
+use Rattle.stores.specs.Lines.{lineNames, lineCells, lineValues}
+use Rattle.itemreader.specs.declared.Counts.{Counts}
+use Rattle.itemreader.specs.declared.Item.{Item}
+use Rattle.linereader.specs.declared.LineAnswer.{LineAnswer}
+use Rattle.linereader.specs.declared.TargetAnswer.{TargetAnswer}
+use Rattle.linereader.specs.declared.Node.{Node}
+
+-- ---- the counts
+-- one name more in a pool
+abbrev pub named : Pool → Counts → Counts
+named nodes c = record { nodes = c .nodes + 1; links = c .links; types = c .types; langs = c .langs; shapes = c .shapes; facts = c .facts; paths = c .paths; forms = c .forms; items = c .items; rules = c .rules }
+named links c = record { nodes = c .nodes; links = c .links + 1; types = c .types; langs = c .langs; shapes = c .shapes; facts = c .facts; paths = c .paths; forms = c .forms; items = c .items; rules = c .rules }
+named types c = record { nodes = c .nodes; links = c .links; types = c .types + 1; langs = c .langs; shapes = c .shapes; facts = c .facts; paths = c .paths; forms = c .forms; items = c .items; rules = c .rules }
+named langs c = record { nodes = c .nodes; links = c .links; types = c .types; langs = c .langs + 1; shapes = c .shapes; facts = c .facts; paths = c .paths; forms = c .forms; items = c .items; rules = c .rules }
+named shapes c = record { nodes = c .nodes; links = c .links; types = c .types; langs = c .langs; shapes = c .shapes + 1; facts = c .facts; paths = c .paths; forms = c .forms; items = c .items; rules = c .rules }
+
+-- with a line
+abbrev pub counted : Line → Counts → Counts
+counted (link n) c = named links c
+counted (type n) c = named types c
+counted (lang n) c = named langs c
+counted (node n t) c = named nodes c
+counted (fact t) c = record { nodes = c .nodes; links = c .links; types = c .types; langs = c .langs; shapes = c .shapes; facts = c .facts + 1; paths = c .paths; forms = c .forms; items = c .items; rules = c .rules }
+counted (shape n φ) c = record { nodes = c .nodes; links = c .links; types = c .types; langs = c .langs; shapes = c .shapes + 1; facts = c .facts; paths = c .paths + shapePaths φ; forms = c .forms + formEntries φ; items = c .items + listItems φ; rules = c .rules }
+counted (rule r) c = record { nodes = c .nodes; links = c .links; types = c .types; langs = c .langs; shapes = c .shapes; facts = c .facts; paths = c .paths; forms = c .forms; items = c .items; rules = c .rules + 1 }
+
+-- facts, rules and entries within their limits
+pub record Fits (c : Counts) : Type 0 where
+  pub fact-limit : c .facts ≤ 4096
+  pub rule-limit : c .rules ≤ 32
+  pub form-limit : c .forms ≤ 112
+  pub path-limit : c .paths ≤ 128
+  pub item-limit : c .items ≤ 128
+
+-- ---- a line from the end of its word on
+-- the LF after a line
+abbrev pub endLine : List ℕ → Line → ℕ → Read Line
+endLine s l next = cond (eqb (getD s next 0) 10) (got l (next + 1)) (refused 2)
+
+-- the closing bracket of a line and its LF
+unfoldable pub lineEnd : List ℕ → Book → Bool → Line → ℕ → Read Line
+lineEnd s a room l at = andThen (closeAt s a room l at) (endLine s)
+
+-- what follows the word of a line: its arguments, its closing bracket and its LF
+unfoldable pub lineBody : List ℕ → Book → LineCode → ℕ → Read Line
+lineBody s a c at = andThen (bodyAt s a lineFamily (readersAt s a 31) (lineRoom s a) c (begunAbove s a) at) (endLine s)
+
+-- ---- answers
+abbrev pub endedWith : Counts → Read Line → LineAnswer
+endedWith c (got l next) = LineAnswer.Next next c
+endedWith c (refused k) = LineAnswer.No k
+
+abbrev pub refusalOf : Item → ℕ
+refusalOf (Item.Is x next) = 0
+refusalOf (Item.No k) = k
+
+-- r: the answer for a line after the book a; then each table before and after. What is stored is the line's; a refusal
+-- leaves the tables free up to their limits.
+abbrev pub Done : Book → Counts → Read Line → LineAnswer → (ns ns′ cs cs′ : List ℕ) (vs vs′ : List ℤ) → Type 0
+Done a c (got l next) r ns ns′ cs cs′ vs vs′ = (r ≡ LineAnswer.Next next (counted l c)) × (ns′ ≡ lineNames a l ns) × (cs′ ≡ lineCells a l cs) × (vs′ ≡ lineValues a l vs)
+Done a c (refused k) r ns ns′ cs cs′ vs vs′ = (r ≡ LineAnswer.No k) × (drop nameCount ns′ ≡ drop nameCount ns) × (drop cellCount cs′ ≡ drop cellCount cs) × (drop valueCount vs′ ≡ drop valueCount vs)
+
+-- ---- the lines that hold a name and nothing else, by their pool
+abbrev pub loneCode : Pool → LineCode
+loneCode nodes = thingL
+loneCode links = linkL
+loneCode types = typeL
+loneCode langs = langL
+loneCode shapes = shapeL
+
+-- only links, types and langs have such lines
+abbrev pub Lone : Pool → Type 0
+Lone nodes = ⊥
+Lone links = Unit {0}
+Lone types = Unit {0}
+Lone langs = Unit {0}
+Lone shapes = ⊥
+
+abbrev pub loneLine : Pool → Name → Line
+loneLine nodes w = node w iri
+loneLine links w = link w
+loneLine types w = type w
+loneLine langs w = lang w
+loneLine shapes w = shape w top
+
+-- ---- nodes
+-- thing and blank, by their kind
+abbrev pub resourceTerm : ℕ → Term
+resourceTerm zero = iri
+resourceTerm (suc k) = blankNode
+
+abbrev pub resourceCode : ℕ → LineCode
+resourceCode zero = thingL
+resourceCode (suc k) = blankL
+
+-- a node of the code and a value are what the tables say of a term
+abbrev pub Row : Node → ℤ → Term → Type 0
+Row x v t = (x .kind ≡ nodeRow t .kind) × (x .datatype ≡ nodeRow t .type) × (x .lang ≡ nodeRow t .lang) × (v ≡ nodeRow t .value)
+
+-- ---- targets
+-- the pool of the name in target number k
+abbrev pub operandPool : ℕ → Pool
+operandPool k = cond (eqb k 1 || eqb k 2) links nodes
+
+abbrev pub targetAnswer : Read Target → TargetAnswer
+targetAnswer (got t next) = TargetAnswer.Is (targetCode t) (targetOperand t) next
+targetAnswer (refused k) = TargetAnswer.No k
+
+-- a code below 4, an operand below a bound, a position in a text of a length
+abbrev pub Targeted : ℕ → ℕ → TargetAnswer → Type 0
+Targeted bound len (TargetAnswer.Is code k next) = (code < 4) × (k < bound) × (next ≤ len)
+Targeted bound len (TargetAnswer.No k) = Unit {0}
+
+-- three cells of a row
+unfoldable pub put₃ : (i j k x y z : ℕ) → List ℕ → List ℕ
+put₃ i j k x y z cs = set (set (set cs i x) j y) k z
