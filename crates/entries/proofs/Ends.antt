@@ -15,14 +15,14 @@ use Rattle.model.specs.Paths.{self, along}
 use Rattle.model.specs.Shapes.{within, atMost, unbounded}
 use Rattle.tables.specs.Layout.{pathCount}
 use Rattle.tables.specs.Decode.{pathAt, endAt, upperOf}
-use Rattle.paths.specs.Images.{image, withImage, turned}
+use Rattle.paths.specs.Images.{image, withImage, converseIf}
 use Rattle.paths.specs.Ends.{endIn, endOk}
 use Rattle.paths.specs.declared.End.the-variants.{Itself, Path}
 use Rattle.entries.specs.Tables.{EndFor}
 use Rattle.entries.proofs.Codes.{end-below}
 
 -- into an empty set
-pub image-zeros : (n : ℕ) (r : ℕ → ℕ → Bool) (from : List ℕ) → withImage n (turned false r) from (replicate 16 0) ≡ wordsOf (image n r (has from)) 16
+pub image-zeros : (n : ℕ) (r : ℕ → ℕ → Bool) (from : List ℕ) → withImage n (converseIf false r) from (replicate 16 0) ≡ wordsOf (image n r (has from)) 16
 unfolding withImage image
 image-zeros n r from = ap (wordsOf (λ w. has (replicate 16 0) w || image n r (has from) w)) (length-replicate {A = ℕ} 16 0) ∙ wordsOf-ext (λ w. has (replicate 16 0) w || image n r (has from) w) (image n r (has from)) 16 (λ w l. ap (λ (b : Bool). b || image n r (has from) w) (has-zeros 16 w))
 

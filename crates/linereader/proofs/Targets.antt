@@ -18,8 +18,8 @@ use Rattle.itemreader.proofs.Heads.{restAt, rest-none, rest-got, rest-refused, 
 use Rattle.linereader.specs.declared.TargetAnswer.{TargetAnswer}
 use Rattle.linereader.specs.Storing.{operandPool, targetAnswer, Targeted}
 
-pub headed-is : (count left len : ℕ) (r : Head) (k end : ℕ) → Headed count left len r → r ≡ Head.Word k end → (k < count) × (0 < left) × (end ≤ len)
-headed-is count left len r k end h e = subst (λ (x : Head). Headed count left len x) e h
+pub headed-is : (count left len : ℕ) (r : Head) (k end : ℕ) → Headed count left false len r → r ≡ Head.Word k end → (k < count) × (0 < left) × (end ≤ len)
+headed-is count left len r k end h e = let w = subst (λ (x : Head). Headed count left false len x) e h in (w .0, w .1, w .3)
 
 pub targeted-is : (bound len : ℕ) (r : TargetAnswer) (code k next : ℕ) → Targeted bound len r → r ≡ TargetAnswer.Is code k next → (code < 4) × (k < bound) × (next ≤ len)
 targeted-is bound len r code k next h e = subst (λ (x : TargetAnswer). Targeted bound len x) e h
