@@ -377,7 +377,7 @@ fn bad_tables() {
     bad_cell(b"an unknown path code:", layout::PATH_CODES + 6, 4);
 }
 
-// Grounds of 9 in a plan, and what is none.
+// Grounds of 9 in a plan.
 fn bad_plans() {
     bad_step(b"513 steps:", 0, 513);
     bad_step(b"a rule's step that is none:", plan::RULE_STEPS, 45);
