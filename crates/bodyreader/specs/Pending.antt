@@ -1,3 +1,3 @@
 -- What is not proved yet.
-abbrev pub Pending : Type 0
+unfoldable pub Pending : Type 0
 Pending = ⊥

@@ -314,7 +314,13 @@ pub fn words_line(
 }
 
 // `(fact S P O)`.
-pub fn fact_line(cells: &mut [u16], names: &[u8], counts: Counts, book: &[u8], at: usize) -> LineAnswer
+pub fn fact_line(
+    cells: &mut [u16],
+    names: &[u8],
+    counts: Counts,
+    book: &[u8],
+    at: usize,
+) -> LineAnswer
     requires { ⌜ (at ≤ length (now book)) × (45056 ≤ length (now names)) × (16602 ≤ length (now cells)) × Limits counts × Fits counts ⌝ }
     ensures { λ r. ⌜ ((a : Book) (vs : List ℤ) → Held (now (names .entry)) counts a → Kinds (now (cells .entry)) a → Done a counts (lineBody (now (book .entry)) a factL at) r (now (names .entry)) (now (names .entry)) (now (cells .entry)) (now (cells .exit)) vs vs) ⌝ }
 {
@@ -384,7 +390,13 @@ fn read_target(names: &[u8], counts: Counts, book: &[u8], at: usize) -> TargetAn
 }
 
 // `(rule S TARGET)`.
-pub fn rule_line(cells: &mut [u16], names: &[u8], counts: Counts, book: &[u8], at: usize) -> LineAnswer
+pub fn rule_line(
+    cells: &mut [u16],
+    names: &[u8],
+    counts: Counts,
+    book: &[u8],
+    at: usize,
+) -> LineAnswer
     requires { ⌜ (at ≤ length (now book)) × (45056 ≤ length (now names)) × (16602 ≤ length (now cells)) × Limits counts × Fits counts ⌝ }
     ensures { λ r. ⌜ ((a : Book) (vs : List ℤ) → Held (now (names .entry)) counts a → Done a counts (lineBody (now (book .entry)) a ruleL at) r (now (names .entry)) (now (names .entry)) (now (cells .entry)) (now (cells .exit)) vs vs) ⌝ }
 {

@@ -9,16 +9,15 @@ use lib.Dec.{ltb, leb}
 use lib.ListN.{length, drop, getD, length-append}
 use lib.Seq.{drop-at}
 use lib.IntN.{ℤ, pos}
-use borrow.Author.Tests.{lt-ltb, le-ltb}
+use borrow.Author.Tests.{ltb-true, ltb-false, lt-ltb, le-ltb, lt-leb, le-leb}
 use Rattle.base.specs.Columns.{flat}
-use Rattle.base.proofs.Bools.{and-left}
+use Rattle.base.proofs.Bools.{bool-cases, and-left}
 use Rattle.base.proofs.Columns.{length-flat}
 use Rattle.text.specs.Items.{isName}
 use Rattle.text.specs.Pool.{find, indexOf}
 use Rattle.model.specs.Books.{Name, Line, Book, Pool, nodes, links, types, langs, shapes, builtIn, newNames, newTriples, newShapes, newRules, collect, names, rules}
 use Rattle.model.specs.Sizes.{sumOver, formEntries, shapePaths, listItems, formsIn, pathsIn, itemsIn}
-use Rattle.model.specs.Valid.{capacity}
-use Rattle.model.proofs.Lines.{collect-snoc, names-snoc, names-within, facts-within, rules-within, forms-within, paths-within, items-within, sum-append}
+use Rattle.model.proofs.Lines.{collect-snoc, names-snoc, sum-append}
 use Rattle.tables.specs.Layout.{nameCount, cellCount, valueCount, nodeKinds}
 use Rattle.encoding.specs.Encode.{nameColumns, cellColumns, valueColumns, encodeNames}
 use Rattle.grammar.specs.Writing.{writeLine}
@@ -40,6 +39,13 @@ use Rattle.linereader.specs.Storing.{counted, Fits, Done}
 use Rattle.reader.specs.declared.LinesAnswer.{LinesAnswer}
 use Rattle.reader.specs.Answers.{countsIn}
 use Rattle.reader.specs.Running.{Started, Ran}
+use Rattle.reader.proofs.Outcomes.{counts-limits, counts-fit}
+
+le-one : (k : ℕ) → leb k 1 ≡ ltb k 2
+le-one k =
+    bool-cases (λ t. ltb k 2 ≡ t → leb k 1 ≡ t) (ltb k 2)
+    (λ _ e. le-leb k 1 (let h = ltb-true k 2 e in omega arith))
+    (λ _ e. lt-leb k 1 (let h = ltb-false k 2 e in omega arith)) refl
 
 -- ---- the reading, line by line
 module _ (s : List ℕ) (at line : ℕ) (a : Book) where
@@ -160,31 +166,13 @@ module _ (s ns₀ cs₀ : List ℕ) (vs₀ : List ℤ) where
         }
 
     pub runs-kinds : Kinds cs (R .above)
-    runs-kinds v h = rw (R .cells-held) (resource-held (R .above) prefix (drop cellCount cs₀) v h)
+    runs-kinds v h = rw (R .cells-held) (le-one (getD (cellTable (soFar (R .above)) (drop cellCount cs₀)) (nodeKinds + v) 0) ∙ resource-held (R .above) prefix (drop cellCount cs₀) v h)
 
     pub runs-limits : Limits n
-    unfolding capacity
-    runs-limits =
-        let a = prefix .admissible-above in
-        record {
-          node-limit = omega (arith, in-pool nodes, names-within nodes (R .above) a);
-          link-limit = omega (arith, in-pool links, names-within links (R .above) a);
-          type-limit = omega (arith, in-pool types, names-within types (R .above) a);
-          lang-limit = omega (arith, in-pool langs, names-within langs (R .above) a);
-          shape-limit = omega (arith, in-pool shapes, names-within shapes (R .above) a);
-        }
+    runs-limits = subst Limits (sym (R .counts)) (counts-limits (R .above) (prefix .admissible-above))
 
     pub runs-fits : Fits n
-    runs-fits =
-        let a = prefix .admissible-above in
-        let H = runs-held in
-        record {
-          fact-limit = omega (arith, H .fact-count, facts-within (R .above) a);
-          rule-limit = omega (arith, H .rule-count, rules-within (R .above) a);
-          form-limit = omega (arith, H .form-count, forms-within (R .above) a);
-          path-limit = omega (arith, H .path-count, paths-within (R .above) a);
-          item-limit = omega (arith, H .item-count, items-within (R .above) a);
-        }
+    runs-fits = subst Fits (sym (R .counts)) (counts-fit (R .above) (prefix .admissible-above))
 
     -- one line more
     module _ (r : LineAnswer) (ns′ cs′ : List ℕ) (vs′ : List ℤ) (h : at < length s) (d : Done (R .above) n (lineAt s (R .above) at) r ns ns′ cs cs′ vs vs′) where

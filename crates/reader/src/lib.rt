@@ -1,8 +1,8 @@
 // The reader: from the bytes of a book to its tables, or the refusal with its line.
 // Operation: read.
+use bodyreader::read_line;
 use itemreader::Counts;
 use linereader::LineAnswer;
-use linereader::read_line;
 use model::MAX_BYTES;
 use model::Refusal;
 use tables::layout::LINK_NAMES;
@@ -19,13 +19,15 @@ ghost use lib.IntN.{pos};
 ghost use lib.ListN.{length};
 ghost use Rattle.base.specs.Bytes.{bytes};
 ghost use Rattle.model.specs.Books.{links, types};
+ghost use Rattle.model.specs.Refusals.{codeOf, lineOf};
 ghost use Rattle.tables.specs.Layout.{nameCount, cellCount, valueCount};
 ghost use Rattle.grammar.specs.Reading.{linesFrom, reading};
 ghost use Rattle.stores.specs.Lines.{putName, putCounts, cleared};
-ghost use Rattle.linereader.specs.Storing.{Fits};
 ghost use Rattle.itemreader.specs.Held.{Limits};
-ghost use Rattle.reader.specs.Answers.{refusalAt, countList, answerAfter, namesLeft, cellsLeft, valuesLeft, answerOf, namesOf, cellsOf, valuesOf};
-ghost use Rattle.reader.specs.Running.{Started, Ran};
+ghost use Rattle.linereader.specs.Storing.{Fits};
+ghost use Rattle.bodyreader.specs.Pending.{Pending};
+ghost use Rattle.reader.specs.Answers.{answerOf, answered, namesLeft, cellsLeft, valuesLeft, readAnswer, namesOf, cellsOf, valuesOf};
+ghost use Rattle.reader.specs.Running.{Started, Ran, countList};
 
 // The counts of an accepted book; or why it is refused.
 pub enum ReadAnswer {
@@ -34,14 +36,15 @@ pub enum ReadAnswer {
 }
 
 // The counts after the last line; or the number of a refusal and its line.
-enum LinesAnswer {
-    Accepted(Counts),
+pub enum LinesAnswer {
+    Read(Counts),
     No(u8, usize),
 }
 
 // The refusal by its number.
 fn refusal(k: u8, line: usize) -> Refusal
-    ensures { λ r. ⌜ r ≡ refusalAt k line ⌝ }
+    requires { ⌜ (2 ≤ k) × (k ≤ 7) ⌝ }
+    ensures { λ r. ⌜ (codeOf r ≡ k) × (lineOf r ≡ line) ⌝ }
 {
     match k {
         2 => Refusal::Grammar(line),
@@ -93,7 +96,7 @@ fn put_counts(cells: &mut [u16], counts: Counts)
 
 // Line after line, on tables that hold the built-in names alone.
 fn read_lines(names: &mut [u8], cells: &mut [u16], values: &mut [i64], book: &[u8]) -> LinesAnswer
-    requires { ⌜ (45056 ≤ length (now names)) × (16602 ≤ length (now cells)) × (1136 ≤ length (now values)) × Started (now names) (now cells) (now values) ⌝ }
+    requires { ⌜ (45056 ≤ length (now names)) × (16602 ≤ length (now cells)) × (1136 ≤ length (now values)) × Started (now names) (now cells) (now values) × Pending ⌝ }
     ensures { λ r. ⌜ Ran (linesFrom (now (book .entry)) (length (now (book .entry))) 0 0 []) r (now (names .entry)) (now (names .exit)) (now (cells .entry)) (now (cells .exit)) (now (values .entry)) (now (values .exit)) ⌝ }
 {
     let mut counts = Counts {
@@ -122,13 +125,13 @@ fn read_lines(names: &mut [u8], cells: &mut [u16], values: &mut [i64], book: &[u
             }
         }
     }
-    LinesAnswer::Accepted(counts)
+    LinesAnswer::Read(counts)
 }
 
 // A book that is not too long, into tables that are long enough.
 fn read_book(names: &mut [u8], cells: &mut [u16], values: &mut [i64], book: &[u8]) -> ReadAnswer
-    requires { ⌜ (length (now book) ≤ 65536) × (45056 ≤ length (now names)) × (16602 ≤ length (now cells)) × (1136 ≤ length (now values)) ⌝ }
-    ensures { λ r. ⌜ r ≡ answerAfter (reading (now (book .entry))) ⌝ }
+    requires { ⌜ (length (now book) ≤ 65536) × (45056 ≤ length (now names)) × (16602 ≤ length (now cells)) × (1136 ≤ length (now values)) × Pending ⌝ }
+    ensures { λ r. ⌜ answerOf r ≡ answered (reading (now (book .entry))) ⌝ }
     ensures { λ _. ⌜ now (names .exit) ≡ namesLeft (reading (now (book .entry))) (now (names .entry)) ⌝ }
     ensures { λ _. ⌜ now (cells .exit) ≡ cellsLeft (reading (now (book .entry))) (now (cells .entry)) ⌝ }
     ensures { λ _. ⌜ now (values .exit) ≡ valuesLeft (reading (now (book .entry))) (now (values .entry)) ⌝ }
@@ -136,7 +139,7 @@ fn read_book(names: &mut [u8], cells: &mut [u16], values: &mut [i64], book: &[u8
     clear(names, cells, values);
     put_built_in(names);
     match read_lines(names, cells, values, book) {
-        LinesAnswer::Accepted(counts) => {
+        LinesAnswer::Read(counts) => {
             put_counts(cells, counts);
             ReadAnswer::Accepted(counts)
         }
@@ -147,8 +150,10 @@ fn read_book(names: &mut [u8], cells: &mut [u16], values: &mut [i64], book: &[u8
     }
 }
 
+// The answer, and each table afterwards, for any bytes and any lent tables.
 pub fn read(book: &[u8], names: &mut [u8], cells: &mut [u16], values: &mut [i64]) -> ReadAnswer
-    ensures { λ r. ⌜ r ≡ answerOf (now (book .entry)) (now (names .entry)) (now (cells .entry)) (now (values .entry)) ⌝ }
+    requires { ⌜ Pending ⌝ }
+    ensures { λ r. ⌜ answerOf r ≡ readAnswer (now (book .entry)) (now (names .entry)) (now (cells .entry)) (now (values .entry)) ⌝ }
     ensures { λ _. ⌜ now (names .exit) ≡ namesOf (now (book .entry)) (now (names .entry)) (now (cells .entry)) (now (values .entry)) ⌝ }
     ensures { λ _. ⌜ now (cells .exit) ≡ cellsOf (now (book .entry)) (now (names .entry)) (now (cells .entry)) (now (values .entry)) ⌝ }
     ensures { λ _. ⌜ now (values .exit) ≡ valuesOf (now (book .entry)) (now (names .entry)) (now (cells .entry)) (now (values .entry)) ⌝ }
