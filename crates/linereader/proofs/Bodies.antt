@@ -24,10 +24,10 @@ use Rattle.encoding.specs.Rows.{nodeRow, targetCode, targetOperand}
 use Rattle.grammar.specs.Syntax.{Slot, Arg, Args, new, LineCode, linkL, typeL, langL, thingL, blankL, factL, ruleL, lineFamily}
 use Rattle.grammar.specs.Reading.{Read, got, refused, andThen, Readers, Begun, after, unknown, newAt, argAt, argsAt, closeAt, bodyAt, readersAt, lineRoom, begunAbove}
 use Rattle.stores.specs.Lines.{poolBase, putName, putNode, putFact, putRule, lineNames, lineCells, lineValues}
-use Rattle.itemreader.specs.Answers.{Reads, valueOf, Inside}
+use Rattle.itemreader.specs.Answers.{Reads, valueOf, Inside, restAt}
 use Rattle.itemreader.specs.declared.Value.{Value}
 use Rattle.itemreader.proofs.Items.{item-within, named-short, item-got, item-refused}
-use Rattle.itemreader.proofs.Heads.{restAt, rest-none, rest-got, rest-refused, close-not, close-full, close-got}
+use Rattle.itemreader.proofs.Heads.{rest-none, rest-got, rest-refused, close-not, close-full, close-got}
 use Rattle.itemreader.specs.declared.Counts.{Counts}
 use Rattle.itemreader.specs.declared.Item.{Item}
 use Rattle.linereader.specs.declared.LineAnswer.{LineAnswer}
