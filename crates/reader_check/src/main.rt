@@ -270,12 +270,7 @@ fn numbered(book: &mut Text, at: usize, before: &[u8], after: &[u8], count: usiz
 {
     let mut p = at;
     for k in 0..count {
-        let digits = [
-            digit(k / 1000),
-            digit(k / 100),
-            digit(k / 10),
-            digit(k),
-        ];
+        let digits = [digit(k / 1000), digit(k / 100), digit(k / 10), digit(k)];
         p = put(book, p, before);
         p = put(book, p, &digits);
         p = put(book, p, after);
@@ -347,19 +342,8 @@ fn limits() {
         b" (equal (seq a a) a))\n",
         42,
     );
-    limit(
-        b"list items",
-        b"",
-        b"(shape n",
-        b" (closed a a a a))\n",
-        32,
-    );
-    limit_alike(
-        b"facts",
-        b"(thing x)\n",
-        b"(fact x a x)\n",
-        4096,
-    );
+    limit(b"list items", b"", b"(shape n", b" (closed a a a a))\n", 32);
+    limit_alike(b"facts", b"(thing x)\n", b"(fact x a x)\n", 4096);
     limit_alike(
         b"rules",
         b"(shape s true)\n",
