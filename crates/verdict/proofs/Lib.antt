@@ -1,0 +1,5 @@
+pub mod Memo
+pub mod Parts
+pub mod Holds
+pub mod Settling
+pub mod Answers

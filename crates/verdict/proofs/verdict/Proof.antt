@@ -1,0 +1,64 @@
+-- `verdict` meets its contract: 8 comes first; past their limits the tables are not looked at.
+use mathlib.Core.Bool.{true}
+use mathlib.Core.Path.{_≡_, sym, _∙_}
+use native.Mathlib.Omega.{arith}
+use denote.Ref.{now}
+use lib.Seq.{length-take-le}
+use borrow.Author.Tests.{not-true, not-false}
+use Rattle.tables.specs.Sizes.{longEnough}
+use Rattle.tables.proofs.Sizes.{long}
+use Rattle.verdict.proofs.Answers.{judged-short, judged-long, answered}
+use borrow.Author.Needs.{needs}
+use Rattle.verdict.proofs.verdict.Statement.{statement}
+use Rattle.verdict.proofs.verdict.Tie as tie
+
+enough-requires : tie.Need-enough-requires
+enough-requires c κs = search needs
+
+told-requires : tie.Need-told-requires
+told-requires c κs = search needs
+
+returns : tie.Need-returns
+returns c =
+    let a = c .before .before .before .before .before .args in
+    answered (a .tally) (c .told .ensures .0) (c .told .ensures .1) (judged-short (now (a .names)) (now (a .cells)) (now (a .values)) (a .node) (a .shape) (sym (c .before .before .enough .ensures) ∙ not-true (c .before .before .enough .result) (c .before .if1 .taken)))
+
+slice-aggregate-answer-on : tie.Need-slice-aggregate-answer-on
+slice-aggregate-answer-on c =
+    let a = c .before .before .before .before .before .args in
+    let e : longEnough (now (a .names)) (now (a .cells)) (now (a .values)) ≡ true = sym (c .before .before .enough .ensures) ∙ not-false (c .before .before .enough .result) (c .before .if1 .left) in
+    sym (length-take-le 16602 (now (a .cells)) (long (now (a .names)) (now (a .cells)) (now (a .values)) e .cells))
+
+slice-aggregate-answer-on-2 : tie.Need-slice-aggregate-answer-on-2
+slice-aggregate-answer-on-2 c =
+    let a = c .before .before .before .before .before .before .args in
+    let e : longEnough (now (a .names)) (now (a .cells)) (now (a .values)) ≡ true = sym (c .before .before .before .enough .ensures) ∙ not-false (c .before .before .before .enough .result) (c .before .before .if1 .left) in
+    sym (length-take-le 1136 (now (a .values)) (long (now (a .names)) (now (a .cells)) (now (a .values)) e .values))
+
+answer-on-requires : tie.Need-answer-on-requires
+answer-on-requires c κs =
+    let a = c .before .before .before .before .before .before .args in
+    let e : longEnough (now (a .names)) (now (a .cells)) (now (a .values)) ≡ true = sym (c .before .before .before .enough .ensures) ∙ not-false (c .before .before .before .enough .result) (c .before .before .if1 .left) in
+    omega (arith, length-take-le 16602 (now (a .cells)) (long (now (a .names)) (now (a .cells)) (now (a .values)) e .cells))
+
+told-requires-2 : tie.Need-told-requires-2
+told-requires-2 c κs = search needs
+
+returns-2 : tie.Need-returns-2
+returns-2 c =
+    let a = c .before .before .before .before .before .before .before .before .args in
+    let e : longEnough (now (a .names)) (now (a .cells)) (now (a .values)) ≡ true = sym (c .before .before .before .before .before .enough .ensures) ∙ not-false (c .before .before .before .before .before .enough .result) (c .before .before .before .before .if1 .left) in
+    answered (a .tally) (c .told2 .ensures .0) (c .told2 .ensures .1) (c .before .answer-on .ensures ∙ judged-long (now (a .names)) (now (a .cells)) (now (a .values)) (a .node) (a .shape) e)
+
+pub verdict-spec : {M : Type 1} → statement M
+verdict-spec =
+    tie.close
+    (tie.spec
+    enough-requires
+    told-requires
+    returns
+    slice-aggregate-answer-on
+    slice-aggregate-answer-on-2
+    answer-on-requires
+    told-requires-2
+    returns-2)

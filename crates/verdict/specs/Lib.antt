@@ -1,0 +1,3 @@
+pub mod Answers
+pub mod Memo
+pub mod Parts

@@ -1,0 +1,300 @@
+// The direct verdict: whether a node conforms to a shape, over lent tables.
+//
+// Operations: verdict. It answers for any tables and numbers, with refusal 8, 9 or 10 where document 01 asks for one.
+//
+// No pair of a form entry and a node is decided twice: settle calls itself on entries before its own, for sets of nodes, and
+// what is known is kept. Of entry e, the nodes that conform stand from word 32 * e of the memo on, and those that do not from
+// word 32 * e + 16 on.
+use conditions::closed_holds;
+use conditions::test_holds;
+use entries::all_holds;
+use entries::count_holds;
+use entries::ends_from;
+use entries::lang_holds;
+use entries::sets_hold;
+use model::Refusal;
+use nodeset::NodeSet;
+use nodeset::insert;
+use nodeset::load;
+use nodeset::next_member;
+use nodeset::test;
+use paths::End;
+use tables::layout::CELLS;
+use tables::layout::VALUES;
+use tables::reads::form_code;
+use tables::reads::form_first;
+use tables::reads::form_node;
+use tables::reads::form_second;
+use tables::reads::node_count;
+use tables::reads::root;
+use tables::reads::shape_count;
+use tables::reads::wide;
+ghost use mathlib.Core.Path.{_≡_};
+ghost use mathlib.Core.Bool.{true, not, cond, _&&_};
+ghost use Prim.Native.Nat.{ℕ, _+_, _*_, _<_, _≤_};
+ghost use lib.Dec.{eqb};
+ghost use lib.ListN.{length};
+ghost use Rattle.base.specs.Bounded.{every};
+ghost use Rattle.nodeset.specs.Words.{has, wordsOf, with};
+ghost use Rattle.model.specs.Shapes.{conforms};
+ghost use Rattle.tables.specs.Layout.{cellCount, nodeCount, formCount};
+ghost use Rattle.tables.specs.Decode.{graphAt, shapeAt};
+ghost use Rattle.entries.specs.Tables.{Tables};
+ghost use Rattle.verdict.specs.Answers.{decisionOf, judgedOn, judged, tallied};
+ghost use Rattle.verdict.specs.Memo.{yesPlace, noPlace, Ready, Settled};
+ghost use Rattle.verdict.specs.Parts.{looksAtEnds, hasParts, firstPart, secondPart, looksAt, PartsKnown, Enough};
+
+fn pick(first: bool, a: usize, b: usize) -> usize
+    ensures { λ r. ⌜ r ≡ cond first a b ⌝ }
+{
+    if first { a } else { b }
+}
+
+// Node v is known to conform to entry e.
+fn known(memo: &[u64], e: usize, v: usize) -> bool
+    requires { ⌜ (e < 112) × (v < 1024) ⌝ }
+    ensures { λ r. ⌜ r ≡ has (now (memo .entry)) (yesPlace e v) ⌝ }
+{
+    test(memo, 32 * e * 64 + v)
+}
+
+// Whether node v conforms to entry e is known from now on.
+fn remember(memo: &mut [u64], e: usize, v: usize, yes: bool)
+    requires { ⌜ (e < 112) × (v < 1024) ⌝ }
+    ensures { λ _. ⌜ now (memo .exit) ≡ with (now (memo .entry)) (cond yes (yesPlace e v) (noPlace e v)) ⌝ }
+{
+    insert(memo, pick(yes, 32 * e * 64 + v, (32 * e + 16) * 64 + v));
+}
+
+// The sixteen words from a word of the memo on.
+fn row(memo: &[u64], at: usize) -> NodeSet
+    requires { ⌜ at ≤ length (now memo) ⌝ }
+    ensures { λ r. ⌜ r .words ≡ wordsOf (λ v. has (now (memo .entry)) (at * 64 + v)) 16 ⌝ }
+{
+    load(&memo[at..])
+}
+
+// The nodes of want of which it is not known whether they conform to entry e.
+fn unsettled(memo: &[u64], e: usize, want: NodeSet) -> NodeSet
+    requires { ⌜ (e < 112) × (length (now memo) ≡ 3584) ⌝ }
+    ensures { λ r. ⌜ r .words ≡ wordsOf (λ v. (has (want .words) v && not (has (now (memo .entry)) (yesPlace e v))) && not (has (now (memo .entry)) (noPlace e v))) 16 ⌝ }
+{
+    let yes = row(memo, 32 * e);
+    let no = row(memo, 32 * e + 16);
+    let rest = want.difference(yes);
+    rest.difference(no)
+}
+
+// `count` and `all` look at their part at the ends of a path; `shape`, `and`, `or` and `not` at the node itself.
+fn looks_at_ends(cells: &[u16], e: usize) -> bool
+    ensures { λ r. ⌜ r ≡ looksAtEnds (now (cells .entry)) e ⌝ }
+{
+    let code = form_code(cells, e);
+    (code == 13) | (code == 14)
+}
+
+fn has_parts(cells: &[u16], e: usize) -> bool
+    ensures { λ r. ⌜ r ≡ hasParts (now (cells .entry)) e ⌝ }
+{
+    let code = form_code(cells, e);
+    ((2 <= code) & (code <= 5)) | looks_at_ends(cells, e)
+}
+
+fn first_part(cells: &[u16], e: usize) -> usize
+    ensures { λ r. ⌜ r ≡ firstPart (now (cells .entry)) e ⌝ }
+{
+    let code = form_code(cells, e);
+    let a = wide(form_first(cells, e));
+    let b = wide(form_second(cells, e));
+    pick(code == 2, root(cells, a), pick(code <= 5, a, b))
+}
+
+fn second_part(cells: &[u16], e: usize) -> usize
+    ensures { λ r. ⌜ r ≡ secondPart (now (cells .entry)) e ⌝ }
+{
+    let code = form_code(cells, e);
+    let b = wide(form_second(cells, e));
+    pick((code == 3) | (code == 4), b, first_part(cells, e))
+}
+
+// Where the verdicts on entry e at these nodes look at its parts.
+fn asked(cells: &[u16], e: usize, nodes: NodeSet) -> NodeSet
+    requires { ⌜ Tables (now cells) × (e < formCount (now cells)) ⌝ }
+    ensures { λ r. ⌜ ((v w : ℕ) → v < nodeCount (now (cells .entry)) → w < nodeCount (now (cells .entry)) → has (nodes .words) v ≡ true → looksAt (now (cells .entry)) e v w ≡ true → has (r .words) w ≡ true) ⌝ }
+{
+    if looks_at_ends(cells, e) {
+        let words = nodes.words;
+        return ends_from(cells, End::Path(wide(form_first(cells, e))), &words);
+    }
+    nodes
+}
+
+// Node v conforms to entry e; what is known of the parts is enough to tell.
+fn entry_holds(memo: &[u64], cells: &[u16], values: &[i64], e: usize, v: usize) -> bool
+    requires { ⌜ Enough (now cells) (now values) (now memo) e v ⌝ }
+    ensures { λ r. ⌜ r ≡ conforms (graphAt (now (cells .entry)) (now (values .entry))) (shapeAt (now (cells .entry)) (now (values .entry)) e) v ⌝ }
+{
+    let a = first_part(cells, e);
+    let b = second_part(cells, e);
+    match form_code(cells, e) {
+        0 => true,
+        1 => {
+            let node = form_node(cells, e);
+            v == wide(node.0)
+        }
+        2 => known(memo, a, v),
+        3 => known(memo, a, v) & known(memo, b, v),
+        4 => known(memo, a, v) | known(memo, b, v),
+        5 => !known(memo, a, v),
+        13 => {
+            let part = row(memo, 32 * a);
+            let words = part.words;
+            count_holds(cells, e, v, &words)
+        }
+        14 => {
+            let part = row(memo, 32 * a);
+            let words = part.words;
+            all_holds(cells, e, v, &words)
+        }
+        17 => closed_holds(cells, e, v),
+        20 => lang_holds(cells, values, e, v),
+        6..=12 => test_holds(cells, values, e, v),
+        _ => sets_hold(cells, values, e, v),
+    }
+}
+
+// Entry e is decided at each of the nodes.
+fn fill(memo: &mut [u64], e: usize, nodes: NodeSet, cells: &[u16], values: &[i64])
+    requires { ⌜ Ready (now cells) (now values) (now memo) e × ((v : ℕ) → v < nodeCount (now cells) → has (nodes .words) v ≡ true → PartsKnown (now cells) e (now memo) v) ⌝ }
+    ensures { λ _. ⌜ Settled (now (cells .entry)) (now (values .entry)) (now (memo .entry)) (now (memo .exit)) e (nodes .words) ⌝ }
+{
+    let words = nodes.words;
+    let n = node_count(cells);
+    let mut v = next_member(&words, 0, n);
+    while v < n {
+        let yes = entry_holds(memo, cells, values, e, v);
+        remember(memo, e, v, yes);
+        v = next_member(&words, v + 1, n);
+    }
+}
+
+// No node below n is in the set.
+fn none_below(set: NodeSet, n: usize) -> bool
+    ensures { λ r. ⌜ r ≡ every (λ v. not (has (set .words) v)) n ⌝ }
+{
+    let words = set.words;
+    next_member(&words, 0, n) == n
+}
+
+// It becomes known of each node of want whether it conforms to entry e.
+fn settle(memo: &mut [u64], e: usize, want: NodeSet, cells: &[u16], values: &[i64])
+    requires { ⌜ Ready (now cells) (now values) (now memo) e ⌝ }
+    ensures { λ _. ⌜ Settled (now (cells .entry)) (now (values .entry)) (now (memo .entry)) (now (memo .exit)) e (want .words) ⌝ }
+{
+    let nodes = unsettled(memo, e, want);
+    if none_below(nodes, node_count(cells)) {
+        return;
+    }
+    if has_parts(cells, e) {
+        let looked = asked(cells, e, nodes);
+        settle(memo, first_part(cells, e), looked, cells, values);
+        settle(memo, second_part(cells, e), looked, cells, values);
+        fill(memo, e, nodes, cells, values);
+        return;
+    }
+    fill(memo, e, nodes, cells, values);
+}
+
+// Node v conforms to entry e.
+fn conforming(cells: &[u16], values: &[i64], e: usize, v: usize) -> bool
+    requires { ⌜ Tables (now cells) × (e < formCount (now cells)) × (v < nodeCount (now cells)) ⌝ }
+    ensures { λ r. ⌜ r ≡ conforms (graphAt (now (cells .entry)) (now (values .entry))) (shapeAt (now (cells .entry)) (now (values .entry)) e) v ⌝ }
+{
+    let mut memo = [0u64; 3584];
+    let nobody = NodeSet::EMPTY;
+    settle(&mut memo, e, nobody.with(v), cells, values);
+    known(&memo, e, v)
+}
+
+// What is answered.
+pub enum Answer {
+    Yes,
+    No,
+    Refused(Refusal),
+}
+
+// An answer, and the tally of verdicts given.
+pub struct Outcome {
+    pub answer: Answer,
+    pub tally: u32,
+}
+
+// The answer on tables in their limits: 9 comes before 10.
+fn answer_on(cells: &[u16], values: &[i64], node: usize, shape: usize) -> Answer
+    requires { ⌜ cellCount ≤ length (now cells) ⌝ }
+    ensures { λ r. ⌜ decisionOf r ≡ judgedOn (now (cells .entry)) (now (values .entry)) node shape ⌝ }
+{
+    if !tablecheck::well_formed(cells) {
+        return Answer::Refused(Refusal::Malformed);
+    }
+    if node_count(cells) <= node {
+        return Answer::Refused(Refusal::Absent);
+    }
+    if shape_count(cells) <= shape {
+        return Answer::Refused(Refusal::Absent);
+    }
+    if conforming(cells, values, root(cells, shape), node) {
+        return Answer::Yes;
+    }
+    Answer::No
+}
+
+// One more, up to the greatest number of 32 bits.
+fn one_more(tally: u32) -> u32
+    ensures { λ r. ⌜ r ≡ cond (eqb tally 4294967295) tally (tally + 1) ⌝ }
+{
+    if tally == 4294967295 {
+        tally
+    } else {
+        tally + 1
+    }
+}
+
+// The answer with the tally afterwards: a refusal does not count.
+fn told(answer: Answer, tally: u32) -> Outcome
+    ensures { λ r. ⌜ (r .answer ≡ answer) × (r .tally ≡ tallied (decisionOf answer) tally) ⌝ }
+{
+    match answer {
+        Answer::Yes => Outcome {
+            answer,
+            tally: one_more(tally),
+        },
+        Answer::No => Outcome {
+            answer,
+            tally: one_more(tally),
+        },
+        Answer::Refused(_) => Outcome { answer, tally },
+    }
+}
+
+// Whether a node conforms to a shape, both by number, over lent tables; and the tally of verdicts given, which is handed back.
+// Refusal 8 where a table is shorter than its limit, 9 where the tables are not well formed, 10 where node or shape is not there.
+pub fn verdict(
+    names: &[u8],
+    cells: &[u16],
+    values: &[i64],
+    node: usize,
+    shape: usize,
+    tally: u32,
+) -> Outcome
+    ensures answer { λ r. ⌜ decisionOf (r .answer) ≡ judged (now (names .entry)) (now (cells .entry)) (now (values .entry)) node shape ⌝ }
+    ensures counted { λ r. ⌜ r .tally ≡ tallied (judged (now (names .entry)) (now (cells .entry)) (now (values .entry)) node shape) tally ⌝ }
+{
+    if !tables::lent::enough(names, cells, values) {
+        return told(Answer::Refused(Refusal::Short), tally);
+    }
+    told(
+        answer_on(&cells[..CELLS], &values[..VALUES], node, shape),
+        tally,
+    )
+}
