@@ -5,7 +5,7 @@ use mathlib.Core.Bool.{Bool, true, false, not, cond, _&&_, and-false}
 use mathlib.Core.Path.{_≡_, refl, sym, ap, _∙_}
 use native.Mathlib.Omega.{arith}
 use lib.Dec.{eqb, ltb, leb}
-use lib.IntN.{pos}
+use lib.IntN.{ℤ, pos}
 use lib.ListN.{getD, List·getD-eq-default}
 use borrow.Author.Tests.{ne-eqb, eqb-true, lt-leb, ltb-true, ltb-false}
 use Rattle.base.specs.Bounded.{every}
@@ -30,28 +30,28 @@ by-code : (f g : ℕ → Bool) (n : ℕ) → every (λ k. cond (f k) (g k) (not 
 by-code f g n e h k = bool-cases (λ b. ltb k n ≡ b → f k ≡ g k) (ltb k n) (λ _ q. agree (f k) (g k) (every-at (λ k. cond (f k) (g k) (not (g k))) n e k (ltb-true k n q))) (λ _ q. h k (ltb-false k n q)) refl
 
 module _ (cs : List ℕ) where
-  -- ---- form entry e: its code alone says whether it is a test, and whether it is `closed`
+  -- ---- form entry e: its code alone says whether it is a test, and whether it is `closed`, whatever its V
   module _ (e : ℕ) where
-    abbrev entryBy : ℕ → Entry
-    entryBy k = entryOf k (formFirstAt cs e) (formSecondAt cs e) (formThirdAt cs e) (formFourthAt cs e) (pos 0)
+    abbrev pub entryBy : ℤ → ℕ → Entry
+    entryBy x k = entryOf k (formFirstAt cs e) (formSecondAt cs e) (formThirdAt cs e) (formFourthAt cs e) x
 
-    test-code : (k : ℕ) → holds (λ t. true) (testOf cs (entryBy k)) ≡ (leb 6 k && leb k 12)
+    pub test-code : (x : ℤ) (k : ℕ) → holds (λ t. true) (testOf cs (entryBy x k)) ≡ (leb 6 k && leb k 12)
     unfolding holds testOf entryOf every
-    test-code = by-code (λ k. holds (λ t. true) (testOf cs (entryBy k))) (λ k. leb 6 k && leb k 12) 21 refl
+    test-code x = by-code (λ k. holds (λ t. true) (testOf cs (entryBy x k))) (λ k. leb 6 k && leb k 12) 21 refl
         (λ k l. rw (List·getD-eq-default, lt-leb k 12 (omega arith), and-false (leb 6 k)))
 
-    closed-code : (k : ℕ) → holds (λ ps. true) (linksOf cs (entryBy k)) ≡ eqb k 17
+    closed-code : (x : ℤ) (k : ℕ) → holds (λ ps. true) (linksOf cs (entryBy x k)) ≡ eqb k 17
     unfolding holds linksOf entryOf every
-    closed-code = by-code (λ k. holds (λ ps. true) (linksOf cs (entryBy k))) (λ k. eqb k 17) 21 refl
+    closed-code x = by-code (λ k. holds (λ ps. true) (linksOf cs (entryBy x k))) (λ k. eqb k 17) 21 refl
         (λ k l. rw (List·getD-eq-default, ne-eqb k 17 (λ q. let z : ⊥ = omega arith in z)))
 
     pub test-read : (k : ℕ) → k ≡ formCodeAt cs e → (ltb e (formCount cs) && (leb 6 k && leb k 12)) ≡ testOk cs e
     unfolding testOk entryAt
-    test-read k x = ap (λ (b : Bool). ltb e (formCount cs) && b) (sym (test-code k) ∙ ap (λ (j : ℕ). holds (λ t. true) (testOf cs (entryBy j))) x)
+    test-read k x = ap (λ (b : Bool). ltb e (formCount cs) && b) (sym (test-code (pos 0) k) ∙ ap (λ (j : ℕ). holds (λ t. true) (testOf cs (entryBy (pos 0) j))) x)
 
     pub closed-read : (k : ℕ) → k ≡ formCodeAt cs e → (ltb e (formCount cs) && eqb k 17) ≡ closedOk cs e
     unfolding closedOk entryAt
-    closed-read k x = ap (λ (b : Bool). ltb e (formCount cs) && b) (sym (closed-code k) ∙ ap (λ (j : ℕ). holds (λ ps. true) (linksOf cs (entryBy j))) x)
+    closed-read k x = ap (λ (b : Bool). ltb e (formCount cs) && b) (sym (closed-code (pos 0) k) ∙ ap (λ (j : ℕ). holds (λ ps. true) (linksOf cs (entryBy (pos 0) j))) x)
 
     -- the code of an entry that is a test; of one that is `closed`
     pub test-codes : testOk cs e ≡ true → (leb 6 (formCodeAt cs e) && leb (formCodeAt cs e) 12) ≡ true

@@ -44,7 +44,7 @@ end-along f e = record {
 
 -- ---- the ends of a node are nodes
 module _ (cs : List ℕ) (room : cellCount ≤ length cs) (ok : wellFormed cs ≡ true) where
-  ends-low : (x : model.End) (v w : ℕ) → v < nodeCount cs → endsOf (nodeCount cs) (triplesAt cs) x v w ≡ true → w < nodeCount cs
+  pub ends-low : (x : model.End) (v w : ℕ) → v < nodeCount cs → endsOf (nodeCount cs) (triplesAt cs) x v w ≡ true → w < nodeCount cs
   unfolding endsOf
   ends-low self v w l h = subst (λ (k : ℕ). k < nodeCount cs) (eqb-true v w h) l
   ends-low (along p) v w l h = ends-nodes (part cs subjects) (part cs predicates) (part cs tables-layout.objects) _ (nodeCount cs) (lent-ok cs ok room refl refl) p v w (ap (λ (ts : List Triple). ends (nodeCount cs) ts p v w) (lent-triples cs ok refl) ∙ h) .1

@@ -1,0 +1,6 @@
+pub mod Codes
+pub mod Steps
+pub mod Tests
+pub mod Arms
+pub mod Work
+pub mod Answers

@@ -1,0 +1,85 @@
+-- Test steps and `closed` steps: what the form entry that they name says.
+use Prim.Native.Nat.{ℕ, _≤_, _<_}
+use mathlib.Core.List.{List, []}
+use mathlib.Core.Option.{Option}
+use mathlib.Core.Bool.{Bool, true, false, not, _&&_, true≢false}
+use mathlib.Core.Path.{_≡_, refl, sym, ap, _∙_}
+use lib.Dec.{eqb, ltb}
+use lib.IntN.{ℤ}
+use Rattle.base.specs.Bounded.{_⇒_}
+use Rattle.base.specs.Lists.{member, allb}
+use Rattle.base.proofs.Bools.{and-right}
+use Rattle.model.specs.Graph.{holds, Triple}
+use Rattle.model.specs.Shapes.{Shape, Test, satisfies, conforms}
+use Rattle.tables.specs.Layout.{formCount, formCodeAt, formFirstAt, formSecondAt, formThirdAt, formFourthAt, limitAt}
+use Rattle.tables.specs.Entries.{Entry, entryOf}
+use Rattle.tables.specs.Decode.{graphAt, triplesAt, itemsAt, entryAt, shapeOf, shapeAt}
+use Rattle.tables.proofs.Decode.{shape-number}
+use Rattle.plan.specs.Conditions.{failsTest, someUnlisted}
+use Rattle.plan.specs.Sets.{testOf, linksOf}
+use Rattle.plan.specs.WellFormed.{testOk, closedOk}
+use Rattle.plan.proofs.Complements.{not-satisfies, not-closed}
+use Rattle.plancheck.proofs.Codes.{test-code, test-codes, closed-codes}
+
+module _ (cs : List ℕ) (vs : List ℤ) where
+  -- an entry that is a test, as a shape
+  as-test : (x : Entry) (at : ℕ → Shape) (v : ℕ) → holds (λ t. true) (testOf cs x) ≡ true → conforms (graphAt cs vs) (shapeOf cs x at) v ≡ holds (λ t. satisfies t (graphAt cs vs .term v)) (testOf cs x)
+  unfolding holds testOf shapeOf conforms
+  as-test Entry.top at v w = absurd (true≢false (sym w))
+  as-test (Entry.is c) at v w = absurd (true≢false (sym w))
+  as-test (Entry.shape s) at v w = absurd (true≢false (sym w))
+  as-test (Entry.conj a b) at v w = absurd (true≢false (sym w))
+  as-test (Entry.disj a b) at v w = absurd (true≢false (sym w))
+  as-test (Entry.neg a) at v w = absurd (true≢false (sym w))
+  as-test (Entry.kind k) at v w = refl
+  as-test (Entry.datatype t) at v w = refl
+  as-test (Entry.lang i n) at v w = refl
+  as-test (Entry.from x) at v w = refl
+  as-test (Entry.above x) at v w = refl
+  as-test (Entry.to x) at v w = refl
+  as-test (Entry.under x) at v w = refl
+  as-test (Entry.count p a lo hi) at v w = absurd (true≢false (sym w))
+  as-test (Entry.all p a) at v w = absurd (true≢false (sym w))
+  as-test (Entry.equal f l) at v w = absurd (true≢false (sym w))
+  as-test (Entry.apart f l) at v w = absurd (true≢false (sym w))
+  as-test (Entry.closed i n) at v w = absurd (true≢false (sym w))
+  as-test (Entry.less p l) at v w = absurd (true≢false (sym w))
+  as-test (Entry.lesseq p l) at v w = absurd (true≢false (sym w))
+  as-test (Entry.onelang p) at v w = absurd (true≢false (sym w))
+  as-test Entry.bad at v w = absurd (true≢false (sym w))
+
+  -- what a step's test says, and that the contrary is what an Untest says
+  not-holds : (o : Option Test) (p q : Test → Bool) → holds (λ t. true) o ≡ true → ((t : Test) → not (p t) ≡ q t) → not (holds p o) ≡ holds q o
+  unfolding holds
+  not-holds Option.none p q w h = absurd (true≢false (sym w))
+  not-holds (Option.some t) p q w h = h t
+
+  module _ (e : ℕ) (ok : testOk cs e ≡ true) where
+    is-test : holds (λ t. true) (testOf cs (entryAt cs vs e)) ≡ true
+    unfolding entryAt
+    is-test = test-code cs e (limitAt vs e) (formCodeAt cs e) ∙ test-codes cs e ok
+
+    pub test-meets : (v : ℕ) → conforms (graphAt cs vs) (shapeAt cs vs e) v ≡ holds (λ t. satisfies t (graphAt cs vs .term v)) (testOf cs (entryAt cs vs e))
+    test-meets v = ap (λ (s : Shape). conforms (graphAt cs vs) s v) (shape-number cs e vs) ∙ as-test (entryAt cs vs e) _ v is-test
+
+    pub test-fails : (v : ℕ) → not (conforms (graphAt cs vs) (shapeAt cs vs e) v) ≡ holds (λ t. failsTest t (graphAt cs vs .term v)) (testOf cs (entryAt cs vs e))
+    test-fails v = ap not (test-meets v) ∙ not-holds (testOf cs (entryAt cs vs e)) (λ t. satisfies t (graphAt cs vs .term v)) (λ t. failsTest t (graphAt cs vs .term v)) is-test (λ t. not-satisfies t (graphAt cs vs .term v))
+
+  -- a `closed` entry's links
+  module _ (e : ℕ) (ok : closedOk cs e ≡ true) where
+    pub links-of : linksOf cs (entryAt cs vs e) ≡ Option.some (itemsAt cs (formFirstAt cs e) (formSecondAt cs e))
+    unfolding linksOf entryAt entryOf
+    links-of = ap (λ (k : ℕ). linksOf cs (entryOf k (formFirstAt cs e) (formSecondAt cs e) (formThirdAt cs e) (formFourthAt cs e) (limitAt vs e))) (closed-codes cs e ok)
+
+    abbrev items : List ℕ
+    items = itemsAt cs (formFirstAt cs e) (formSecondAt cs e)
+
+    pub opened-by : (v : ℕ) → someUnlisted (triplesAt cs) items v ≡ holds (λ ps. someUnlisted (graphAt cs vs .triples) ps v) (linksOf cs (entryAt cs vs e))
+    unfolding holds graphAt
+    opened-by v = sym (ap (holds (λ ps. someUnlisted (triplesAt cs) ps v)) links-of)
+
+    pub closed-by : (v : ℕ) → not (someUnlisted (triplesAt cs) items v) ≡ holds (λ ps. allb (λ t. eqb (t .subject) v ⇒ member (t .predicate) ps) (graphAt cs vs .triples)) (linksOf cs (entryAt cs vs e))
+    unfolding holds graphAt
+    closed-by v =
+        ap not (sym (not-closed (triplesAt cs) items v)) ∙ mathlib.Core.Bool.Bool·not-not (allb (λ t. eqb (t .subject) v ⇒ member (t .predicate) items) (triplesAt cs))
+        ∙ sym (ap (holds (λ ps. allb (λ t. eqb (t .subject) v ⇒ member (t .predicate) ps) (triplesAt cs))) links-of)

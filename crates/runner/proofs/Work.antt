@@ -1,0 +1,113 @@
+-- The work space, step by step.
+use Prim.Native.Nat.{ℕ, zero, suc, _+_, _-_, _*_, _/_, _%_, _≤_, _<_}
+use mathlib.Core.List.{List, [], _++_, append-assoc, append-nil}
+use mathlib.Core.Bool.{Bool, true, false, _&&_}
+use mathlib.Core.Path.{_≡_, refl, sym, ap, ap₂, _∙_}
+use mathlib.Core.Logic.{⊎-elim}
+use native.Mathlib.Nat.{le-of-eq, eq-or-lt-of-le, le-of-suc-le-suc}
+use native.Mathlib.Numerals.{add-one}
+use native.Mathlib.Omega.{arith}
+use lib.Dec.{ltb}
+use lib.IntN.{ℤ}
+use lib.ListN.{length, take, drop, length-append, length-drop, drop-of-length-le}
+use lib.Seq.{take-all, take-at, drop-at, drop-drop, getD-take}
+use borrow.Rule.Slice.PartMut.{putMid}
+use borrow.Author.Tests.{lt-ltb}
+use Rattle.base.specs.Numbered.{below, numbered}
+use Rattle.base.proofs.Numbered.{at-number, below-number}
+use Rattle.nodeset.specs.Words.{bit, has, wordsOf, stored}
+use Rattle.nodeset.proofs.Sets.{length-wordsOf, has-of, length-of}
+use Rattle.nodeset.proofs.Stores.{stored-whole}
+use Rattle.tables.specs.Layout.{nodeCount}
+use Rattle.plan.specs.Layout.{stepAt, stepCount}
+use Rattle.plan.specs.Sets.{inStep, setBy, setAt}
+use Rattle.plan.specs.WellFormed.{stepOk}
+use Rattle.stepsets.specs.Asks.{nodesOf}
+use Rattle.stepsets.proofs.Nodes.{nodes-ext}
+use Rattle.runner.specs.Run.{setWords, stepWords, filled}
+use Rattle.runner.specs.Steps.{stepFrom, put}
+use Rattle.runner.proofs.Steps.{in-step-ext}
+
+-- ---- the part that is lent from word 16 * k on comes back with a step's words in front
+pub put-tail : (ws s : List ℕ) {ys : List ℕ} (k n : ℕ) → length s ≡ 16 → 16 * k + 16 ≤ length ws → n ≡ length ws - 16 * k → ys ≡ stored (take n (drop (16 * k) ws)) s → putMid (16 * k) n ws ys ≡ put ws k s
+unfolding put
+put-tail ws s k n ls room e q =
+    let t : List ℕ = drop (16 * k) ws in
+    let len : length t ≡ n = length-drop (16 * k) ws ∙ sym e in
+    ap₂ (λ (x y : List ℕ). take (16 * k) ws ++ (x ++ y)) (q ∙ ap (λ (l : List ℕ). stored l s) (take-all n t (le-of-eq len))) (drop-of-length-le t (le-of-eq len))
+    ∙ ap (λ (x : List ℕ). take (16 * k) ws ++ x)
+    (append-nil (stored t s) ∙ stored-whole t s (omega arith) ∙ ap (λ (m : ℕ). s ++ drop m t) ls ∙ ap (λ (x : List ℕ). s ++ x) (drop-drop 16 (16 * k) ws))
+
+-- the first words have what lies in them
+has-take : (s : List ℕ) (w : ℕ) → w < 1024 → has (take 16 s) w ≡ has s w
+unfolding has
+has-take s w l = ap (λ (x : ℕ). bit x (w % 64)) (getD-take 16 s (w / 64) 0 (omega arith))
+
+module _ (cs : List ℕ) (vs : List ℤ) (ps : List ℕ) where
+  length-set-words : (k : ℕ) → length (setWords cs vs ps k) ≡ 16
+  unfolding setWords
+  length-set-words k = length-wordsOf (λ v. ltb v (nodeCount cs) && setAt cs vs ps k v) 16
+
+  length-steps : (k : ℕ) → length (stepWords cs vs ps k) ≡ 16 * k
+  unfolding stepWords
+  length-steps zero = refl
+  length-steps (suc k) = length-append (stepWords cs vs ps k) (setWords cs vs ps k) ∙ (let z : length (stepWords cs vs ps k) + length (setWords cs vs ps k) ≡ 16 * suc k = omega (arith, length-steps k, length-set-words k) in z)
+
+  -- what stands from word 16 * j on, where the steps below k have their words
+  part-words : (k j : ℕ) (rest : List ℕ) → j < k → take 16 (drop (16 * j) (stepWords cs vs ps k ++ rest)) ≡ setWords cs vs ps j
+  unfolding stepWords
+  part-words zero j rest l = absurd (omega arith)
+  part-words (suc k) j rest l = ap (λ (r : List ℕ). take 16 (drop (16 * j) r)) (append-assoc (stepWords cs vs ps k) (setWords cs vs ps k) rest) ∙ ⊎-elim here (λ l′. part-words k j (setWords cs vs ps k ++ rest) l′) (eq-or-lt-of-le (le-of-suc-le-suc l))
+    where
+      here : j ≡ k → take 16 (drop (16 * j) (stepWords cs vs ps k ++ (setWords cs vs ps k ++ rest))) ≡ setWords cs vs ps j
+      here e =
+          ap (take 16) (drop-at (stepWords cs vs ps k) (setWords cs vs ps k ++ rest) (16 * j) (omega (arith, length-steps k)))
+          ∙ take-at (setWords cs vs ps k) rest 16 (length-set-words k)
+          ∙ ap (setWords cs vs ps) (sym e)
+
+  module _ (few : nodeCount cs ≤ 1024) where
+    part-has : (k j : ℕ) (rest : List ℕ) → j < k → (w : ℕ) → w < nodeCount cs → has (drop (16 * j) (stepWords cs vs ps k ++ rest)) w ≡ setAt cs vs ps j w
+    unfolding setWords
+    part-has k j rest l w lw =
+        sym (has-take (drop (16 * j) (stepWords cs vs ps k ++ rest)) w (omega arith))
+        ∙ has-of (λ v. ltb v (nodeCount cs) && setAt cs vs ps j v) 16 (part-words k j rest l) w (omega arith)
+        ∙ ap (λ (b : Bool). b && setAt cs vs ps j w) (lt-ltb w (nodeCount cs) lw)
+
+    -- step k from the words of the steps below it is step k
+    step-from : (k : ℕ) (rest : List ℕ) → stepOk cs k (stepAt ps k) ≡ true → stepFrom cs vs ps (stepWords cs vs ps k ++ rest) k ≡ setWords cs vs ps k
+    unfolding stepFrom setWords nodesOf setAt setBy
+    step-from k rest ok = nodes-ext _ _ (nodeCount cs) (λ v l.
+        in-step-ext cs vs k _ _ (λ j lj w lw. part-has k j rest lj w lw ∙ sym (ap (λ (s : ℕ → Bool). s w) (below-number (λ v. false) (λ k sets. inStep cs vs (stepAt ps k) sets) k j lj))) v l (stepAt ps k) ok
+        ∙ sym (ap (λ (s : ℕ → Bool). s v) (at-number (λ v. false) (λ k sets. inStep cs vs (stepAt ps k) sets) k)))
+
+    -- a turn of the loop over the steps
+    pub steps-more : (ws : List ℕ) {now : List ℕ} (k : ℕ) → stepOk cs k (stepAt ps k) ≡ true → now ≡ stepWords cs vs ps k ++ drop (16 * k) ws → put now k (stepFrom cs vs ps now k) ≡ stepWords cs vs ps (k + 1) ++ drop (16 * (k + 1)) ws
+    unfolding put stepWords
+    steps-more ws {now} k ok e =
+        ap (λ (l : List ℕ). put l k (stepFrom cs vs ps l k)) e
+        ∙ ap₂ (λ (x y : List ℕ). x ++ y) (take-at (stepWords cs vs ps k) (drop (16 * k) ws) (16 * k) (length-steps k))
+        (ap₂ (λ (x y : List ℕ). x ++ y) (step-from k (drop (16 * k) ws) ok) (sym (drop-drop 16 (16 * k) (stepWords cs vs ps k ++ drop (16 * k) ws)) ∙ ap (drop 16) (drop-at (stepWords cs vs ps k) (drop (16 * k) ws) (16 * k) (length-steps k)) ∙ drop-drop 16 (16 * k) ws))
+        ∙ sym (append-assoc (stepWords cs vs ps k) (setWords cs vs ps k) (drop (16 * k + 16) ws))
+        ∙ ap₂ (λ (i m : ℕ). stepWords cs vs ps i ++ drop m ws) (sym (add-one k)) (let z : 16 * k + 16 ≡ 16 * (k + 1) = omega arith in z)
+
+  pub steps-none : (ws : List ℕ) → ws ≡ stepWords cs vs ps 0 ++ drop (16 * 0) ws
+  unfolding stepWords
+  steps-none ws = refl
+
+  pub steps-done : (ws : List ℕ) {now : List ℕ} (k : ℕ) → k ≡ stepCount ps → now ≡ stepWords cs vs ps k ++ drop (16 * k) ws → now ≡ filled cs vs ps ws
+  unfolding filled
+  steps-done ws k e h = h ∙ ap (λ (i : ℕ). stepWords cs vs ps i ++ drop (16 * i) ws) e
+
+  -- ---- what stands in the work space afterwards, from word 16 * k on: the sixteen words of step k, and so its set
+  pub filled-words : (ws : List ℕ) (k : ℕ) → k < stepCount ps → take 16 (drop (16 * k) (filled cs vs ps ws)) ≡ setWords cs vs ps k
+  unfolding filled
+  filled-words ws k l = part-words (stepCount ps) k (drop (16 * stepCount ps) ws) l
+
+  pub filled-has : nodeCount cs ≤ 1024 → (ws : List ℕ) (k : ℕ) → k < stepCount ps → (v : ℕ) → v < nodeCount cs → has (drop (16 * k) (filled cs vs ps ws)) v ≡ setAt cs vs ps k v
+  unfolding filled
+  filled-has few ws k l v lv = part-has few (stepCount ps) k (drop (16 * stepCount ps) ws) l v lv
+
+-- a step's words are sixteen
+pub length-step : (cs : List ℕ) (vs : List ℤ) (ps ws : List ℕ) (k : ℕ) {s : List ℕ} → s ≡ stepFrom cs vs ps ws k → length s ≡ 16
+unfolding stepFrom nodesOf
+length-step cs vs ps ws k e = length-of _ 16 e

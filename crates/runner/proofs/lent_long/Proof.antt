@@ -1,0 +1,25 @@
+use mathlib.Core.Bool.{Bool, _&&_}
+use mathlib.Core.Path.{ap}
+use lib.Dec.{leb}
+use lib.ListN.{length}
+use denote.Ref.{now}
+use Rattle.plan.specs.Layout.{planCount}
+use Rattle.runner.specs.Run.{workCount, lentLong}
+use borrow.Author.Needs.{needs}
+use Rattle.runner.proofs.lent_long.Statement.{statement}
+use Rattle.runner.proofs.lent_long.Tie as tie
+use Rattle.runner.proofs.lent_long.Reads as reads
+use Rattle.runner.proofs.lent_long.Lts as lts
+use Rattle.tables.proofs.lent.enough.Reads as enough-reads
+
+-- src/lib.rt:122:5
+enough-requires : tie.Need-enough-requires
+enough-requires c κs = search needs
+
+-- src/lib.rt:119:1
+returns : tie.Need-returns
+unfolding lentLong
+returns c = ap (λ (x : Bool). x && (leb planCount (length (now (c .before .before .before .before .before .args .plan))) && leb workCount (length (now (c .before .before .before .before .before .args .work))))) (c .enough .ensures)
+
+pub lent-long-spec : {M : Type 1} → statement M
+lent-long-spec = tie.close (tie.spec enough-requires returns)
