@@ -12,8 +12,9 @@ use Rattle.model.specs.Limits.{maxNodes}
 use Rattle.tables.specs.Sizes.{longEnough}
 use Rattle.tables.proofs.Sizes as sizes
 use Rattle.plan.specs.Layout.{planCount}
+use Rattle.runner.specs.Run.{workCount}
 use Rattle.lists.specs.Rows.{over}
-use Rattle.lists.specs.Answers.{Answer, refused, listed, workCount, long, right, known, nodesOf, listSaid, rowAfter}
+use Rattle.lists.specs.Answers.{Answer, refused, listed, long, right, known, nodesOf, listSaid, rowAfter}
 
 -- the slices are as long as the limits
 pub record Lent (ns cs : List ℕ) (vs : List ℤ) (ps ws row : List ℕ) : Type 0 where

@@ -12,12 +12,10 @@ use Rattle.tables.specs.Sizes.{longEnough}
 use Rattle.tables.specs.WellFormed.{wellFormed}
 use Rattle.plan.specs.Layout.{planCount}
 use Rattle.plan.specs.WellFormed.{planWellFormed}
+use Rattle.runner.specs.Run.{workCount}
 use Rattle.lists.specs.Rows.{over, listIn}
 use Rattle.lists.specs.declared.Listed.{Listed}
 use Rattle.lists.specs.declared.Listed.the-variants.{Nodes, Refused}
-
-abbrev pub workCount : ℕ
-workCount = 8192
 
 -- document 01's number of a refusal (0: none), its line, and how many nodes are listed
 pub record Answer : Type 0 where

@@ -6,6 +6,7 @@ use nodeset::next_member;
 use plan::PLAN_CELLS;
 use plancheck::plan_well_formed;
 use plancheck::reads::rule_step;
+use runner::WORK_WORDS;
 use tablecheck::well_formed;
 use tables::layout::CELLS;
 use tables::lent::enough;
@@ -21,11 +22,9 @@ ghost use Rattle.tables.specs.Layout.{nodeCount, ruleCount};
 ghost use Rattle.tables.specs.WellFormed.{wellFormed};
 ghost use Rattle.plan.specs.Layout.{ruleStepAt};
 ghost use Rattle.plan.specs.WellFormed.{planWellFormed};
+ghost use Rattle.runner.specs.Run.{workCount};
 ghost use Rattle.lists.specs.Rows.{listCount, lengthCount, over, listIn, withRows, withLengths};
-ghost use Rattle.lists.specs.Answers.{workCount, saidOf, long, listSaid, rowAfter};
-
-// (stand-in until runner is there)
-const WORK_WORDS: usize = 8192;
+ghost use Rattle.lists.specs.Answers.{saidOf, long, listSaid, rowAfter};
 
 // How many nodes a list has; or why there is none.
 pub enum Listed {

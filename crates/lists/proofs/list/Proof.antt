@@ -49,7 +49,7 @@ returns-3 c = let a = c .before .before .before .before .before .before .before 
 
 list-rule-requires : tie.Need-list-rule-requires
 list-rule-requires c κs =
-    let a = c .before .before .before .before .before .before .before .before .before .before .before .before .before .before .before .args in 
+    let a = c .before .before .before .before .before .before .before .before .before .before .before .before .before .before .before .args in
     let l = lent (now (a .names)) (now (a .cells)) (now (a .values)) (now (a .plan)) (now (a .work)) (now (a .row)) (sym (c .before .before .before .before .before .before .before .before .long-enough .ensures) ∙ not-false (c .before .before .before .before .before .before .before .before .long-enough .result) (c .before .before .before .before .before .before .before .if1 .left)) in
     let w = (sym (c .before .before .before .before .both-well-formed .ensures) ∙ not-false (c .before .before .before .before .both-well-formed .result) (c .before .before .before .if2 .left)) in
     let cs = take 16602 (now (a .cells)) in
