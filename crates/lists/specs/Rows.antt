@@ -1,7 +1,7 @@
 -- The list of a rule, read off the work space; and the rows of all rules.
 use Prim.Native.Nat.{ℕ, zero, suc, _+_, _*_, _≤_}
 use mathlib.Core.List.{List, _++_}
-use lib.ListN.{length, take, drop, set}
+use lib.ListN.{length, take, drop, set, getD}
 use Rattle.base.specs.Bounded.{members}
 use Rattle.nodeset.specs.Words.{has}
 use Rattle.tables.specs.Layout.{nodeCount}
@@ -35,3 +35,7 @@ withRows list (suc r) ls = withRow r (list r) (withRows list r ls)
 unfoldable pub withLengths : (ℕ → List ℕ) → ℕ → List ℕ → List ℕ
 withLengths list zero ls = ls
 withLengths list (suc r) ls = set (withLengths list r ls) r (length (list r))
+
+-- the list of rule r: its row, up to its length
+unfoldable pub row : (lists lengths : List ℕ) → ℕ → List ℕ
+row lists lengths r = take (getD lengths r 0) (drop (1024 * r) lists)
