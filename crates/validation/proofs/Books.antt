@@ -1,0 +1,67 @@
+-- What the tables of a valid book say is what the book says: its lists, and how many steps its plan has.
+use Prim.Native.Nat.{ℕ, _+_, _*_, _<_, _≤_}
+use mathlib.Core.Path.{_≡_, refl, sym, ap, ap₂, subst, _∙_}
+use mathlib.Core.List.{List, _++_}
+use mathlib.Core.Bool.{Bool, true, _&&_}
+use native.Mathlib.Omega.{arith}
+use lib.Dec.{ltb}
+use lib.ListN.{length, drop, getD}
+use Rattle.base.specs.Lists.{member, ascending, values}
+use Rattle.base.specs.Bounded.{members}
+use Rattle.base.proofs.Lists.{at-values}
+use Rattle.base.proofs.Bounded.{member-members, members-ascending, size-members, size-le}
+use Rattle.model.specs.Graph.{Graph}
+use Rattle.model.specs.Shapes.{Shape}
+use Rattle.model.specs.Rules.{Rule, selects, violates, violations}
+use Rattle.model.specs.Books.{Book, graphOf, schema, rules, conformsIn, listOf}
+use Rattle.model.specs.Sizes.{formsIn}
+use Rattle.model.specs.Valid.{admissible}
+use Rattle.tables.specs.Layout.{ruleCount}
+use Rattle.tables.specs.Decode.{graphAt, schemaAt, ruleAt, rulesAt}
+use Rattle.encoding.specs.Encode.{encodeCells, encodeValues}
+use Rattle.encoding.proofs.Counts.{forms-counted, rules-counted}
+use Rattle.encoding.proofs.Graph.{graph-read, rules-read}
+use Rattle.encoding.proofs.Schema.{schema-read}
+use Rattle.plan.specs.Layout.{stepCount, planCount}
+use Rattle.translation.specs.Compile.{stepsOf, planOf}
+use Rattle.translation.proofs.Plans.{plan-few, plan-count}
+use Rattle.lists.specs.Rows.{row}
+use Rattle.tablerun.specs.Lists.{listAt}
+use Rattle.validation.specs.Claim.{noRule, ruleOf, breaks, Right}
+
+module _ (b : Book) (ok : admissible b ≡ true) where
+  -- the list of rule r
+  pub list-read : (r : ℕ) → r < length (rules b) → listAt (encodeCells b) (encodeValues b) r ≡ listOf b (ruleOf b r)
+  unfolding listAt listOf rulesAt
+  list-read r low =
+      let f = ruleAt (encodeCells b) in
+      let n = ruleCount (encodeCells b) in
+      let same : f r ≡ ruleOf b r = sym (at-values f n r noRule (omega (arith, low, rules-counted b))) ∙ ap (λ (l : List Rule). getD l r noRule) (rules-read b ok) in
+      ap₂ (λ (g : Graph) (H : List Shape). violations g H (f r)) (graph-read b ok) (schema-read b ok) ∙ ap (violations (graphOf b) (schema b)) same
+
+  pub steps-few : length (stepsOf (encodeCells b)) ≤ 4 * formsIn b + 2 * length (rules b)
+  steps-few = omega (arith, plan-few (encodeCells b), forms-counted b, rules-counted b)
+
+-- ---- the members of a list, in words of the claim
+module _ (b : Book) (q : Rule) where
+  pub listed-exactly : (v : ℕ) → member v (listOf b q) ≡ breaks b q v
+  unfolding listOf violations violates conformsIn
+  listed-exactly v = member-members (violates (graphOf b) (schema b) q) (graphOf b .nodes) v
+
+  pub listed-ordered : ascending (listOf b q) ≡ true
+  unfolding listOf violations
+  listed-ordered = members-ascending (violates (graphOf b) (schema b) q) (graphOf b .nodes)
+
+  pub listed-few : length (listOf b q) ≤ graphOf b .nodes
+  unfolding listOf violations
+  listed-few = subst (λ k. k ≤ graphOf b .nodes) (size-members (violates (graphOf b) (schema b) q) (graphOf b .nodes)) (size-le (violates (graphOf b) (schema b) q) (graphOf b .nodes))
+
+-- ---- the claim for a book whose lists stand in their rows
+pub right : (b : Book) (plan lists lengths : List ℕ) (n : ℕ) → ((r : ℕ) → r < length (rules b) → row lists lengths r ≡ listOf b (ruleOf b r)) → stepCount plan ≡ n → n ≤ 4 * formsIn b + 2 * length (rules b) → Right b plan lists lengths n
+right b plan lists lengths n rows e l =
+    record {
+      exactly = λ r low v. ap (member v) (rows r low) ∙ listed-exactly b (ruleOf b r) v;
+      ordered = λ r low. ap ascending (rows r low) ∙ listed-ordered b (ruleOf b r);
+      counted = e;
+      few = l;
+    }
