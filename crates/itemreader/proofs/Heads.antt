@@ -20,7 +20,7 @@ use Rattle.grammar.specs.Syntax.{Slot, Arg, Args, Family}
 use Rattle.grammar.specs.Reading.{Read, got, refused, andThen, Readers, Begun, after, argAt, argsAt, closeAt, bodyAt, bracketAt}
 use Rattle.grammar.specs.Reading as reading
 use Rattle.itemreader.specs.declared.Head.{Head}
-use Rattle.itemreader.specs.Answers.{headed, headAt, Headed, wordsOf}
+use Rattle.itemreader.specs.Answers.{headed, headAt, Headed, wordsOf, restAt}
 use Rattle.itemreader.proofs.Items.{item-within}
 
 -- ---- a word in a table
@@ -117,16 +117,12 @@ module _ (s : List ℕ) (a : Book) {A : Type 0} (F : Family A) (R : Readers) (de
 
 -- ---- what follows the word: its arguments one after the other, and the closing bracket
 module _ (s : List ℕ) (a : Book) (R : Readers) {A : Type 0} (room : Bool) where
-  -- the arguments ks and the closing bracket, where f makes the whole of them
-  abbrev pub restAt : (ks : List Slot) → (Args ks → A) → Begun → ℕ → Read A
-  restAt ks f n at = andThen (argsAt s a R ks n at) (λ xs next. closeAt s a room (f xs) next)
-
-  pub rest-none : (f : Args [] → A) (n : Begun) (at : ℕ) → restAt [] f n at ≡ closeAt s a room (f tt) at
+  pub rest-none : (f : Args [] → A) (n : Begun) (at : ℕ) → restAt s a R room [] f n at ≡ closeAt s a room (f tt) at
   unfolding argsAt
   rest-none f n at = refl
 
   module _ (k : Slot) (ks : List Slot) (f : Args (k ∷ ks) → A) (n : Begun) (at : ℕ) where
-    pub rest-got : (x : Arg k) (next : ℕ) → argAt s a R k n at ≡ got x next → restAt (k ∷ ks) f n at ≡ restAt ks (λ xs. f (x, xs)) (after k x n) next
+    pub rest-got : (x : Arg k) (next : ℕ) → argAt s a R k n at ≡ got x next → restAt s a R room (k ∷ ks) f n at ≡ restAt s a R room ks (λ xs. f (x, xs)) (after k x n) next
     unfolding argsAt
     rest-got x next e = rw e (go (argsAt s a R ks (after k x n) next))
       where
@@ -134,7 +130,7 @@ module _ (s : List ℕ) (a : Book) (R : Readers) {A : Type 0} (room : Bool) wher
         go (got xs last) = refl
         go (refused r) = refl
 
-    pub rest-refused : (r : ℕ) → argAt s a R k n at ≡ refused r → restAt (k ∷ ks) f n at ≡ refused r
+    pub rest-refused : (r : ℕ) → argAt s a R k n at ≡ refused r → restAt s a R room (k ∷ ks) f n at ≡ refused r
     unfolding argsAt
     rest-refused r e = rw e
 

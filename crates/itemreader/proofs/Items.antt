@@ -36,7 +36,7 @@ use Rattle.itemreader.specs.declared.Counts.{Counts}
 use Rattle.itemreader.specs.declared.Pool as code
 use Rattle.itemreader.specs.declared.Item.{Item}
 use Rattle.itemreader.specs.declared.Value.{Value}
-use Rattle.itemreader.specs.Answers.{poolOf, itemOf, same, Below, itemsAfter, Listed}
+use Rattle.itemreader.specs.Answers.{poolOf, itemOf, same, Below, Counted, itemsAfter, Listed}
 use Rattle.itemreader.specs.Held.{countOf, Limits}
 
 -- ---- the item after a byte that is not 0: where it lies
@@ -189,6 +189,13 @@ pub item-got : {A : Type 0} (f : A → ℕ) (x : Read A) (r : Item) (k next : �
 item-got f (got y n) r k next p q = let e : n ≡ next = cc in (y, ap (got y) e, cc)
 item-got f (refused j) r k next p q = let z : _≡_ {A = ℕ} 0 1 = cc in absurd (omega arith)
 
+pub counted-is : (least most len : ℕ) (r : Item) (k next : ℕ) → Counted least most len r → r ≡ Item.Is k next → (least ≤ k) × (k ≤ most) × (next ≤ len)
+counted-is least most len r k next g e = rw e at g
+
+pub counted-less : (m n most len : ℕ) (r : Item) → n ≤ m → Counted m most len r → Counted n most len r
+counted-less m n most len (Item.Is k next) l g = let h = g .0 in (omega arith, g .1, g .2)
+counted-less m n most len (Item.No k) l g = tt
+
 pub number-got : (x : Read ℕ) (r : Item) (k next : ℕ) → r ≡ itemOf same x → r ≡ Item.Is k next → x ≡ got k next
 number-got x r k next p q = let y = item-got same x r k next p q in y .1 ∙ ap (λ (j : ℕ). got j next) (y .2)
 
@@ -283,3 +290,6 @@ module _ (i k : ℕ) where
   unfolding putItems
   more-listed (got ks next) before after e = e
   more-listed (refused r) before after e = tt
+
+pub listed-got : (x : Read (List ℕ)) (ks : List ℕ) (next i : ℕ) (before after : List ℕ) → x ≡ got ks next → Listed x i before after → after ≡ putItems i ks before
+listed-got x ks next i before after e w = rw e at w

@@ -12,8 +12,8 @@ use Rattle.text.specs.Pool.{indexOf}
 use Rattle.text.specs.declared.Found.{Found}
 use Rattle.model.specs.Books.{Book}
 use Rattle.model.specs.Books as books
-use Rattle.grammar.specs.Syntax.{Slot, Arg, Family}
-use Rattle.grammar.specs.Reading.{Read, got, refused, Readers, Begun, argAt}
+use Rattle.grammar.specs.Syntax.{Slot, Arg, Args, Family}
+use Rattle.grammar.specs.Reading.{Read, got, refused, andThen, Readers, Begun, argAt, argsAt, closeAt}
 use Rattle.stores.specs.Entries.{putItems}
 use Rattle.itemreader.specs.declared.Pool.{Pool}
 use Rattle.itemreader.specs.declared.Item.{Item}
@@ -44,6 +44,11 @@ valueOf (refused k) = Value.No k
 -- r is the answer for the argument at a position, by the numbers f
 abbrev pub Reads : List ℕ → Book → (k : Slot) → (Arg k → ℕ) → ℕ → Item → Type 0
 Reads s a k f at r = (R : Readers) (b : Begun) → r ≡ itemOf f (argAt s a R k b at)
+
+-- a number from low to most, and a position in a text of a length
+abbrev pub Counted : ℕ → ℕ → ℕ → Item → Type 0
+Counted low most len (Item.Is k next) = (low ≤ k) × (k ≤ most) × (next ≤ len)
+Counted low most len (Item.No k) = Unit {0}
 
 -- a number below a bound, and a position in a text of a length
 abbrev pub Below : ℕ → ℕ → Item → Type 0
@@ -86,3 +91,8 @@ Headed count left full len (Head.No k) = Unit {0}
 -- the words of a family
 unfoldable pub wordsOf : {A : Type 0} → Family A → List (List ℕ)
 wordsOf F = map (F .word) (F .codes)
+
+-- ---- what follows the word of a bracket
+-- the arguments ks and the closing bracket, where f makes the whole of them
+abbrev pub restAt : List ℕ → Book → Readers → {A : Type 0} → Bool → (ks : List Slot) → (Args ks → A) → Begun → ℕ → Read A
+restAt s a R room ks f n at = andThen (argsAt s a R ks n at) (λ xs next. closeAt s a room (f xs) next)

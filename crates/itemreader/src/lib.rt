@@ -26,7 +26,7 @@ ghost use Rattle.grammar.specs.Valid.{wellNamed};
 ghost use Rattle.model.specs.Valid.{capacity};
 ghost use Rattle.encoding.specs.Flatten.{kindCode, upperNumber};
 ghost use Rattle.stores.specs.Lines.{poolBase};
-ghost use Rattle.itemreader.specs.Answers.{poolOf, same, itemOf, valueOf, Reads, Below, Inside, itemsAfter, Listed, headAt, Headed, wordsOf};
+ghost use Rattle.itemreader.specs.Answers.{poolOf, same, itemOf, valueOf, Reads, Below, Counted, Inside, itemsAfter, Listed, headAt, Headed, wordsOf};
 ghost use Rattle.itemreader.specs.Held.{countOf, Limits, Held, Kinds};
 
 pub enum Pool {
@@ -301,7 +301,7 @@ pub fn read_list(
     requires { ⌜ (at ≤ length (now book)) × (45056 ≤ length (now names)) × (16602 ≤ length (now cells)) × (i ≤ 128) × Limits counts ⌝ }
     ensures { λ r. ⌜ ((a : Book) → Held (now (names .entry)) counts a → r ≡ itemOf (itemsAfter i) (listAt (now (book .entry)) a (poolOf pool) (128 - i) at)) ⌝ }
     ensures { λ _. ⌜ ((a : Book) → Held (now (names .entry)) counts a → Listed (listAt (now (book .entry)) a (poolOf pool) (128 - i) at) i (now (cells .entry)) (now (cells .exit))) ⌝ }
-    ensures { λ r. ⌜ Below 129 (length (now (book .entry))) r ⌝ }
+    ensures { λ r. ⌜ Counted i 128 (length (now (book .entry))) r ⌝ }
     ensures { λ _. ⌜ drop 16602 (now (cells .exit)) ≡ drop 16602 (now (cells .entry)) ⌝ }
 {
     if byte(book, at) != 32 {

@@ -3,6 +3,7 @@ use Prim.Native.Nat.{ℕ, zero, suc, _+_, _*_, _-_, _≤_, _<_}
 use mathlib.Core.Path.{_≡_, refl, sym, ap, _∙_, subst}
 use mathlib.Core.List.{List, [], _∷_}
 use mathlib.Core.Bool.{Bool, true, false, cond}
+use native.Mathlib.Nat.{add-zero}
 use native.Mathlib.Omega.{arith}
 use lib.Dec.{eqb, ltb}
 use lib.ListN.{length, getD, set}
@@ -14,7 +15,8 @@ use Rattle.text.specs.Pool.{indexOf}
 use Rattle.text.specs.declared.Found.{Found}
 use Rattle.model.specs.Graph.{Term}
 use Rattle.model.specs.Rules.{Rule}
-use Rattle.model.specs.Books.{Name, Line, node, fact, rule, Book, Pool, nodes, links, types, langs, shapes, names, collect, newTriples, rules}
+use Rattle.model.specs.Books.{Name, Line, node, fact, rule, Book, Pool, nodes, links, types, langs, shapes, joins, newNames, newTriples, newShapes, newRules, names, collect, rules}
+use Rattle.model.specs.Sizes.{sumOver}
 use Rattle.model.specs.Valid.{capacity, hasRoom}
 use Rattle.grammar.specs.Valid.{wellNamed}
 use Rattle.tables.specs.Layout.{nodeKinds, nodeTypes, nodeLangs, subjects, predicates, objects, ruleShapes, ruleTargets, ruleOperands}
@@ -22,10 +24,10 @@ use Rattle.encoding.specs.Rows.{nodeRow, targetCode, targetOperand}
 use Rattle.grammar.specs.Syntax.{Slot, Arg, Args, new, LineCode, linkL, typeL, langL, thingL, blankL, factL, ruleL, lineFamily}
 use Rattle.grammar.specs.Reading.{Read, got, refused, andThen, Readers, Begun, after, unknown, newAt, argAt, argsAt, closeAt, bodyAt, readersAt, lineRoom, begunAbove}
 use Rattle.stores.specs.Lines.{poolBase, putName, putNode, putFact, putRule, lineNames, lineCells, lineValues}
-use Rattle.itemreader.specs.Answers.{Reads, valueOf, Inside}
+use Rattle.itemreader.specs.Answers.{Reads, valueOf, Inside, restAt}
 use Rattle.itemreader.specs.declared.Value.{Value}
 use Rattle.itemreader.proofs.Items.{item-within, named-short, item-got, item-refused}
-use Rattle.itemreader.proofs.Heads.{restAt, rest-none, rest-got, rest-refused, close-not, close-full, close-got}
+use Rattle.itemreader.proofs.Heads.{rest-none, rest-got, rest-refused, close-not, close-full, close-got}
 use Rattle.itemreader.specs.declared.Counts.{Counts}
 use Rattle.itemreader.specs.declared.Item.{Item}
 use Rattle.linereader.specs.declared.LineAnswer.{LineAnswer}
@@ -259,12 +261,18 @@ module _ (a : Book) (w : Name) where
   lone-values langs o vs = refl
   lone-values shapes o vs = absurd o
 
+-- ---- the counts with a line
 pub lone-counted : (p : Pool) → Lone p → (w : Name) (c : Counts) → named p c ≡ counted (loneLine p w) c
+unfolding newNames joins newTriples newShapes newRules sumOver
 lone-counted nodes o w c = absurd o
-lone-counted links o w c = refl
-lone-counted types o w c = refl
-lone-counted langs o w c = refl
+lone-counted links o w c = simp add-zero
+lone-counted types o w c = simp add-zero
+lone-counted langs o w c = simp add-zero
 lone-counted shapes o w c = absurd o
+
+pub node-counted : (w : Name) (t : Term) (c : Counts) → named nodes c ≡ counted (node w t) c
+unfolding newNames joins newTriples newShapes newRules sumOver
+node-counted w t c = simp add-zero
 
 -- ---- thing and blank
 module _ (s : List ℕ) (a : Book) where

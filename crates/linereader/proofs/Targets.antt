@@ -13,8 +13,8 @@ use Rattle.encoding.specs.Rows.{targetCode, targetOperand}
 use Rattle.grammar.specs.Syntax.{Args, used, target, TargetCode, nodeC, subjectsC, objectsC, classC, targetFamily}
 use Rattle.grammar.specs.Reading.{Read, got, refused, andThen, Readers, Begun, after, argAt, closeAt, bodyAt, bracketAt, within, readersAt}
 use Rattle.itemreader.specs.declared.Head.{Head}
-use Rattle.itemreader.specs.Answers.{headAt, Headed, wordsOf}
-use Rattle.itemreader.proofs.Heads.{restAt, rest-none, rest-got, rest-refused, close-not, close-got, bracket-bare, bracket-refused, bracket-word}
+use Rattle.itemreader.specs.Answers.{headAt, Headed, wordsOf, restAt}
+use Rattle.itemreader.proofs.Heads.{rest-none, rest-got, rest-refused, close-not, close-got, bracket-bare, bracket-refused, bracket-word}
 use Rattle.linereader.specs.declared.TargetAnswer.{TargetAnswer}
 use Rattle.linereader.specs.Storing.{operandPool, targetAnswer, Targeted}
 

@@ -7,10 +7,10 @@ use lib.Dec.{eqb}
 use lib.ListN.{length, getD, drop, set}
 use lib.IntN.{ℤ}
 use Rattle.model.specs.Graph.{Term, iri, blankNode}
-use Rattle.model.specs.Books.{Name, Line, link, type, lang, node, fact, shape, rule, Book, Pool, nodes, links, types, langs, shapes}
+use Rattle.model.specs.Books.{Name, Line, link, type, lang, node, fact, shape, rule, Book, Pool, nodes, links, types, langs, shapes, newNames, newTriples, newShapes, newRules}
 use Rattle.model.specs.Shapes.{top}
 use Rattle.model.specs.Rules.{Target}
-use Rattle.model.specs.Sizes.{formEntries, shapePaths, listItems}
+use Rattle.model.specs.Sizes.{formEntries, shapePaths, listItems, sumOver}
 use Rattle.tables.specs.Layout.{nameCount, cellCount, valueCount}
 use Rattle.encoding.specs.Rows.{nodeRow, targetCode, targetOperand}
 use Rattle.grammar.specs.Syntax.{LineCode, linkL, typeL, langL, thingL, blankL, shapeL, lineFamily}
@@ -31,15 +31,21 @@ named types c = record { nodes = c .nodes; links = c .links; types = c .types + 
 named langs c = record { nodes = c .nodes; links = c .links; types = c .types; langs = c .langs + 1; shapes = c .shapes; facts = c .facts; paths = c .paths; forms = c .forms; items = c .items; rules = c .rules }
 named shapes c = record { nodes = c .nodes; links = c .links; types = c .types; langs = c .langs; shapes = c .shapes + 1; facts = c .facts; paths = c .paths; forms = c .forms; items = c .items; rules = c .rules }
 
--- with a line
+-- with a line: what it adds to each pool, its fact, the entries and items of its shape, its rule
 abbrev pub counted : Line → Counts → Counts
-counted (link n) c = named links c
-counted (type n) c = named types c
-counted (lang n) c = named langs c
-counted (node n t) c = named nodes c
-counted (fact t) c = record { nodes = c .nodes; links = c .links; types = c .types; langs = c .langs; shapes = c .shapes; facts = c .facts + 1; paths = c .paths; forms = c .forms; items = c .items; rules = c .rules }
-counted (shape n φ) c = record { nodes = c .nodes; links = c .links; types = c .types; langs = c .langs; shapes = c .shapes + 1; facts = c .facts; paths = c .paths + shapePaths φ; forms = c .forms + formEntries φ; items = c .items + listItems φ; rules = c .rules }
-counted (rule r) c = record { nodes = c .nodes; links = c .links; types = c .types; langs = c .langs; shapes = c .shapes; facts = c .facts; paths = c .paths; forms = c .forms; items = c .items; rules = c .rules + 1 }
+counted l c =
+    record {
+      nodes = c .nodes + length (newNames nodes l);
+      links = c .links + length (newNames links l);
+      types = c .types + length (newNames types l);
+      langs = c .langs + length (newNames langs l);
+      shapes = c .shapes + length (newNames shapes l);
+      facts = c .facts + length (newTriples l);
+      paths = c .paths + sumOver shapePaths (newShapes l);
+      forms = c .forms + sumOver formEntries (newShapes l);
+      items = c .items + sumOver listItems (newShapes l);
+      rules = c .rules + length (newRules l);
+    }
 
 -- facts, rules and entries within their limits
 pub record Fits (c : Counts) : Type 0 where

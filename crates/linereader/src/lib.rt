@@ -1,4 +1,5 @@
-// The reader of single lines: what stands on a line, stored at its places, with the counts after it; or the refusal.
+// The reader of each kind of line but `shape`, from the end of its word: what stands on it, stored at its places, with the
+// counts after it; or the refusal.
 // Functions for the crate above, on tables that hold the lines above. Operations: none.
 use itemreader::Counts;
 use itemreader::Head;
@@ -30,13 +31,13 @@ ghost use mathlib.Core.List.{List};
 ghost use mathlib.Core.Bool.{true};
 ghost use Prim.Native.Nat.{ℕ, _≤_, _<_, _+_, _*_, _-_};
 ghost use lib.IntN.{ℤ};
-ghost use lib.ListN.{length, set};
+ghost use lib.ListN.{length};
 ghost use lib.Seq.{slice};
 ghost use Rattle.model.specs.Graph.{Term, Triple};
 ghost use Rattle.model.specs.Books.{Book, Line, node, fact, rule, nodes};
 ghost use Rattle.model.specs.Rules.{Rule};
 ghost use Rattle.grammar.specs.Syntax.{target, numberL, textL, wordsL, factL, ruleL};
-ghost use Rattle.grammar.specs.Reading.{Begun, argAt, readersAt, lineAt};
+ghost use Rattle.grammar.specs.Reading.{Begun, argAt, readersAt};
 ghost use Rattle.tables.specs.Layout.{nodeKinds, nodeTypes, nodeLangs, subjects, predicates, objects, ruleShapes, ruleTargets, ruleOperands};
 ghost use Rattle.stores.specs.Lines.{poolBase, putName};
 ghost use Rattle.itemreader.specs.Answers.{poolOf};
@@ -63,7 +64,7 @@ pub struct Node {
 }
 
 // The number of a refusal; what was read has none.
-fn refusal(r: Item) -> u8
+pub fn refusal(r: Item) -> u8
     ensures { λ k. ⌜ k ≡ refusalOf r ⌝ }
 {
     match r {
@@ -88,7 +89,7 @@ fn with_name(mut counts: Counts, pool: Pool) -> Counts
 }
 
 // The closing bracket of a line and its LF; room: the line is within its limit; counts: those with the line.
-fn line_end(book: &[u8], at: usize, room: bool, counts: Counts) -> LineAnswer
+pub fn line_end(book: &[u8], at: usize, room: bool, counts: Counts) -> LineAnswer
     requires { ⌜ at ≤ length (now book) ⌝ }
     ensures { λ r. ⌜ ((a : Book) (l : Line) → r ≡ endedWith counts (lineEnd (now (book .entry)) a room l at)) ⌝ }
 {
@@ -106,7 +107,7 @@ fn line_end(book: &[u8], at: usize, room: bool, counts: Counts) -> LineAnswer
 }
 
 // Stores the name that ends at end, a space at its start, as the next of its pool.
-fn put_new(names: &mut [u8], counts: Counts, pool: Pool, book: &[u8], at: usize, end: usize)
+pub fn put_new(names: &mut [u8], counts: Counts, pool: Pool, book: &[u8], at: usize, end: usize)
     requires { ⌜ (at + 1 ≤ end) × (end ≤ length (now book)) × (end - (at + 1) ≤ 31) × (poolBase (poolOf pool) + countOf counts (poolOf pool) * 32 + 32 ≤ 45056) × (45056 ≤ length (now names)) × Limits counts ⌝ }
     ensures { λ _. ⌜ now (names .exit) ≡ putName (poolOf pool) (countOf counts (poolOf pool)) (slice (at + 1) end (now (book .entry))) (now (names .entry)) ⌝ }
 {
@@ -130,7 +131,7 @@ fn put_row(cells: &mut [u16], i: usize, j: usize, k: usize, x: u16, y: u16, z: u
 }
 
 // `(link N)`, `(type N)`, `(lang N)`, from the end of the word.
-fn name_line(names: &mut [u8], counts: Counts, pool: Pool, book: &[u8], at: usize) -> LineAnswer
+pub fn name_line(names: &mut [u8], counts: Counts, pool: Pool, book: &[u8], at: usize) -> LineAnswer
     requires { ⌜ (at ≤ length (now book)) × (45056 ≤ length (now names)) × Limits counts × ((a : Book) × Held (now names) counts a) × Lone (poolOf pool) ⌝ }
     ensures { λ r. ⌜ ((a : Book) (cs : List ℕ) (vs : List ℤ) → Held (now (names .entry)) counts a → Done a counts (lineBody (now (book .entry)) a (loneCode (poolOf pool)) at) r (now (names .entry)) (now (names .exit)) cs cs vs vs) ⌝ }
 {
@@ -199,7 +200,7 @@ fn node_end(
 }
 
 // `(thing N)` for kind 0, `(blank N)` for kind 1.
-fn resource_line(
+pub fn resource_line(
     names: &mut [u8],
     cells: &mut [u16],
     values: &mut [i64],
@@ -224,7 +225,7 @@ fn resource_line(
 }
 
 // `(number N T V)`.
-fn number_line(
+pub fn number_line(
     names: &mut [u8],
     cells: &mut [u16],
     values: &mut [i64],
@@ -257,7 +258,7 @@ fn number_line(
 }
 
 // `(text N T)`.
-fn text_line(
+pub fn text_line(
     names: &mut [u8],
     cells: &mut [u16],
     values: &mut [i64],
@@ -285,7 +286,7 @@ fn text_line(
 }
 
 // `(words N L)`.
-fn words_line(
+pub fn words_line(
     names: &mut [u8],
     cells: &mut [u16],
     values: &mut [i64],
@@ -313,7 +314,13 @@ fn words_line(
 }
 
 // `(fact S P O)`.
-fn fact_line(cells: &mut [u16], names: &[u8], counts: Counts, book: &[u8], at: usize) -> LineAnswer
+pub fn fact_line(
+    cells: &mut [u16],
+    names: &[u8],
+    counts: Counts,
+    book: &[u8],
+    at: usize,
+) -> LineAnswer
     requires { ⌜ (at ≤ length (now book)) × (45056 ≤ length (now names)) × (16602 ≤ length (now cells)) × Limits counts × Fits counts ⌝ }
     ensures { λ r. ⌜ ((a : Book) (vs : List ℤ) → Held (now (names .entry)) counts a → Kinds (now (cells .entry)) a → Done a counts (lineBody (now (book .entry)) a factL at) r (now (names .entry)) (now (names .entry)) (now (cells .entry)) (now (cells .exit)) vs vs) ⌝ }
 {
@@ -383,7 +390,13 @@ fn read_target(names: &[u8], counts: Counts, book: &[u8], at: usize) -> TargetAn
 }
 
 // `(rule S TARGET)`.
-fn rule_line(cells: &mut [u16], names: &[u8], counts: Counts, book: &[u8], at: usize) -> LineAnswer
+pub fn rule_line(
+    cells: &mut [u16],
+    names: &[u8],
+    counts: Counts,
+    book: &[u8],
+    at: usize,
+) -> LineAnswer
     requires { ⌜ (at ≤ length (now book)) × (45056 ≤ length (now names)) × (16602 ≤ length (now cells)) × Limits counts × Fits counts ⌝ }
     ensures { λ r. ⌜ ((a : Book) (vs : List ℤ) → Held (now (names .entry)) counts a → Done a counts (lineBody (now (book .entry)) a ruleL at) r (now (names .entry)) (now (names .entry)) (now (cells .entry)) (now (cells .exit)) vs vs) ⌝ }
 {

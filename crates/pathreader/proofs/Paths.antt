@@ -23,7 +23,7 @@ use Rattle.itemreader.specs.declared.Item.{Item}
 use Rattle.itemreader.specs.declared.Head.{Head}
 use Rattle.itemreader.specs.Answers.{itemOf, headAt, wordsOf}
 use Rattle.itemreader.proofs.Items.{item-got, item-refused, then-refused, then-got}
-use Rattle.itemreader.proofs.Heads.{bracket-bare, bracket-refused, bracket-word, restAt, rest-none, rest-got, rest-refused}
+use Rattle.itemreader.proofs.Heads.{bracket-bare, bracket-refused, bracket-word, rest-none, rest-got, rest-refused}
 use Rattle.pathreader.specs.Paths.{pathsAfter, endsAfter, Stored, Done, PathRead, EndRead, Grown, closed}
 
 -- ---- answers
@@ -37,16 +37,21 @@ module _ {A : Type 0} {count : ℕ → A → ℕ} {put : ℕ → A → List ℕ 
   pub done-refused : {x : Read A} (k : ℕ) → Done count put x n before after r → r ≡ Item.No k → x ≡ refused k
   done-refused {x} k p q = item-refused (count n) x r k (p .answer) q
 
--- what an accepted path is
-pub record PathGot (x : Read Path) (n m next : ℕ) (before after : List ℕ) : Type 0 where
-  pub tree : Path
+-- what was accepted
+pub record Got {A : Type 0} (entries : A → ℕ) (put : ℕ → A → List ℕ → List ℕ) (x : Read A) (n m next : ℕ) (before after : List ℕ) : Type 0 where
+  pub tree : A
   pub is : x ≡ got tree next
-  pub count : n + pathEntries tree ≡ m
-  pub cells : after ≡ pathCells n tree before
+  pub count : n + entries tree ≡ m
+  pub cells : after ≡ put n tree before
 
-pub path-got : {x : Read Path} {n : ℕ} {before after : List ℕ} {r : Item} (m next : ℕ) → PathRead x n before after r → r ≡ Item.Is m next → PathGot x n m next before after
+pub path-got : {x : Read Path} {n : ℕ} {before after : List ℕ} {r : Item} (m next : ℕ) → PathRead x n before after r → r ≡ Item.Is m next → Got pathEntries pathCells x n m next before after
 path-got {x} {n} {before} {after} {r} m next p q =
     let y = item-got (pathsAfter n) x r m next (p .answer) q in
+    record { tree = y .0; is = y .1; count = y .2; cells = rw (y .1) at (p .stored) }
+
+pub end-got : {x : Read End} {n : ℕ} {before after : List ℕ} {r : Item} (m next : ℕ) → EndRead x n before after r → r ≡ Item.Is m next → Got endEntries endCells x n m next before after
+end-got {x} {n} {before} {after} {r} m next p q =
+    let y = item-got (endsAfter n) x r m next (p .answer) q in
     record { tree = y .0; is = y .1; count = y .2; cells = rw (y .1) at (p .stored) }
 
 -- ---- a bare link

@@ -13,7 +13,7 @@ use Rattle.grammar.specs.Reading.{Begun, Read, got, refused, andThen, noReaders
 use Rattle.itemreader.specs.declared.Item.{Item}
 use Rattle.itemreader.specs.Answers.{poolOf, same}
 use Rattle.itemreader.specs.Held.{Held}
-use Rattle.itemreader.proofs.Items.{number-got, item-refused, below-is, count-limit, list-end, list-refused, list-full, list-more, more-answer, more-listed}
+use Rattle.itemreader.proofs.Items.{number-got, item-refused, below-is, counted-less, count-limit, list-end, list-refused, list-full, list-more, more-answer, more-listed}
 use Prim.Native.Nat.{ℕ, _<_}
 use borrow.Fn.Kinds.{In}
 use borrow.Fn.PlainCycle.{Measures, is, falls, and}
@@ -24,10 +24,6 @@ use Rattle.itemreader.proofs.read_used.Reads as read-used-reads
 use Rattle.text.proofs.byte.Reads as byte-reads
 use Rattle.itemreader.proofs.+read_list.{statement}
 use Rattle.itemreader.proofs.+read_list.Tie.{close}
-
--- a list's names are read as they are anywhere
-abbrev none : Begun
-none = record { forms = 0; paths = 0; items = 0 }
 
 abbrev μ-read-list : Measures 3 read-list-kinds.ps ℕ
 μ-read-list κs a = 128 - a .1 .1 .1 .1 .1 .1 .0
@@ -42,6 +38,10 @@ read-list-below t =
 abbrev read-list-calls : ℕ → read-list-lts.Claims
 read-list-calls t = (byte-reads.Asked, byte-reads.Learnt, read-used-reads.Asked, read-used-reads.Learnt, read-list-below t, read-list.Post)
 
+-- a list's names are read as they are anywhere
+abbrev none : Begun
+none = record { forms = 0; paths = 0; items = 0 }
+
 read-list-byte-requires : (t : ℕ) → read-list-lts.Need-byte-requires (read-list-calls t) (read-list-at t) read-list.Post
 read-list-byte-requires t c κs = tt
 
@@ -51,7 +51,7 @@ read-list-returns t c =
     let s = c .before .before .before .before .before .args in
     let n : getD (s .book .now) (s .at) 0 ≡ 32 → ⊥ = λ e. c .if1 .taken (c .before .byte .ensures ∙ e) in (
       λ a h. rw (list-end (s .book .now) a (poolOf (s .pool)) (s .at) (128 - s .i) n) (ap (λ (k : ℕ). Item.Is k (s .at)) (sym (add-zero (s .i)))),
-      (λ a h. rw (list-end (s .book .now) a (poolOf (s .pool)) (s .at) (128 - s .i) n) refl, ((omega arith, c .before .before .before .before .before .pre .1 .0), refl)),
+      (λ a h. rw (list-end (s .book .now) a (poolOf (s .pool)) (s .at) (128 - s .i) n) refl, ((omega arith, omega arith, c .before .before .before .before .before .pre .1 .0), refl)),
     )
 
 read-list-read-used-requires : (t : ℕ) → read-list-lts.Need-read-used-requires (read-list-calls t) (read-list-at t) read-list.Post
@@ -133,7 +133,7 @@ read-list-returns-4 t c =
       λ a h. rw (e a h) (o .ensures .0 a h ∙ more-answer (s .i) (u .0 .0) (rest a)),
       (
         λ a h. rw (e a h) (more-listed (s .i) (u .0 .0) (rest a) (s .cells .now) (o .last .0) (o .ensures .1 .0 a h)),
-        (o .ensures .1 .1 .0, o .ensures .1 .1 .1 ∙ drop-set-lt 16602 (s .cells .now) (16314 + s .i) (u .0 .0) (omega (arith, c .before .before .before .before .if2 .left))),
+        (counted-less (s .i + 1) (s .i) _ _ (o .result) (omega arith) (o .ensures .1 .1 .0), o .ensures .1 .1 .1 ∙ drop-set-lt 16602 (s .cells .now) (16314 + s .i) (u .0 .0) (omega (arith, c .before .before .before .before .if2 .left))),
       ),
     )
 

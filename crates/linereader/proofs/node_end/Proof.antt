@@ -9,7 +9,7 @@ use Rattle.model.specs.Books.{node, nodes}
 use Rattle.itemreader.specs.declared.Counts.{Counts}
 use Rattle.linereader.specs.declared.LineAnswer.{LineAnswer}
 use Rattle.linereader.specs.Storing.{lineEnd}
-use Rattle.linereader.proofs.Bodies.{node-place, done-no, done-yes, ended-no, ended-yes, node-names, node-cells, node-values}
+use Rattle.linereader.proofs.Bodies.{node-counted, node-place, done-no, done-yes, ended-no, ended-yes, node-names, node-cells, node-values}
 use borrow.Author.Needs.{needs}
 use Rattle.linereader.proofs.node_end.Statement.{statement}
 use Rattle.linereader.proofs.node_end.Tie as tie
@@ -83,7 +83,7 @@ returns-2 c =
     let y = ended-yes S a true l (s .last) (c .before .before .before .before .before .before .before .before .before .before .before .with-name .result) (o .result) (k .0 .0) (k .0 .1 .0) (o .ensures a l) (k .1) in
     done-yes a (s .counts) (lineEnd S a true l (s .last)) l (k .0 .0) _ (s .names .now) _ (s .cells .now) _ (s .values .now) _
     (y .0)
-    (y .1 ∙ ap (λ (m : Counts). LineAnswer.Next (k .0 .0) m) (c .before .before .before .before .before .before .before .before .before .before .before .with-name .ensures))
+    (y .1 ∙ ap (λ (m : Counts). LineAnswer.Next (k .0 .0) m) (c .before .before .before .before .before .before .before .before .before .before .before .with-name .ensures ∙ node-counted w t (s .counts)))
     (c .before .before .put-new .ensures ∙ node-names a w t (s .x) (s .value) n e (s .names .now))
     (c .before .before .before .before .before .before .put-row .ensures ∙ node-cells a w t (s .x) (s .value) n e (s .cells .now) row)
     (ap (λ (z : ℤ). set (s .values .now) n z) (toZ-ofZ (c .before .before .before .before .before .before .before .before .before .before .before .before .before .before .before .fits .value)) ∙ node-values a w t (s .x) (s .value) n e (s .values .now) row)

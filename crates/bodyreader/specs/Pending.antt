@@ -1,0 +1,3 @@
+-- What is not proved yet.
+unfoldable pub Pending : Type 0
+Pending = ⊥

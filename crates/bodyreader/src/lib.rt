@@ -1,0 +1,171 @@
+// The reader of a line: a shape line, and any line by its word.
+// Functions for the crate above, on tables that hold the lines above. Operations: none.
+use itemreader::Counts;
+use itemreader::Head;
+use itemreader::Item;
+use itemreader::Pool;
+use itemreader::line_head;
+use itemreader::read_new;
+use leafreader::Ended;
+use leafreader::Form;
+use linereader::LineAnswer;
+use linereader::fact_line;
+use linereader::line_end;
+use linereader::name_line;
+use linereader::number_line;
+use linereader::put_new;
+use linereader::refusal;
+use linereader::resource_line;
+use linereader::rule_line;
+use linereader::text_line;
+use linereader::words_line;
+use tables::layout::ROOTS;
+ghost use mathlib.Core.Path.{_≡_};
+ghost use mathlib.Core.List.{List};
+ghost use mathlib.Core.Bool.{true};
+ghost use Prim.Native.Nat.{ℕ, _≤_, _<_, _+_, _-_};
+ghost use lib.IntN.{ℤ};
+ghost use lib.ListN.{length, getD, drop};
+ghost use lib.Seq.{slice};
+ghost use Rattle.model.specs.Shapes.{Shape};
+ghost use Rattle.model.specs.Books.{Book, shape};
+ghost use Rattle.grammar.specs.Syntax.{form, linkL, shapeL, lineFamily};
+ghost use Rattle.grammar.specs.Reading.{Begun, argAt, readersAt, lineAt};
+ghost use Rattle.itemreader.specs.Held.{Limits, Held, Kinds};
+ghost use Rattle.leafreader.specs.Forms.{begunOf, FormRead, Within};
+ghost use Rattle.linereader.specs.Storing.{lineEnd, lineBody, Done, Fits};
+ghost use Rattle.bodyreader.specs.Pending.{Pending};
+ghost use Rattle.bodyreader.specs.Storing.{shaped, FormHeld};
+
+// STUB
+fn read_form(
+    cells: &mut [u16],
+    values: &mut [i64],
+    names: &[u8],
+    counts: Counts,
+    book: &[u8],
+    at: usize,
+    left: usize,
+    n: Ended,
+    up: usize,
+) -> Form
+    requires { ⌜ (at ≤ length (now book)) × (45056 ≤ length (now names)) × (16602 ≤ length (now cells)) × (1136 ≤ length (now values)) × (n .forms + up ≤ 112) × (n .paths ≤ 128) × (n .items ≤ 128) × Limits counts × Pending ⌝ }
+    ensures { λ r. ⌜ ((a : Book) → Held (now (names .entry)) counts a → (b : Begun) → b .forms ≡ n .forms + up → b .paths ≡ n .paths → b .items ≡ n .items → FormRead (argAt (now (book .entry)) a (readersAt (now (book .entry)) a left) form b at) (begunOf n) (now (cells .entry)) (now (cells .exit)) (now (values .entry)) (now (values .exit)) r) ⌝ }
+    ensures { λ r. ⌜ Within (n .forms) up (length (now (book .entry))) r ⌝ }
+    ensures { λ _. ⌜ drop 16602 (now (cells .exit)) ≡ drop 16602 (now (cells .entry)) ⌝ }
+    ensures { λ _. ⌜ drop 1136 (now (values .exit)) ≡ drop 1136 (now (values .entry)) ⌝ }
+{
+    Form::No(2)
+}
+
+// The counts with a shape, with which n entries and items have ended.
+fn with_shape(mut counts: Counts, n: Ended) -> Counts
+    requires { ⌜ counts .shapes ≤ 64 ⌝ }
+    ensures { λ r. ⌜ r ≡ shaped n counts ⌝ }
+{
+    counts.shapes += 1;
+    counts.forms = n.forms;
+    counts.paths = n.paths;
+    counts.items = n.items;
+    counts
+}
+
+// The end of a shape line whose name ends at end and whose form ends at last: its closing bracket and its LF, and then its
+// name and its root are stored.
+fn shape_end(
+    names: &mut [u8],
+    cells: &mut [u16],
+    counts: Counts,
+    book: &[u8],
+    at: usize,
+    end: usize,
+    n: Ended,
+    last: usize,
+) -> LineAnswer
+    requires { ⌜ (at + 1 ≤ end) × (end ≤ length (now book)) × (end - (at + 1) ≤ 31) × (last ≤ length (now book)) × (counts .shapes < 64) × (0 < n .forms) × (n .forms ≤ 112) × (45056 ≤ length (now names)) × (16602 ≤ length (now cells)) × Limits counts ⌝ }
+    ensures { λ r. ⌜ ((a : Book) (φ : Shape) (cs : List ℕ) (vs vs′ : List ℤ) → Held (now (names .entry)) counts a → FormHeld a φ n cs (now (cells .entry)) vs vs′ → Done a counts (lineEnd (now (book .entry)) a true (shape (slice (at + 1) end (now (book .entry))) φ) last) r (now (names .entry)) (now (names .exit)) cs (now (cells .exit)) vs vs′) ⌝ }
+{
+    let done = line_end(book, last, true, with_shape(counts, n));
+    let LineAnswer::Next(_, _) = done else {
+        return done;
+    };
+    let forms = n.forms;
+    let shapes = counts.shapes;
+    cells[ROOTS + shapes] = (forms - 1) as u16;
+    put_new(names, counts, Pool::Shapes, book, at, end);
+    done
+}
+
+// `(shape N FORM)`.
+fn shape_line(
+    names: &mut [u8],
+    cells: &mut [u16],
+    values: &mut [i64],
+    counts: Counts,
+    book: &[u8],
+    at: usize,
+) -> LineAnswer
+    requires { ⌜ (at ≤ length (now book)) × (45056 ≤ length (now names)) × (16602 ≤ length (now cells)) × (1136 ≤ length (now values)) × Limits counts × Fits counts × ((a : Book) × Held (now names) counts a) × Pending ⌝ }
+    ensures { λ r. ⌜ ((a : Book) → Held (now (names .entry)) counts a → Done a counts (lineBody (now (book .entry)) a shapeL at) r (now (names .entry)) (now (names .exit)) (now (cells .entry)) (now (cells .exit)) (now (values .entry)) (now (values .exit))) ⌝ }
+{
+    let new = read_new(names, counts, Pool::Shapes, book, at);
+    let Item::Is(_, end) = new else {
+        return LineAnswer::No(refusal(new));
+    };
+    let n = Ended {
+        forms: counts.forms,
+        paths: counts.paths,
+        items: counts.items,
+    };
+    match read_form(cells, values, names, counts, book, end, 31, n, 0) {
+        Form::No(k) => LineAnswer::No(k),
+        Form::Is(m, last) => shape_end(names, cells, counts, book, at, end, m, last),
+    }
+}
+
+// What follows the word number k of a line.
+fn read_body(
+    names: &mut [u8],
+    cells: &mut [u16],
+    values: &mut [i64],
+    counts: Counts,
+    k: usize,
+    book: &[u8],
+    at: usize,
+) -> LineAnswer
+    requires { ⌜ (at ≤ length (now book)) × (k < 11) × (45056 ≤ length (now names)) × (16602 ≤ length (now cells)) × (1136 ≤ length (now values)) × Limits counts × Fits counts × ((a : Book) × Held (now names) counts a) × Pending ⌝ }
+    ensures { λ r. ⌜ ((a : Book) → Held (now (names .entry)) counts a → Kinds (now (cells .entry)) a → Done a counts (lineBody (now (book .entry)) a (getD (lineFamily .codes) k linkL) at) r (now (names .entry)) (now (names .exit)) (now (cells .entry)) (now (cells .exit)) (now (values .entry)) (now (values .exit))) ⌝ }
+{
+    match k {
+        0 => name_line(names, counts, Pool::Links, book, at),
+        1 => name_line(names, counts, Pool::Types, book, at),
+        2 => name_line(names, counts, Pool::Langs, book, at),
+        3 => resource_line(names, cells, values, counts, 0, book, at),
+        4 => resource_line(names, cells, values, counts, 1, book, at),
+        5 => number_line(names, cells, values, counts, book, at),
+        6 => text_line(names, cells, values, counts, book, at),
+        7 => words_line(names, cells, values, counts, book, at),
+        8 => fact_line(cells, names, counts, book, at),
+        9 => shape_line(names, cells, values, counts, book, at),
+        _ => rule_line(cells, names, counts, book, at),
+    }
+}
+
+// The line at a position, after the lines that the tables hold.
+pub fn read_line(
+    names: &mut [u8],
+    cells: &mut [u16],
+    values: &mut [i64],
+    counts: Counts,
+    book: &[u8],
+    at: usize,
+) -> LineAnswer
+    requires { ⌜ (at ≤ length (now book)) × (45056 ≤ length (now names)) × (16602 ≤ length (now cells)) × (1136 ≤ length (now values)) × Limits counts × Fits counts × ((a : Book) × Held (now names) counts a) × Pending ⌝ }
+    ensures { λ r. ⌜ ((a : Book) → Held (now (names .entry)) counts a → Kinds (now (cells .entry)) a → Done a counts (lineAt (now (book .entry)) a at) r (now (names .entry)) (now (names .exit)) (now (cells .entry)) (now (cells .exit)) (now (values .entry)) (now (values .exit))) ⌝ }
+{
+    match line_head(book, at, 1, false) {
+        Head::Bare => LineAnswer::No(2),
+        Head::No(k) => LineAnswer::No(k),
+        Head::Word(k, end) => read_body(names, cells, values, counts, k, book, end),
+    }
+}

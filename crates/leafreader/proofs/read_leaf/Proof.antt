@@ -1,0 +1,306 @@
+use mathlib.Core.Path.{refl}
+use native.Mathlib.Omega.{arith}
+use Rattle.model.specs.Shapes.{nodeKind, datatype, languageIn, minInclusive, minExclusive, maxInclusive, maxExclusive, hasShape, hasValue, test, equals, disjoint, closed, lessThan, lessThanEq}
+use Rattle.model.specs.Books.{nodes, types, shapes}
+use Rattle.grammar.specs.Syntax.{used, kindWord}
+use Rattle.grammar.specs.Reading.{bodyAt, readersAt}
+use Rattle.encoding.specs.Flatten.{kindCode}
+use Rattle.itemreader.specs.Answers.{same}
+use Rattle.itemreader.proofs.Items.{below-more}
+use Rattle.leafreader.specs.Forms.{begunOf}
+use Rattle.leafreader.proofs.Forms.{form-is, body-is, last-leaf}
+use Rattle.leafreader.proofs.Shapes.{is-closes, shape-closes, kind-closes, datatype-closes, lang-shape, closed-shape, from-shape, above-shape, to-shape, below-shape, equal-shape, apart-shape, less-shape, lesseq-shape}
+use borrow.Author.Needs.{needs}
+use Rattle.leafreader.proofs.read_leaf.Statement.{statement}
+use Rattle.leafreader.proofs.read_leaf.Tie as tie
+
+read-used-requires : tie.Need-read-used-requires
+read-used-requires c κs = search needs
+
+item-form-requires : tie.Need-item-form-requires
+item-form-requires c κs =
+    let p = c .before .before .before .before .before .before .pre in
+    let l = p .7 .node-limit in
+    (p .4, p .5, p .6, p .2, below-more _ 65536 _ (c .read-used .result) (omega arith) (c .read-used .ensures .1))
+
+read-used-requires-2 : tie.Need-read-used-requires-2
+read-used-requires-2 c κs = search needs
+
+item-form-requires-2 : tie.Need-item-form-requires-2
+item-form-requires-2 c κs =
+    let p = c .before .before .before .before .before .before .pre in
+    let l = p .7 .shape-limit in
+    (p .4, p .5, p .6, p .2, below-more _ 65536 _ (c .read-used2 .result) (omega arith) (c .read-used2 .ensures .1))
+
+read-kind-requires : tie.Need-read-kind-requires
+read-kind-requires c κs = search needs
+
+item-form-requires-3 : tie.Need-item-form-requires-3
+item-form-requires-3 c κs =
+    let p = c .before .before .before .before .before .before .pre in
+    (p .4, p .5, p .6, p .2, below-more _ 65536 _ (c .read-kind .result) (omega arith) (c .read-kind .ensures .1))
+
+read-used-requires-3 : tie.Need-read-used-requires-3
+read-used-requires-3 c κs = search needs
+
+item-form-requires-4 : tie.Need-item-form-requires-4
+item-form-requires-4 c κs =
+    let p = c .before .before .before .before .before .before .pre in
+    let l = p .7 .type-limit in
+    (p .4, p .5, p .6, p .2, below-more _ 65536 _ (c .read-used3 .result) (omega arith) (c .read-used3 .ensures .1))
+
+list-form-requires : tie.Need-list-form-requires
+list-form-requires c κs = search needs
+
+value-form-requires : tie.Need-value-form-requires
+value-form-requires c κs = search needs
+
+value-form-requires-2 : tie.Need-value-form-requires-2
+value-form-requires-2 c κs = search needs
+
+value-form-requires-3 : tie.Need-value-form-requires-3
+value-form-requires-3 c κs = search needs
+
+value-form-requires-4 : tie.Need-value-form-requires-4
+value-form-requires-4 c κs = search needs
+
+end-form-requires : tie.Need-end-form-requires
+end-form-requires c κs = search needs
+
+end-form-requires-2 : tie.Need-end-form-requires-2
+end-form-requires-2 c κs = search needs
+
+list-form-requires-2 : tie.Need-list-form-requires-2
+list-form-requires-2 c κs = search needs
+
+less-form-requires : tie.Need-less-form-requires
+less-form-requires c κs = search needs
+
+less-form-requires-2 : tie.Need-less-form-requires-2
+less-form-requires-2 c κs = search needs
+
+onelang-form-requires : tie.Need-onelang-form-requires
+onelang-form-requires c κs = search needs
+
+same-length : tie.Need-same-length
+same-length c = search needs
+
+returns : tie.Need-returns
+unfolding bodyAt
+returns c =
+    let s = c .before .before .before .before .before .before .before .before .before .args in
+    let o = c .before .before .item-form in
+    (λ a h b q i. form-is (body-is (s .book .now) a (s .left) (s .code) 0 b (s .at) (c .before .before .before .before .before .match .keys1)) (o .ensures .0 a (readersAt (s .book .now) a (s .left)) b (used nodes) same (s .at) (c .before .before .before .read-used .ensures .0 a h (readersAt (s .book .now) a (s .left)) b) (begunOf (s .n)) (s .cells .now) (s .values .now) (s .values .now) hasValue (λ k. is-closes (s .n) (s .cells .now) (s .values .now) k)), (o .ensures .1 .0, (o .ensures .1 .1, refl)))
+
+same-length-2 : tie.Need-same-length-2
+same-length-2 c = search needs
+
+returns-2 : tie.Need-returns-2
+unfolding bodyAt
+returns-2 c =
+    let s = c .before .before .before .before .before .before .before .before .before .args in
+    let o = c .before .before .item-form2 in
+    (λ a h b q i. form-is (body-is (s .book .now) a (s .left) (s .code) 1 b (s .at) (c .before .before .before .before .before .match .keys2)) (o .ensures .0 a (readersAt (s .book .now) a (s .left)) b (used shapes) same (s .at) (c .before .before .before .read-used2 .ensures .0 a h (readersAt (s .book .now) a (s .left)) b) (begunOf (s .n)) (s .cells .now) (s .values .now) (s .values .now) hasShape (λ k. shape-closes (s .n) (s .cells .now) (s .values .now) k)), (o .ensures .1 .0, (o .ensures .1 .1, refl)))
+
+same-length-3 : tie.Need-same-length-3
+same-length-3 c = search needs
+
+returns-3 : tie.Need-returns-3
+unfolding bodyAt
+returns-3 c =
+    let s = c .before .before .before .before .before .before .before .before .before .args in
+    let o = c .before .before .item-form3 in
+    (λ a h b q i. form-is (body-is (s .book .now) a (s .left) (s .code) 5 b (s .at) (c .before .before .before .before .before .match .keys3)) (o .ensures .0 a (readersAt (s .book .now) a (s .left)) b kindWord kindCode (s .at) (c .before .before .before .read-kind .ensures .0 a (readersAt (s .book .now) a (s .left)) b) (begunOf (s .n)) (s .cells .now) (s .values .now) (s .values .now) (λ k. test (nodeKind k)) (λ k. kind-closes (s .n) (s .cells .now) (s .values .now) k)), (o .ensures .1 .0, (o .ensures .1 .1, refl)))
+
+same-length-4 : tie.Need-same-length-4
+same-length-4 c = search needs
+
+returns-4 : tie.Need-returns-4
+unfolding bodyAt
+returns-4 c =
+    let s = c .before .before .before .before .before .before .before .before .before .args in
+    let o = c .before .before .item-form4 in
+    (λ a h b q i. form-is (body-is (s .book .now) a (s .left) (s .code) 6 b (s .at) (c .before .before .before .before .before .match .keys4)) (o .ensures .0 a (readersAt (s .book .now) a (s .left)) b (used types) same (s .at) (c .before .before .before .read-used3 .ensures .0 a h (readersAt (s .book .now) a (s .left)) b) (begunOf (s .n)) (s .cells .now) (s .values .now) (s .values .now) (λ k. test (datatype k)) (λ k. datatype-closes (s .n) (s .cells .now) (s .values .now) k)), (o .ensures .1 .0, (o .ensures .1 .1, refl)))
+
+same-length-5 : tie.Need-same-length-5
+same-length-5 c = search needs
+
+returns-5 : tie.Need-returns-5
+unfolding bodyAt
+returns-5 c =
+    let s = c .before .before .before .before .before .before .before .before .args in
+    let o = c .before .before .list-form in
+    (λ a h b q i. form-is (body-is (s .book .now) a (s .left) (s .code) 7 b (s .at) (c .before .before .before .before .match .keys5)) (o .ensures .0 a h (readersAt (s .book .now) a (s .left)) b i (λ ks. test (languageIn ks)) lang-shape (s .values .now)), (o .ensures .1 .0, (o .ensures .1 .1, refl)))
+
+same-length-6 : tie.Need-same-length-6
+same-length-6 c = search needs
+
+same-length-7 : tie.Need-same-length-7
+same-length-7 c = search needs
+
+returns-6 : tie.Need-returns-6
+unfolding bodyAt
+returns-6 c =
+    let s = c .before .before .before .before .before .before .before .before .before .before .args in
+    let o = c .before .before .before .value-form in
+    (λ a h b q i. form-is (body-is (s .book .now) a (s .left) (s .code) 8 b (s .at) (c .before .before .before .before .before .before .match .keys6)) (o .ensures .0 a (readersAt (s .book .now) a (s .left)) b (λ x. test (minInclusive x)) from-shape), (o .ensures .1 .0, (o .ensures .1 .1 .0, o .ensures .1 .1 .1)))
+
+same-length-8 : tie.Need-same-length-8
+same-length-8 c = search needs
+
+same-length-9 : tie.Need-same-length-9
+same-length-9 c = search needs
+
+returns-7 : tie.Need-returns-7
+unfolding bodyAt
+returns-7 c =
+    let s = c .before .before .before .before .before .before .before .before .before .before .args in
+    let o = c .before .before .before .value-form2 in
+    (λ a h b q i. form-is (body-is (s .book .now) a (s .left) (s .code) 9 b (s .at) (c .before .before .before .before .before .before .match .keys7)) (o .ensures .0 a (readersAt (s .book .now) a (s .left)) b (λ x. test (minExclusive x)) above-shape), (o .ensures .1 .0, (o .ensures .1 .1 .0, o .ensures .1 .1 .1)))
+
+same-length-10 : tie.Need-same-length-10
+same-length-10 c = search needs
+
+same-length-11 : tie.Need-same-length-11
+same-length-11 c = search needs
+
+returns-8 : tie.Need-returns-8
+unfolding bodyAt
+returns-8 c =
+    let s = c .before .before .before .before .before .before .before .before .before .before .args in
+    let o = c .before .before .before .value-form3 in
+    (λ a h b q i. form-is (body-is (s .book .now) a (s .left) (s .code) 10 b (s .at) (c .before .before .before .before .before .before .match .keys8)) (o .ensures .0 a (readersAt (s .book .now) a (s .left)) b (λ x. test (maxInclusive x)) to-shape), (o .ensures .1 .0, (o .ensures .1 .1 .0, o .ensures .1 .1 .1)))
+
+same-length-12 : tie.Need-same-length-12
+same-length-12 c = search needs
+
+same-length-13 : tie.Need-same-length-13
+same-length-13 c = search needs
+
+returns-9 : tie.Need-returns-9
+unfolding bodyAt
+returns-9 c =
+    let s = c .before .before .before .before .before .before .before .before .before .before .args in
+    let o = c .before .before .before .value-form4 in
+    (λ a h b q i. form-is (body-is (s .book .now) a (s .left) (s .code) 11 b (s .at) (c .before .before .before .before .before .before .match .keys9)) (o .ensures .0 a (readersAt (s .book .now) a (s .left)) b (λ x. test (maxExclusive x)) below-shape), (o .ensures .1 .0, (o .ensures .1 .1 .0, o .ensures .1 .1 .1)))
+
+same-length-14 : tie.Need-same-length-14
+same-length-14 c = search needs
+
+returns-10 : tie.Need-returns-10
+unfolding bodyAt
+returns-10 c =
+    let s = c .before .before .before .before .before .before .before .before .args in
+    let o = c .before .before .end-form in
+    (λ a h b q i. form-is (body-is (s .book .now) a (s .left) (s .code) 14 b (s .at) (c .before .before .before .before .match .keys10)) (o .ensures .0 a h b q equals equal-shape (s .values .now)), (o .ensures .1 .0, (o .ensures .1 .1, refl)))
+
+same-length-15 : tie.Need-same-length-15
+same-length-15 c = search needs
+
+returns-11 : tie.Need-returns-11
+unfolding bodyAt
+returns-11 c =
+    let s = c .before .before .before .before .before .before .before .before .args in
+    let o = c .before .before .end-form2 in
+    (λ a h b q i. form-is (body-is (s .book .now) a (s .left) (s .code) 15 b (s .at) (c .before .before .before .before .match .keys11)) (o .ensures .0 a h b q disjoint apart-shape (s .values .now)), (o .ensures .1 .0, (o .ensures .1 .1, refl)))
+
+same-length-16 : tie.Need-same-length-16
+same-length-16 c = search needs
+
+returns-12 : tie.Need-returns-12
+unfolding bodyAt
+returns-12 c =
+    let s = c .before .before .before .before .before .before .before .before .args in
+    let o = c .before .before .list-form2 in
+    (λ a h b q i. form-is (body-is (s .book .now) a (s .left) (s .code) 16 b (s .at) (c .before .before .before .before .match .keys12)) (o .ensures .0 a h (readersAt (s .book .now) a (s .left)) b i closed closed-shape (s .values .now)), (o .ensures .1 .0, (o .ensures .1 .1, refl)))
+
+same-length-17 : tie.Need-same-length-17
+same-length-17 c = search needs
+
+returns-13 : tie.Need-returns-13
+unfolding bodyAt
+returns-13 c =
+    let s = c .before .before .before .before .before .before .before .before .args in
+    let o = c .before .before .less-form in
+    (λ a h b q i. form-is (body-is (s .book .now) a (s .left) (s .code) 17 b (s .at) (c .before .before .before .before .match .keys13)) (o .ensures .0 a h b q lessThan less-shape (s .values .now)), (o .ensures .1 .0, (o .ensures .1 .1, refl)))
+
+same-length-18 : tie.Need-same-length-18
+same-length-18 c = search needs
+
+returns-14 : tie.Need-returns-14
+unfolding bodyAt
+returns-14 c =
+    let s = c .before .before .before .before .before .before .before .before .args in
+    let o = c .before .before .less-form2 in
+    (λ a h b q i. form-is (body-is (s .book .now) a (s .left) (s .code) 18 b (s .at) (c .before .before .before .before .match .keys14)) (o .ensures .0 a h b q lessThanEq lesseq-shape (s .values .now)), (o .ensures .1 .0, (o .ensures .1 .1, refl)))
+
+same-length-19 : tie.Need-same-length-19
+same-length-19 c = search needs
+
+returns-15 : tie.Need-returns-15
+unfolding bodyAt
+returns-15 c =
+    let s = c .before .before .before .before .before .before .before .before .args in
+    let p = c .before .before .before .before .before .before .before .before .pre in
+    let o = c .before .before .onelang-form in
+    let n = c .before .before .before .before .match .rest in
+    let e = last-leaf (s .code) (p .8) (p .9) (n .0 .0 .0 .0 .0 .0 .0 .0 .0 .0 .0 .0 .0 .1) (n .0 .0 .0 .0 .0 .0 .0 .0 .0 .0 .0 .0 .1) (n .0 .0 .0 .0 .0 .0 .0 .0 .0 .0 .0 .1) (n .0 .0 .0 .0 .0 .0 .0 .0 .0 .0 .1) (n .0 .0 .0 .0 .0 .0 .0 .0 .0 .1) (n .0 .0 .0 .0 .0 .0 .0 .0 .1) (n .0 .0 .0 .0 .0 .0 .0 .1) (n .0 .0 .0 .0 .0 .0 .1) (n .0 .0 .0 .0 .0 .1) (n .0 .0 .0 .0 .1) (n .0 .0 .0 .1) (n .0 .0 .1) (n .0 .1) (n .1) in
+    (λ a h b q i. form-is (body-is (s .book .now) a (s .left) (s .code) 19 b (s .at) e) (o .ensures .0 a h b q (s .values .now)), (o .ensures .1 .0, (o .ensures .1 .1, refl)))
+
+pub read-leaf-spec : {M : Type 1} → statement M
+read-leaf-spec =
+    tie.close
+    (tie.spec
+    read-used-requires
+    item-form-requires
+    read-used-requires-2
+    item-form-requires-2
+    read-kind-requires
+    item-form-requires-3
+    read-used-requires-3
+    item-form-requires-4
+    list-form-requires
+    value-form-requires
+    value-form-requires-2
+    value-form-requires-3
+    value-form-requires-4
+    end-form-requires
+    end-form-requires-2
+    list-form-requires-2
+    less-form-requires
+    less-form-requires-2
+    onelang-form-requires
+    same-length
+    returns
+    same-length-2
+    returns-2
+    same-length-3
+    returns-3
+    same-length-4
+    returns-4
+    same-length-5
+    returns-5
+    same-length-6
+    same-length-7
+    returns-6
+    same-length-8
+    same-length-9
+    returns-7
+    same-length-10
+    same-length-11
+    returns-8
+    same-length-12
+    same-length-13
+    returns-9
+    same-length-14
+    returns-10
+    same-length-15
+    returns-11
+    same-length-16
+    returns-12
+    same-length-17
+    returns-13
+    same-length-18
+    returns-14
+    same-length-19
+    returns-15)

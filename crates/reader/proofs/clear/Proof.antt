@@ -1,0 +1,43 @@
+use mathlib.Core.Path.{_∙_}
+use Rattle.tables.specs.Layout.{nameCount, cellCount, valueCount}
+use lib.IntN.{pos}
+use Rattle.reader.proofs.Cleared.{blank-long}
+use borrow.Author.Needs.{needs}
+use Rattle.reader.proofs.clear.Statement.{statement}
+use Rattle.reader.proofs.clear.Tie as tie
+
+clear-names-requires : tie.Need-clear-names-requires
+clear-names-requires c κs = search needs
+
+clear-cells-requires : tie.Need-clear-cells-requires
+clear-cells-requires c κs = search needs
+
+clear-values-requires : tie.Need-clear-values-requires
+clear-values-requires c κs = search needs
+
+same-length : tie.Need-same-length
+same-length c = search needs
+
+same-length-2 : tie.Need-same-length-2
+same-length-2 c = search needs
+
+same-length-3 : tie.Need-same-length-3
+same-length-3 c = search needs
+
+returns : tie.Need-returns
+returns c =
+    let s = c .before .before .before .before .before .before .before .before .before .before .before .before .before .args in
+    let p = c .before .before .before .before .before .before .before .before .before .before .before .before .before .pre in
+    (c .before .before .before .before .before .before .before .before .before .clear-names .ensures ∙ blank-long nameCount 0 (s .names .now) (p .0), (c .before .before .before .before .before .clear-cells .ensures ∙ blank-long cellCount 0 (s .cells .now) (p .1), c .before .clear-values .ensures ∙ blank-long valueCount (pos 0) (s .values .now) (p .2)))
+
+pub clear-spec : {M : Type 1} → statement M
+clear-spec =
+    tie.close
+    (tie.spec
+    clear-names-requires
+    clear-cells-requires
+    clear-values-requires
+    same-length
+    same-length-2
+    same-length-3
+    returns)

@@ -1,0 +1,107 @@
+use Prim.Native.Nat.{_-_}
+use mathlib.Core.Path.{_≡_, refl, _∙_}
+use native.Mathlib.Omega.{arith}
+use lib.ListN.{length}
+use Rattle.reader.proofs.Runs.{Runs, runs-start, runs-held, runs-kinds, runs-limits, runs-fits, runs-more, runs-stop, runs-end}
+use borrow.Author.Needs.{needs}
+use Rattle.reader.proofs.read_lines.Statement.{statement}
+use Rattle.reader.proofs.read_lines.Tie as tie
+
+abbrev Inv-loop : tie.InvT-loop
+Inv-loop names₀ cells₀ values₀ book counts₀ at₀ line₀ names cells values counts at line =
+    (length names ≡ length names₀) × (length cells ≡ length cells₀) × (length values ≡ length values₀) × Runs book names₀ cells₀ values₀ names cells values counts at line
+
+abbrev μ-loop : tie.MeasureT-loop
+μ-loop names₀ cells₀ values₀ book counts₀ at₀ line₀ names cells values counts at line = length book - at
+
+loop-holds : tie.Need-loop-holds Inv-loop μ-loop
+loop-holds c =
+    let s = c .before .before .before .args in
+    (refl, refl, refl, runs-start (s .book .now) (s .names .now) (s .cells .now) (s .values .now) (c .before .before .before .pre .3))
+
+add-line : tie.Need-add-line Inv-loop μ-loop
+add-line c = let f = c .before .loop .inv .3 .few in search needs
+
+read-line-requires : tie.Need-read-line-requires Inv-loop μ-loop
+read-line-requires c κs =
+    let p = c .before .before .before .before .before .before .before .before .pre in
+    let i = c .before .before .before .before .loop .inv in
+    let R = i .3 in
+    (R .within, omega arith, omega arith, omega arith, runs-limits _ _ _ _ R, runs-fits _ _ _ _ R, (R .above, runs-held _ _ _ _ R), p .4)
+
+enum-known-k : tie.Need-enum-known-k Inv-loop μ-loop
+enum-known-k c = search needs
+
+same-length : tie.Need-same-length Inv-loop μ-loop
+same-length c = search needs
+
+same-length-2 : tie.Need-same-length-2 Inv-loop μ-loop
+same-length-2 c = search needs
+
+same-length-3 : tie.Need-same-length-3 Inv-loop μ-loop
+same-length-3 c = search needs
+
+returns : tie.Need-returns Inv-loop μ-loop
+returns c =
+    let R = c .before .before .before .before .before .before .before .before .before .before .before .before .before .loop .inv .3 in
+    let r = c .before .before .before .before .before .before .before .before .read-line in
+    let k = c .before .k .given in
+    runs-stop _ _ _ _ R (r .result) _ _ _ (c .before .before .before .before .before .before .before .before .before .before .before .before .loop-test .taken) (r .ensures (R .above) (runs-held _ _ _ _ R) (runs-kinds _ _ _ _ R)) (k .0 .0) (k .1)
+
+enum-known-next : tie.Need-enum-known-next Inv-loop μ-loop
+enum-known-next c = search needs
+
+loop-less : tie.Need-loop-less Inv-loop μ-loop
+loop-less c =
+    let R = c .before .before .before .before .before .before .before .before .before .before .before .before .before .loop .inv .3 in
+    let r = c .before .before .before .before .before .before .before .before .read-line in
+    let k = c .before .next .given in
+    let h = c .before .before .before .before .before .before .before .before .before .before .before .before .loop-test .taken in
+    let m = runs-more _ _ _ _ R (r .result) _ _ _ h (r .ensures (R .above) (runs-held _ _ _ _ R) (runs-kinds _ _ _ _ R)) (k .0 .0) (k .0 .1 .0) (k .1) in
+    let l = m .0 in
+    omega arith
+
+loop-again : tie.Need-loop-again Inv-loop μ-loop
+loop-again c =
+    let i = c .before .before .before .before .before .before .before .before .before .before .before .before .before .loop .inv in
+    let R = i .3 in
+    let r = c .before .before .before .before .before .before .before .before .read-line in
+    let k = c .before .next .given in
+    let h = c .before .before .before .before .before .before .before .before .before .before .before .before .loop-test .taken in
+    (r .kept .0 ∙ i .0, r .kept .1 .0 ∙ i .1, r .kept .1 .1 .0 ∙ i .2, runs-more _ _ _ _ R (r .result) _ _ _ h (r .ensures (R .above) (runs-held _ _ _ _ R) (runs-kinds _ _ _ _ R)) (k .0 .0) (k .0 .1 .0) (k .1) .1)
+
+same-length-4 : tie.Need-same-length-4 Inv-loop μ-loop
+same-length-4 c = search needs
+
+same-length-5 : tie.Need-same-length-5 Inv-loop μ-loop
+same-length-5 c = search needs
+
+same-length-6 : tie.Need-same-length-6 Inv-loop μ-loop
+same-length-6 c = search needs
+
+returns-2 : tie.Need-returns-2 Inv-loop μ-loop
+returns-2 c =
+    let R = c .before .loop .inv .3 in
+    runs-end _ _ _ _ R (c .before .before .before .before .before .pre .3) (c .loop-test .left)
+
+pub read-lines-spec : {M : Type 1} → statement M
+read-lines-spec =
+    tie.close
+    (tie.spec
+    Inv-loop
+    μ-loop
+    loop-holds
+    add-line
+    read-line-requires
+    enum-known-k
+    same-length
+    same-length-2
+    same-length-3
+    returns
+    enum-known-next
+    loop-less
+    loop-again
+    same-length-4
+    same-length-5
+    same-length-6
+    returns-2)

@@ -1,0 +1,29 @@
+-- The tables while lines are read.
+use Prim.Native.Nat.{ℕ}
+use mathlib.Core.Path.{_≡_}
+use mathlib.Core.List.{List, [], _∷_, _++_}
+use lib.IntN.{ℤ, pos}
+use lib.ListN.{drop}
+use Rattle.tables.specs.Layout.{nameCount, cellCount, valueCount}
+use Rattle.encoding.specs.Encode.{encodeNames}
+use Rattle.grammar.specs.Reading.{Outcome, accepted, turnedDown}
+use Rattle.stores.specs.Lines.{linesNames, linesCells, linesValues, cleared}
+use Rattle.itemreader.specs.declared.Counts.{Counts}
+use Rattle.reader.specs.declared.LinesAnswer.{LinesAnswer}
+use Rattle.reader.specs.Answers.{countsIn}
+
+-- tables that hold the built-in names and nothing else
+pub record Started (ns cs : List ℕ) (vs : List ℤ) : Type 0 where
+  pub names-start : ns ≡ encodeNames [] ++ drop nameCount ns
+  pub cells-start : cs ≡ cleared cellCount 0 cs
+  pub values-start : vs ≡ cleared valueCount (pos 0) vs
+
+-- the answer r for what the reading of the lines gives, then each table before and after; a refusal leaves the tables free up
+-- to their limits
+abbrev pub Ran : Outcome → LinesAnswer → (ns ns′ cs cs′ : List ℕ) (vs vs′ : List ℤ) → Type 0
+Ran (accepted b) r ns ns′ cs cs′ vs vs′ = (r ≡ LinesAnswer.Read (countsIn b)) × (ns′ ≡ linesNames [] b ns) × (cs′ ≡ linesCells [] b cs) × (vs′ ≡ linesValues [] b vs)
+Ran (turnedDown k line) r ns ns′ cs cs′ vs vs′ = (r ≡ LinesAnswer.No k line) × (drop nameCount ns′ ≡ drop nameCount ns) × (drop cellCount cs′ ≡ drop cellCount cs) × (drop valueCount vs′ ≡ drop valueCount vs)
+
+-- the counts in the order of their cells
+abbrev pub countList : Counts → List ℕ
+countList n = n .nodes ∷ n .links ∷ n .types ∷ n .langs ∷ n .shapes ∷ n .facts ∷ n .paths ∷ n .forms ∷ n .items ∷ n .rules ∷ []
