@@ -5,10 +5,9 @@ use mathlib.Core.List.{List, _++_}
 use mathlib.Core.Bool.{Bool, true, _&&_}
 use native.Mathlib.Omega.{arith}
 use lib.Dec.{ltb}
-use lib.ListN.{length, drop, getD}
-use Rattle.base.specs.Lists.{member, ascending, values}
+use lib.ListN.{length}
+use Rattle.base.specs.Lists.{member, ascending}
 use Rattle.base.specs.Bounded.{members}
-use Rattle.base.proofs.Lists.{at-values}
 use Rattle.base.proofs.Bounded.{member-members, members-ascending, size-members, size-le}
 use Rattle.model.specs.Graph.{Graph}
 use Rattle.model.specs.Shapes.{Shape}
@@ -16,12 +15,13 @@ use Rattle.model.specs.Rules.{Rule, selects, violates, violations}
 use Rattle.model.specs.Books.{Book, graphOf, schema, rules, conformsIn, listOf}
 use Rattle.model.specs.Sizes.{formsIn}
 use Rattle.model.specs.Valid.{admissible}
-use Rattle.tables.specs.Layout.{ruleCount}
-use Rattle.tables.specs.Decode.{graphAt, schemaAt, ruleAt, rulesAt}
+use Rattle.tables.specs.Decode.{graphAt, ruleAt}
+use Rattle.tables.proofs.WellFormed.{sound}
 use Rattle.encoding.specs.Encode.{encodeCells, encodeValues}
 use Rattle.encoding.proofs.Counts.{forms-counted, rules-counted}
-use Rattle.encoding.proofs.Graph.{graph-read, rules-read}
+use Rattle.encoding.proofs.Graph.{graph-read, rule-at}
 use Rattle.encoding.proofs.Schema.{schema-read}
+use Rattle.encoding.proofs.WellFormed.{well-formed}
 use Rattle.plan.specs.Layout.{stepCount, planCount}
 use Rattle.translation.specs.Compile.{stepsOf, planOf}
 use Rattle.translation.proofs.Plans.{plan-few, plan-count}
@@ -32,12 +32,17 @@ use Rattle.validation.specs.Claim.{noRule, ruleOf, breaks, Right}
 module _ (b : Book) (ok : admissible b ≡ true) where
   -- the list of rule r
   pub list-read : (r : ℕ) → r < length (rules b) → listAt (encodeCells b) (encodeValues b) r ≡ listOf b (ruleOf b r)
-  unfolding listAt listOf rulesAt
+  unfolding listAt listOf
   list-read r low =
-      let f = ruleAt (encodeCells b) in
-      let n = ruleCount (encodeCells b) in
-      let same : f r ≡ ruleOf b r = sym (at-values f n r noRule (omega (arith, low, rules-counted b))) ∙ ap (λ (l : List Rule). getD l r noRule) (rules-read b ok) in
-      ap₂ (λ (g : Graph) (H : List Shape). violations g H (f r)) (graph-read b ok) (schema-read b ok) ∙ ap (violations (graphOf b) (schema b)) same
+      ap₂ (λ (g : Graph) (H : List Shape). violations g H (ruleAt (encodeCells b) r)) (graph-read b ok) (schema-read b ok)
+      ∙ ap (violations (graphOf b) (schema b)) (rule-at b ok r noRule low)
+
+  pub few-nodes : graphOf b .nodes ≤ 1024
+  unfolding graphAt
+  few-nodes = subst (λ n. n ≤ 1024) (ap (λ (g : Graph). g .nodes) (graph-read b ok)) (sound (encodeCells b) (well-formed b ok) .nodes)
+
+  pub few-rules : length (rules b) ≤ 32
+  few-rules = subst (λ n. n ≤ 32) (rules-counted b) (sound (encodeCells b) (well-formed b ok) .rules)
 
   pub steps-few : length (stepsOf (encodeCells b)) ≤ 4 * formsIn b + 2 * length (rules b)
   steps-few = omega (arith, plan-few (encodeCells b), forms-counted b, rules-counted b)
