@@ -26,6 +26,11 @@ ghost use Rattle.runner.specs.Run.{workCount};
 ghost use Rattle.lists.specs.Rows.{listCount, lengthCount, over, listIn, withRows, withLengths};
 ghost use Rattle.lists.specs.Answers.{saidOf, long, listSaid, rowAfter};
 
+// How long the lists and their lengths must be: a row of 1,024 places and a length for each of 32 rules.
+pub const LIST_PLACES: usize = 32768;
+
+pub const LENGTH_PLACES: usize = 32;
+
 // How many nodes a list has; or why there is none.
 pub enum Listed {
     Nodes(usize),

@@ -38,7 +38,8 @@ use Rattle.lists.proofs.ReadOff.{row-read}
 use Rattle.tablerun.specs.Lists.{listAt}
 use Rattle.tablerun.proofs.Lists.{rows-same, lengths-same}
 use Rattle.validation.specs.Claim.{ruleOf, Right, Said, steps, refusal, Answers, Demand3}
-use Rattle.validation.specs.Whole.{Lent, long, answered, left, said, after}
+use Rattle.itemreader.specs.declared.Counts.{Counts}
+use Rattle.validation.specs.Whole.{Lent, lent, long, answered, left, said, after}
 use Rattle.validation.proofs.Books.{list-read, steps-few, few-nodes, few-rules, listed-few, right}
 
 -- the slices are as long as the limits
@@ -105,7 +106,76 @@ module _ (s : List ℕ) (l : Lent) where
 
       pub taken : Meets (steps (length (stepsOf (encodeCells b)))) (left (accepted b) l)
       unfolding said after
-      taken =
-          ((λ a v r. subst (λ x. Right x (left (accepted b) l .plan) (left (accepted b) l .lists) (left (accepted b) l .lengths) (length (stepsOf (encodeCells b)))) (one-book b a is-valid v (reading-iff s b .0 q .1 ∙ sym r))
-          (right b (left (accepted b) l .plan) (left (accepted b) l .lists) (left (accepted b) l .lengths) (length (stepsOf (encodeCells b))) in-rows (plan-count (encodeCells b) (drop planCount (l .plan))) (steps-few b (valid-admissible b is-valid)))),
-          rw (e, q) refl, rw (e, q) refl)
+      taken = (
+        (λ a v r. subst (λ x. Right x (left (accepted b) l .plan) (left (accepted b) l .lists) (left (accepted b) l .lengths) (length (stepsOf (encodeCells b)))) (one-book b a is-valid v (reading-iff s b .0 q .1 ∙ sym r))
+            (right b (left (accepted b) l .plan) (left (accepted b) l .lists) (left (accepted b) l .lengths) (length (stepsOf (encodeCells b))) in-rows (plan-count (encodeCells b) (drop planCount (l .plan))) (steps-few b (valid-admissible b is-valid)))),
+        rw (e, q) refl,
+        rw (e, q) refl,
+      )
+
+-- ---- what read's answer tells, for tables that are long enough
+module _ (s ns cs : List ℕ) (vs : List ℤ) (e : longEnough ns cs vs ≡ true) where
+  by-reading : reads.readAnswer s ns cs vs ≡ reads.answered (reading s)
+  unfolding reads.readAnswer
+  by-reading = rw e refl
+
+  pub was-refused : (x : ReadAnswer) (r : Refusal) → reads.answerOf x ≡ reads.readAnswer s ns cs vs → x ≡ answers.Refused r → reading s ≡ turnedDown (codeOf r) (lineOf r)
+  was-refused x r p q = go (reading s) refl (ap reads.answerOf (sym q) ∙ p ∙ by-reading)
+    where
+      go : (o : Outcome) → reading s ≡ o → reads.answerOf (answers.Refused r) ≡ reads.answered (reading s) → reading s ≡ turnedDown (codeOf r) (lineOf r)
+      go (accepted b) a d = absurd (let z : codeOf r ≡ 0 = ap (λ (y : reads.Answer). y .refusal) (d ∙ ap reads.answered a) in let f : ⊥ = omega (arith, code-range r .0) in f)
+      go (turnedDown k line) a d =
+          let y = d ∙ ap reads.answered a in
+          a ∙ ap₂ turnedDown (ap (λ (x : reads.Answer). x .refusal) (sym y)) (ap (λ (x : reads.Answer). x .line) (sym y))
+
+  pub was-accepted : (x : ReadAnswer) (n : Counts) → reads.answerOf x ≡ reads.readAnswer s ns cs vs → x ≡ answers.Accepted n → (b : Book) × (reading s ≡ accepted b)
+  was-accepted x n p q = go (reading s) refl (ap reads.answerOf (sym q) ∙ p ∙ by-reading)
+    where
+      go : (o : Outcome) → reading s ≡ o → reads.answerOf (answers.Accepted n) ≡ reads.answered (reading s) → (b : Book) × (reading s ≡ accepted b)
+      go (accepted b) a d = (b, a)
+      go (turnedDown k line) a d =
+          let z : 0 ≡ k = ap (λ (y : reads.Answer). y .refusal) (d ∙ ap reads.answered a) in
+          absurd (let f : ⊥ = omega (arith, z, other-refusals s k line a (λ i. omega (arith, z, i)) .0) in f)
+
+  module _ (o : Outcome) (a : reading s ≡ o) where
+    pub names-left : reads.namesOf s ns cs vs ≡ reads.namesLeft o ns
+    unfolding reads.namesOf
+    names-left = rw (e, a) refl
+
+    pub cells-left : reads.cellsOf s ns cs vs ≡ reads.cellsLeft o cs
+    unfolding reads.cellsOf
+    cells-left = rw (e, a) refl
+
+    pub values-left : reads.valuesOf s ns cs vs ≡ reads.valuesLeft o vs
+    unfolding reads.valuesOf
+    values-left = rw (e, a) refl
+
+-- ---- slices that are the same
+pub lent-same : {ns ns′ cs cs′ : List ℕ} {vs vs′ : List ℤ} {ps ps′ ws ws′ ls ls′ ks ks′ : List ℕ} → ns ≡ ns′ → cs ≡ cs′ → vs ≡ vs′ → ps ≡ ps′ → ws ≡ ws′ → ls ≡ ls′ → ks ≡ ks′ → lent ns cs vs ps ws ls ks ≡ lent ns′ cs′ vs′ ps′ ws′ ls′ ks′
+lent-same a b c d e f g = λ j. record { names = a j; cells = b j; values = c j; plan = d j; work = e j; lists = f j; lengths = g j }
+
+-- ---- the tables that an accepted book leaves
+module _ (b : Book) (v : valid b ≡ true) (cells cs : List ℕ) (values vs : List ℤ) (e : cells ≡ encodeCells b ++ cs) (f : values ≡ encodeValues b ++ vs) where
+  pub cells-of : take cellCount cells ≡ encodeCells b
+  cells-of = ap (take cellCount) e ∙ take-at (encodeCells b) cs cellCount (cells-length b)
+
+  pub values-of : take valueCount values ≡ encodeValues b
+  values-of = ap (take valueCount) f ∙ take-at (encodeValues b) vs valueCount (values-length b)
+
+  pub well-formed-of : wellFormed (take cellCount cells) ≡ true
+  well-formed-of = ap wellFormed cells-of ∙ well-formed b (valid-admissible b v)
+
+  same-lists : (r : ℕ) → r < ruleCount (encodeCells b) → listAt (encodeCells b) (encodeValues b) r ≡ listOf b (ruleOf b r)
+  same-lists r low = list-read b (valid-admissible b v) r (subst (λ n. r < n) (rules-counted b) low)
+
+  pub rows-of : (ls : List ℕ) → withRows (listAt (take cellCount cells) (take valueCount values)) (ruleCount (take cellCount cells)) ls ≡ withRows (λ r. listOf b (ruleOf b r)) (length (rules b)) ls
+  rows-of ls =
+      ap₂ (λ c w. withRows (listAt c w) (ruleCount c) ls) cells-of values-of
+      ∙ rows-same (listAt (encodeCells b) (encodeValues b)) (λ r. listOf b (ruleOf b r)) (ruleCount (encodeCells b)) ls same-lists
+      ∙ ap (λ n. withRows (λ r. listOf b (ruleOf b r)) n ls) (rules-counted b)
+
+  pub lengths-of : (ks : List ℕ) → withLengths (listAt (take cellCount cells) (take valueCount values)) (ruleCount (take cellCount cells)) ks ≡ withLengths (λ r. listOf b (ruleOf b r)) (length (rules b)) ks
+  lengths-of ks =
+      ap₂ (λ c w. withLengths (listAt c w) (ruleCount c) ks) cells-of values-of
+      ∙ lengths-same (listAt (encodeCells b) (encodeValues b)) (λ r. listOf b (ruleOf b r)) (ruleCount (encodeCells b)) ks same-lists
+      ∙ ap (λ n. withLengths (λ r. listOf b (ruleOf b r)) n ks) (rules-counted b)

@@ -26,6 +26,9 @@ pub record Lent : Type 0 where
   pub lists : List ℕ
   pub lengths : List ℕ
 
+abbrev pub lent : (names cells : List ℕ) (values : List ℤ) (plan work lists lengths : List ℕ) → Lent
+lent ns cs vs ps ws ls ks = record { names = ns; cells = cs; values = vs; plan = ps; work = ws; lists = ls; lengths = ks }
+
 -- no ground for 8
 unfoldable pub long : Lent → Bool
 long l =
