@@ -1,5 +1,6 @@
 // The reader of a line: a shape line, and any line by its word.
 // Functions for the crate above, on tables that hold the lines above. Operations: none.
+use formreader::read_form;
 use itemreader::Counts;
 use itemreader::Head;
 use itemreader::Item;
@@ -25,38 +26,15 @@ ghost use mathlib.Core.List.{List};
 ghost use mathlib.Core.Bool.{true};
 ghost use Prim.Native.Nat.{ℕ, _≤_, _<_, _+_, _-_};
 ghost use lib.IntN.{ℤ};
-ghost use lib.ListN.{length, getD, drop};
+ghost use lib.ListN.{length, getD};
 ghost use lib.Seq.{slice};
 ghost use Rattle.model.specs.Shapes.{Shape};
 ghost use Rattle.model.specs.Books.{Book, shape};
-ghost use Rattle.grammar.specs.Syntax.{form, linkL, shapeL, lineFamily};
-ghost use Rattle.grammar.specs.Reading.{Begun, argAt, readersAt, lineAt};
+ghost use Rattle.grammar.specs.Syntax.{linkL, shapeL, lineFamily};
+ghost use Rattle.grammar.specs.Reading.{lineAt};
 ghost use Rattle.itemreader.specs.Held.{Limits, Held, Kinds};
-ghost use Rattle.leafreader.specs.Forms.{begunOf, FormRead, Within};
 ghost use Rattle.linereader.specs.Storing.{lineEnd, lineBody, Done, Fits};
-ghost use Rattle.bodyreader.specs.Pending.{Pending};
 ghost use Rattle.bodyreader.specs.Storing.{shaped, FormHeld};
-
-// STUB
-fn read_form(
-    cells: &mut [u16],
-    values: &mut [i64],
-    names: &[u8],
-    counts: Counts,
-    book: &[u8],
-    at: usize,
-    left: usize,
-    n: Ended,
-    up: usize,
-) -> Form
-    requires { ⌜ (at ≤ length (now book)) × (45056 ≤ length (now names)) × (16602 ≤ length (now cells)) × (1136 ≤ length (now values)) × (n .forms + up ≤ 112) × (n .paths ≤ 128) × (n .items ≤ 128) × Limits counts × Pending ⌝ }
-    ensures { λ r. ⌜ ((a : Book) → Held (now (names .entry)) counts a → (b : Begun) → b .forms ≡ n .forms + up → b .paths ≡ n .paths → b .items ≡ n .items → FormRead (argAt (now (book .entry)) a (readersAt (now (book .entry)) a left) form b at) (begunOf n) (now (cells .entry)) (now (cells .exit)) (now (values .entry)) (now (values .exit)) r) ⌝ }
-    ensures { λ r. ⌜ Within (n .forms) up (length (now (book .entry))) r ⌝ }
-    ensures { λ _. ⌜ drop 16602 (now (cells .exit)) ≡ drop 16602 (now (cells .entry)) ⌝ }
-    ensures { λ _. ⌜ drop 1136 (now (values .exit)) ≡ drop 1136 (now (values .entry)) ⌝ }
-{
-    Form::No(2)
-}
 
 // The counts with a shape, with which n entries and items have ended.
 fn with_shape(mut counts: Counts, n: Ended) -> Counts
@@ -105,7 +83,7 @@ fn shape_line(
     book: &[u8],
     at: usize,
 ) -> LineAnswer
-    requires { ⌜ (at ≤ length (now book)) × (45056 ≤ length (now names)) × (16602 ≤ length (now cells)) × (1136 ≤ length (now values)) × Limits counts × Fits counts × ((a : Book) × Held (now names) counts a) × Pending ⌝ }
+    requires { ⌜ (at ≤ length (now book)) × (45056 ≤ length (now names)) × (16602 ≤ length (now cells)) × (1136 ≤ length (now values)) × Limits counts × Fits counts × ((a : Book) × Held (now names) counts a) ⌝ }
     ensures { λ r. ⌜ ((a : Book) → Held (now (names .entry)) counts a → Done a counts (lineBody (now (book .entry)) a shapeL at) r (now (names .entry)) (now (names .exit)) (now (cells .entry)) (now (cells .exit)) (now (values .entry)) (now (values .exit))) ⌝ }
 {
     let new = read_new(names, counts, Pool::Shapes, book, at);
@@ -133,7 +111,7 @@ fn read_body(
     book: &[u8],
     at: usize,
 ) -> LineAnswer
-    requires { ⌜ (at ≤ length (now book)) × (k < 11) × (45056 ≤ length (now names)) × (16602 ≤ length (now cells)) × (1136 ≤ length (now values)) × Limits counts × Fits counts × ((a : Book) × Held (now names) counts a) × Pending ⌝ }
+    requires { ⌜ (at ≤ length (now book)) × (k < 11) × (45056 ≤ length (now names)) × (16602 ≤ length (now cells)) × (1136 ≤ length (now values)) × Limits counts × Fits counts × ((a : Book) × Held (now names) counts a) ⌝ }
     ensures { λ r. ⌜ ((a : Book) → Held (now (names .entry)) counts a → Kinds (now (cells .entry)) a → Done a counts (lineBody (now (book .entry)) a (getD (lineFamily .codes) k linkL) at) r (now (names .entry)) (now (names .exit)) (now (cells .entry)) (now (cells .exit)) (now (values .entry)) (now (values .exit))) ⌝ }
 {
     match k {
@@ -160,7 +138,7 @@ pub fn read_line(
     book: &[u8],
     at: usize,
 ) -> LineAnswer
-    requires { ⌜ (at ≤ length (now book)) × (45056 ≤ length (now names)) × (16602 ≤ length (now cells)) × (1136 ≤ length (now values)) × Limits counts × Fits counts × ((a : Book) × Held (now names) counts a) × Pending ⌝ }
+    requires { ⌜ (at ≤ length (now book)) × (45056 ≤ length (now names)) × (16602 ≤ length (now cells)) × (1136 ≤ length (now values)) × Limits counts × Fits counts × ((a : Book) × Held (now names) counts a) ⌝ }
     ensures { λ r. ⌜ ((a : Book) → Held (now (names .entry)) counts a → Kinds (now (cells .entry)) a → Done a counts (lineAt (now (book .entry)) a at) r (now (names .entry)) (now (names .exit)) (now (cells .entry)) (now (cells .exit)) (now (values .entry)) (now (values .exit))) ⌝ }
 {
     match line_head(book, at, 1, false) {

@@ -1,6 +1,6 @@
 -- FORM: answers, the closing bracket, and what is stored.
-use Prim.Native.Nat.{ℕ, zero, suc, _+_, _-_, _<_, _≤_}
-use mathlib.Core.Path.{_≡_, refl, sym, ap, subst, _∙_}
+use Prim.Native.Nat.{ℕ, _+_, _-_, _<_, _≤_}
+use mathlib.Core.Path.{_≡_, sym, ap, _∙_}
 use mathlib.Core.List.{List, [], _∷_}
 use mathlib.Core.Bool.{Bool, true, false, cond}
 use native.Mathlib.Omega.{arith}
@@ -17,16 +17,16 @@ use Rattle.text.proofs.Parts.{inside}
 use Rattle.model.specs.Paths.{Path, predicate, inverse, sequence, alternative, End, self, along}
 use Rattle.model.specs.Shapes.{Shape, top}
 use Rattle.model.specs.Books.{Book, Pool}
-use Rattle.model.specs.Sizes.{pathEntries, endEntries, formEntries, shapePaths, listItems}
-use Rattle.grammar.specs.Syntax.{Slot, Arg, value, list, form}
+use Rattle.model.specs.Sizes.{pathEntries, endEntries}
+use Rattle.grammar.specs.Syntax.{Slot, Arg, list, form}
 use Rattle.grammar.specs.Reading.{Read, got, refused, Readers, Begun, after, argAt, listAt, closeAt, trueAt}
-use Rattle.stores.specs.Entries.{putForm, putItems, putValue, pathCells, endCells, endOperand, shapeCells, shapeValues}
+use Rattle.stores.specs.Entries.{putForm, putItems, pathCells, endCells, endOperand, shapeCells, shapeValues}
 use Rattle.itemreader.specs.declared.Value.{Value}
 use Rattle.itemreader.specs.Answers.{valueOf, restAt}
 use Rattle.itemreader.proofs.Heads.{rest-none, rest-got}
 use Rattle.leafreader.specs.declared.Ended.{Ended}
 use Rattle.leafreader.specs.declared.Form.{Form}
-use Rattle.leafreader.specs.Forms.{begunOf, endedOf, formEnded, formAnswer, FormRead, Closes, closedForm, Within, childrenOf, formBody, putItem, ListShape, EndShape, PathShape, endNumber}
+use Rattle.leafreader.specs.Forms.{begunOf, endedOf, formEnded, FormRead, Closes, closedForm, Within, childrenOf, formBody, putItem, ListShape, EndShape, PathShape, endNumber}
 
 -- ---- answers
 module _ {n : Begun} {cs cs' : List ℕ} {vs vs' : List ℤ} {r : Form} where

@@ -1,18 +1,18 @@
 -- The entry of each form without a form within.
 use Prim.Native.Nat.{ℕ, _+_, _-_}
-use mathlib.Core.Path.{_≡_, refl, sym, ap, _∙_}
+use mathlib.Core.Path.{_≡_, refl, sym, ap}
 use mathlib.Core.List.{List}
 use mathlib.Core.Bool.{true}
 use native.Mathlib.Omega.{arith}
 use lib.IntN.{ℤ}
 use lib.ListN.{length}
-use Rattle.model.specs.Paths.{Path, End}
+use Rattle.model.specs.Paths.{Path}
 use Rattle.model.specs.Shapes.{Kind, nodeKind, datatype, languageIn, minInclusive, minExclusive, maxInclusive, maxExclusive, Shape, top, hasShape, hasValue, test, equals, disjoint, closed, lessThan, lessThanEq, uniqueLang}
 use Rattle.model.specs.Sizes.{pathEntries, endEntries, formEntries, shapePaths, testItems, listItems}
 use Rattle.grammar.specs.Syntax.{form}
-use Rattle.grammar.specs.Reading.{Read, got, Begun, after}
+use Rattle.grammar.specs.Reading.{Read, got, after}
 use Rattle.encoding.specs.Flatten.{kindCode}
-use Rattle.stores.specs.Entries.{putForm, putItems, putValue, pathCells, endCells, endOperand, testCells, shapeCells, testValues, shapeValues}
+use Rattle.stores.specs.Entries.{putForm, pathCells, testCells, shapeCells, testValues, shapeValues}
 use Rattle.leafreader.specs.declared.Ended.{Ended}
 use Rattle.leafreader.specs.declared.Form.{Form}
 use Rattle.leafreader.specs.Forms.{begunOf, endedOf, formEnded, FormRead, Closes, putItem, ListShape, ValueShape, EndShape, PathShape}

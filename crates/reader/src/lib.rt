@@ -25,7 +25,6 @@ ghost use Rattle.grammar.specs.Reading.{linesFrom, reading};
 ghost use Rattle.stores.specs.Lines.{putName, putCounts, cleared};
 ghost use Rattle.itemreader.specs.Held.{Limits};
 ghost use Rattle.linereader.specs.Storing.{Fits};
-ghost use Rattle.bodyreader.specs.Pending.{Pending};
 ghost use Rattle.reader.specs.Answers.{answerOf, answered, namesLeft, cellsLeft, valuesLeft, readAnswer, namesOf, cellsOf, valuesOf};
 ghost use Rattle.reader.specs.Running.{Started, Ran, countList};
 
@@ -96,7 +95,7 @@ fn put_counts(cells: &mut [u16], counts: Counts)
 
 // Line after line, on tables that hold the built-in names alone.
 fn read_lines(names: &mut [u8], cells: &mut [u16], values: &mut [i64], book: &[u8]) -> LinesAnswer
-    requires { ⌜ (45056 ≤ length (now names)) × (16602 ≤ length (now cells)) × (1136 ≤ length (now values)) × Started (now names) (now cells) (now values) × Pending ⌝ }
+    requires { ⌜ (45056 ≤ length (now names)) × (16602 ≤ length (now cells)) × (1136 ≤ length (now values)) × Started (now names) (now cells) (now values) ⌝ }
     ensures { λ r. ⌜ Ran (linesFrom (now (book .entry)) (length (now (book .entry))) 0 0 []) r (now (names .entry)) (now (names .exit)) (now (cells .entry)) (now (cells .exit)) (now (values .entry)) (now (values .exit)) ⌝ }
 {
     let mut counts = Counts {
@@ -130,7 +129,7 @@ fn read_lines(names: &mut [u8], cells: &mut [u16], values: &mut [i64], book: &[u
 
 // A book that is not too long, into tables that are long enough.
 fn read_book(names: &mut [u8], cells: &mut [u16], values: &mut [i64], book: &[u8]) -> ReadAnswer
-    requires { ⌜ (length (now book) ≤ 65536) × (45056 ≤ length (now names)) × (16602 ≤ length (now cells)) × (1136 ≤ length (now values)) × Pending ⌝ }
+    requires { ⌜ (length (now book) ≤ 65536) × (45056 ≤ length (now names)) × (16602 ≤ length (now cells)) × (1136 ≤ length (now values)) ⌝ }
     ensures { λ r. ⌜ answerOf r ≡ answered (reading (now (book .entry))) ⌝ }
     ensures { λ _. ⌜ now (names .exit) ≡ namesLeft (reading (now (book .entry))) (now (names .entry)) ⌝ }
     ensures { λ _. ⌜ now (cells .exit) ≡ cellsLeft (reading (now (book .entry))) (now (cells .entry)) ⌝ }
@@ -152,7 +151,6 @@ fn read_book(names: &mut [u8], cells: &mut [u16], values: &mut [i64], book: &[u8
 
 // The answer, and each table afterwards, for any bytes and any lent tables.
 pub fn read(book: &[u8], names: &mut [u8], cells: &mut [u16], values: &mut [i64]) -> ReadAnswer
-    requires { ⌜ Pending ⌝ }
     ensures { λ r. ⌜ answerOf r ≡ readAnswer (now (book .entry)) (now (names .entry)) (now (cells .entry)) (now (values .entry)) ⌝ }
     ensures { λ _. ⌜ now (names .exit) ≡ namesOf (now (book .entry)) (now (names .entry)) (now (cells .entry)) (now (values .entry)) ⌝ }
     ensures { λ _. ⌜ now (cells .exit) ≡ cellsOf (now (book .entry)) (now (names .entry)) (now (cells .entry)) (now (values .entry)) ⌝ }

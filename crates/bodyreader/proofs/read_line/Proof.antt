@@ -29,7 +29,7 @@ read-body-requires c κs =
     let t = c .before .before .before .before .before .before .line-head in
     let k = c .before .before .before .before .k2 .given in
     let w = headed-is 11 1 (length (s .book .now)) (t .result) (k .0 .0) (k .0 .1 .0) (t .ensures .1) (k .1) in
-    (w .2, w .0, p .1, p .2, p .3, p .4, p .5, p .6, p .7)
+    (w .2, w .0, p .1, p .2, p .3, p .4, p .5, p .6)
 
 returns : tie.Need-returns
 returns c =

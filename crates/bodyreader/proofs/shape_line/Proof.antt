@@ -57,7 +57,7 @@ read-form-requires : tie.Need-read-form-requires
 read-form-requires c κs =
     let p = c .before .before .before .before .before .before .before .before .before .before .before .pre in
     let f = p .5 in
-    (below-is _ _ (c .before .before .before .before .before .before .read-new .result) _ _ (c .before .before .before .before .before .before .read-new .ensures .1) (c .before .before .before .before .new .given .1) .1, p .1, p .2, p .3, omega (arith, f .form-limit), f .path-limit, f .item-limit, p .4, p .7)
+    (below-is _ _ (c .before .before .before .before .before .before .read-new .result) _ _ (c .before .before .before .before .before .before .read-new .ensures .1) (c .before .before .before .before .new .given .1) .1, p .1, p .2, p .3, omega (arith, f .form-limit), f .path-limit, f .item-limit, p .4)
 
 enum-known-k : tie.Need-enum-known-k
 enum-known-k c = search needs

@@ -1,5 +1,5 @@
 use Prim.Native.Nat.{ℕ, _-_}
-use mathlib.Core.Path.{refl, sym, ap, _∙_}
+use mathlib.Core.Path.{refl, _∙_}
 use mathlib.Core.List.{List, []}
 use mathlib.Core.Bool.{true}
 use native.Mathlib.Omega.{arith}

@@ -58,7 +58,7 @@ returns-2 c =
     right-long (s .book .now) (s .names .now) (s .cells .now) (s .values .now) (enough (c .before .before .before .before .before .before .before .before .before .before)) _ _ _ _ (ap answered e) (z .0 ∙ ap (λ (o : Outcome). namesLeft o (s .names .now)) e) (z .1 .0 ∙ ap (λ (o : Outcome). cellsLeft o (s .cells .now)) e) (z .1 .1 ∙ ap (λ (o : Outcome). valuesLeft o (s .values .now)) e)
 
 read-book-requires : tie.Need-read-book-requires
-read-book-requires c κs = let l = lengths (c .before .before .before .before) in (c .before .before .before .if2 .left, l .names, l .cells, l .values, c .before .before .before .before .before .before .before .before .before .before .before .before .pre)
+read-book-requires c κs = let l = lengths (c .before .before .before .before) in (c .before .before .before .if2 .left, l .names, l .cells, l .values)
 
 same-length-7 : tie.Need-same-length-7
 same-length-7 c = search needs

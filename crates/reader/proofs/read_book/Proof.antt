@@ -35,7 +35,7 @@ read-lines-requires c κs =
     let s = c .before .before .before .before .before .before .before .before .before .before .before .before .before .before .before .before .before .before .before .args in
     let p = c .before .before .before .before .before .before .before .before .before .before .before .before .before .before .before .before .before .before .before .pre in
     let k = c .before .before .before .before .before .before .before .before .before .before .before .before .clear .kept in
-    (omega (arith, c .before .before .before .before .before .put-built-in .kept .0), omega arith, omega arith, started (s .names .now) _ (s .cells .now) _ (s .values .now) _ (names-then (c .before .before .before .before .before)) (c .before .before .before .before .before .before .before .before .before .before .before .before .clear .ensures .1 .0) (c .before .before .before .before .before .before .before .before .before .before .before .before .clear .ensures .1 .1), p .4)
+    (omega (arith, c .before .before .before .before .before .put-built-in .kept .0), omega arith, omega arith, started (s .names .now) _ (s .cells .now) _ (s .values .now) _ (names-then (c .before .before .before .before .before)) (c .before .before .before .before .before .before .before .before .before .before .before .before .clear .ensures .1 .0) (c .before .before .before .before .before .before .before .before .before .before .before .before .clear .ensures .1 .1))
 
 enum-known-counts : tie.Need-enum-known-counts
 enum-known-counts c = search needs

@@ -27,7 +27,7 @@ read-line-requires c κs =
     let p = c .before .before .before .before .before .before .before .before .pre in
     let i = c .before .before .before .before .loop .inv in
     let R = i .3 in
-    (R .within, omega arith, omega arith, omega arith, runs-limits _ _ _ _ R, runs-fits _ _ _ _ R, (R .above, runs-held _ _ _ _ R), p .4)
+    (R .within, omega arith, omega arith, omega arith, runs-limits _ _ _ _ R, runs-fits _ _ _ _ R, (R .above, runs-held _ _ _ _ R))
 
 enum-known-k : tie.Need-enum-known-k Inv-loop μ-loop
 enum-known-k c = search needs

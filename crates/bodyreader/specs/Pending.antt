@@ -1,3 +1,0 @@
--- What is not proved yet.
-unfoldable pub Pending : Type 0
-Pending = ⊥

@@ -1,0 +1,288 @@
+// The reader of FORM, which calls itself with the remaining depth falling. It stores each form entry as it ends.
+// Functions for the crates above, on positions of a text that these have shown to lie within it. Operations: none.
+use itemreader::Counts;
+use itemreader::Head;
+use itemreader::Item;
+use itemreader::form_head;
+use itemreader::read_high;
+use itemreader::read_low;
+use leafreader::Ended;
+use leafreader::Form;
+use leafreader::close_form;
+use leafreader::pick;
+use leafreader::read_leaf;
+use leafreader::read_true;
+use pathreader::read_path;
+use text::byte;
+ghost use mathlib.Core.Path.{_≡_};
+ghost use mathlib.Core.List.{List, [], _∷_};
+ghost use mathlib.Core.Bool.{true, cond};
+ghost use Prim.Native.Nat.{_≤_, _<_, _+_, _-_};
+ghost use lib.Dec.{eqb};
+ghost use lib.IntN.{ℤ};
+ghost use lib.ListN.{length, getD, drop};
+ghost use Rattle.model.specs.Books.{Book};
+ghost use Rattle.grammar.specs.Syntax.{path, form};
+ghost use Rattle.grammar.specs.Reading.{Begun, formBegun, argAt, readersAt};
+ghost use Rattle.itemreader.specs.Answers.{restAt};
+ghost use Rattle.itemreader.specs.Held.{Limits, Held};
+ghost use Rattle.leafreader.specs.Forms.{begunOf, FormRead, closedForm, Within, formBody};
+ghost use Rattle.formreader.specs.Frames.{Quantifier, quantify, codeOf, lowOf, highOf, OpenRead, Opened, putChild};
+
+// What stands before the FORMs within a bracket: the code of the form's entry, LO, HI and the last path entry, zero where
+// there is none; how many path entries have ended with it, and the position after it.
+pub struct Front {
+    pub code: u16,
+    pub low: u16,
+    pub high: u16,
+    pub path: u16,
+    pub paths: usize,
+    pub next: usize,
+}
+
+// A form that was read whole, or refused; or what stands before the FORMs within it.
+pub enum Opening {
+    Whole(Form),
+    Part(Front),
+}
+
+// The PATH of all, and of count after LO and HI.
+fn open_path(
+    cells: &mut [u16],
+    names: &[u8],
+    counts: Counts,
+    book: &[u8],
+    at: usize,
+    left: usize,
+    n: Ended,
+    up: usize,
+    code: u16,
+    low: u16,
+    high: u16,
+) -> Opening
+    requires { ⌜ (at ≤ length (now book)) × (45056 ≤ length (now names)) × (16602 ≤ length (now cells)) × (0 < left) × (n .forms + up < 112) × (n .paths ≤ 128) × Limits counts ⌝ }
+    ensures { λ r. ⌜ ((a : Book) → Held (now (names .entry)) counts a → (b : Begun) → b .paths ≡ n .paths → (q : Quantifier) → code ≡ codeOf q → low ≡ lowOf q → high ≡ highOf q → (vs : List ℤ) → OpenRead (now (book .entry)) a (readersAt (now (book .entry)) a (left - 1)) b (restAt (now (book .entry)) a (readersAt (now (book .entry)) a (left - 1)) true (path ∷ form ∷ []) (λ xs. quantify q (xs .0) (xs .1 .0)) b at) (begunOf n) (now (cells .entry)) (now (cells .exit)) vs vs r) ⌝ }
+    ensures { λ r. ⌜ Opened left up (length (now (book .entry))) n r ⌝ }
+    ensures { λ _. ⌜ drop 16602 (now (cells .exit)) ≡ drop 16602 (now (cells .entry)) ⌝ }
+{
+    let paths = n.paths;
+    match read_path(cells, names, counts, book, at, left - 1, paths, 0) {
+        Item::No(k) => Opening::Whole(Form::No(k)),
+        Item::Is(m, next) => Opening::Part(Front {
+            code: code,
+            low: low,
+            high: high,
+            path: (m - 1) as u16,
+            paths: m,
+            next: next,
+        }),
+    }
+}
+
+// LO, HI and the PATH of count.
+fn open_count(
+    cells: &mut [u16],
+    names: &[u8],
+    counts: Counts,
+    book: &[u8],
+    at: usize,
+    left: usize,
+    n: Ended,
+    up: usize,
+) -> Opening
+    requires { ⌜ (at ≤ length (now book)) × (45056 ≤ length (now names)) × (16602 ≤ length (now cells)) × (0 < left) × (n .forms + up < 112) × (n .paths ≤ 128) × Limits counts ⌝ }
+    ensures { λ r. ⌜ ((a : Book) → Held (now (names .entry)) counts a → (b : Begun) → b .paths ≡ n .paths → (vs : List ℤ) → OpenRead (now (book .entry)) a (readersAt (now (book .entry)) a (left - 1)) b (formBody (now (book .entry)) a (left - 1) 12 b at) (begunOf n) (now (cells .entry)) (now (cells .exit)) vs vs r) ⌝ }
+    ensures { λ r. ⌜ Opened left up (length (now (book .entry))) n r ⌝ }
+    ensures { λ _. ⌜ drop 16602 (now (cells .exit)) ≡ drop 16602 (now (cells .entry)) ⌝ }
+{
+    match read_low(book, at) {
+        Item::No(k) => Opening::Whole(Form::No(k)),
+        Item::Is(low, mid) => match read_high(book, mid) {
+            Item::No(k) => Opening::Whole(Form::No(k)),
+            Item::Is(high, next) => open_path(
+                cells,
+                names,
+                counts,
+                book,
+                next,
+                left,
+                n,
+                up,
+                13,
+                low as u16,
+                high as u16,
+            ),
+        },
+    }
+}
+
+// What follows the word of a number: a form without a FORM within, or what stands before the first.
+fn open_word(
+    cells: &mut [u16],
+    values: &mut [i64],
+    names: &[u8],
+    counts: Counts,
+    book: &[u8],
+    code: usize,
+    at: usize,
+    left: usize,
+    n: Ended,
+    up: usize,
+) -> Opening
+    requires { ⌜ (at ≤ length (now book)) × (45056 ≤ length (now names)) × (16602 ≤ length (now cells)) × (1136 ≤ length (now values)) × (0 < left) × (n .forms + up < 112) × (n .paths ≤ 128) × (n .items ≤ 128) × Limits counts × (code < 20) ⌝ }
+    ensures { λ r. ⌜ ((a : Book) → Held (now (names .entry)) counts a → (b : Begun) → b .paths ≡ n .paths → b .items ≡ n .items → OpenRead (now (book .entry)) a (readersAt (now (book .entry)) a (left - 1)) b (formBody (now (book .entry)) a (left - 1) code b at) (begunOf n) (now (cells .entry)) (now (cells .exit)) (now (values .entry)) (now (values .exit)) r) ⌝ }
+    ensures { λ r. ⌜ Opened left up (length (now (book .entry))) n r ⌝ }
+    ensures { λ _. ⌜ drop 16602 (now (cells .exit)) ≡ drop 16602 (now (cells .entry)) ⌝ }
+    ensures { λ _. ⌜ drop 1136 (now (values .exit)) ≡ drop 1136 (now (values .entry)) ⌝ }
+{
+    match code {
+        2..=4 => Opening::Part(Front {
+            code: (code + 1) as u16,
+            low: 0,
+            high: 0,
+            path: 0,
+            paths: n.paths,
+            next: at,
+        }),
+        12 => open_count(cells, names, counts, book, at, left, n, up),
+        13 => open_path(cells, names, counts, book, at, left, n, up, 14, 0, 0),
+        _ => Opening::Whole(read_leaf(
+            cells,
+            values,
+            names,
+            counts,
+            book,
+            code,
+            at,
+            left - 1,
+            n,
+            up,
+        )),
+    }
+}
+
+// FORM after a space, up to the first FORM within.
+fn open_form(
+    cells: &mut [u16],
+    values: &mut [i64],
+    names: &[u8],
+    counts: Counts,
+    book: &[u8],
+    at: usize,
+    left: usize,
+    n: Ended,
+    up: usize,
+) -> Opening
+    requires { ⌜ (at ≤ length (now book)) × (45056 ≤ length (now names)) × (16602 ≤ length (now cells)) × (1136 ≤ length (now values)) × (n .forms + up ≤ 112) × (n .paths ≤ 128) × (n .items ≤ 128) × Limits counts ⌝ }
+    ensures { λ r. ⌜ ((a : Book) → Held (now (names .entry)) counts a → (b : Begun) → b .forms ≡ n .forms + up → b .paths ≡ n .paths → b .items ≡ n .items → OpenRead (now (book .entry)) a (readersAt (now (book .entry)) a (left - 1)) (formBegun b) (argAt (now (book .entry)) a (readersAt (now (book .entry)) a left) form b at) (begunOf n) (now (cells .entry)) (now (cells .exit)) (now (values .entry)) (now (values .exit)) r) ⌝ }
+    ensures { λ r. ⌜ Opened left up (length (now (book .entry))) n r ⌝ }
+    ensures { λ _. ⌜ drop 16602 (now (cells .exit)) ≡ drop 16602 (now (cells .entry)) ⌝ }
+    ensures { λ _. ⌜ drop 1136 (now (values .exit)) ≡ drop 1136 (now (values .entry)) ⌝ }
+{
+    if byte(book, at) != 32 {
+        return Opening::Whole(Form::No(2));
+    }
+    let forms = n.forms;
+    match form_head(book, at + 1, left, 112 <= forms + up) {
+        Head::Bare => Opening::Whole(read_true(cells, book, at + 1, n, up)),
+        Head::No(k) => Opening::Whole(Form::No(k)),
+        Head::Word(code, end) => {
+            open_word(cells, values, names, counts, book, code, end, left, n, up)
+        }
+    }
+}
+
+// The closing bracket of a form with one FORM within: not, count or all.
+fn close_child(cells: &mut [u16], book: &[u8], at: usize, n: Ended, front: Front) -> Form
+    requires { ⌜ (0 < n .forms) × (n .forms < 112) × (16602 ≤ length (now cells)) ⌝ }
+    ensures { λ r. ⌜ r ≡ closedForm (now (book .entry)) at n ⌝ }
+    ensures { λ _. ⌜ now (cells .exit) ≡ cond (eqb (getD (now (book .entry)) at 0) 41) (putChild front (n .forms) (now (cells .entry))) (now (cells .entry)) ⌝ }
+    ensures { λ _. ⌜ drop 16602 (now (cells .exit)) ≡ drop 16602 (now (cells .entry)) ⌝ }
+{
+    let child = (n.forms - 1) as u16;
+    let lone = front.code == 5;
+    close_form(
+        cells,
+        book,
+        at,
+        n,
+        front.code,
+        pick(lone, child, front.path),
+        pick(lone, 0, child),
+        front.low,
+        front.high,
+    )
+}
+
+// FORM after a space: its entries are stored after n, where up form entries have begun and not ended, and left brackets may
+// still be opened.
+pub fn read_form(
+    cells: &mut [u16],
+    values: &mut [i64],
+    names: &[u8],
+    counts: Counts,
+    book: &[u8],
+    at: usize,
+    left: usize,
+    n: Ended,
+    up: usize,
+) -> Form
+    requires { ⌜ (at ≤ length (now book)) × (45056 ≤ length (now names)) × (16602 ≤ length (now cells)) × (1136 ≤ length (now values)) × (n .forms + up ≤ 112) × (n .paths ≤ 128) × (n .items ≤ 128) × Limits counts ⌝ }
+    ensures { λ r. ⌜ ((a : Book) → Held (now (names .entry)) counts a → (b : Begun) → b .forms ≡ n .forms + up → b .paths ≡ n .paths → b .items ≡ n .items → FormRead (argAt (now (book .entry)) a (readersAt (now (book .entry)) a left) form b at) (begunOf n) (now (cells .entry)) (now (cells .exit)) (now (values .entry)) (now (values .exit)) r) ⌝ }
+    ensures { λ r. ⌜ Within (n .forms) up (length (now (book .entry))) r ⌝ }
+    ensures { λ _. ⌜ drop 16602 (now (cells .exit)) ≡ drop 16602 (now (cells .entry)) ⌝ }
+    ensures { λ _. ⌜ drop 1136 (now (values .exit)) ≡ drop 1136 (now (values .entry)) ⌝ }
+{
+    match open_form(cells, values, names, counts, book, at, left, n, up) {
+        Opening::Whole(form) => form,
+        Opening::Part(front) => {
+            let m = Ended {
+                forms: n.forms,
+                paths: front.paths,
+                items: n.items,
+            };
+            let first = read_form(
+                cells,
+                values,
+                names,
+                counts,
+                book,
+                front.next,
+                left - 1,
+                m,
+                up + 1,
+            );
+            let Form::Is(l, next) = first else {
+                return first;
+            };
+            if 4 < front.code {
+                return close_child(cells, book, next, l, front);
+            }
+            let second = read_form(
+                cells,
+                values,
+                names,
+                counts,
+                book,
+                next,
+                left - 1,
+                l,
+                up + 1,
+            );
+            let Form::Is(k, last) = second else {
+                return second;
+            };
+            close_form(
+                cells,
+                book,
+                last,
+                k,
+                front.code,
+                (l.forms - 1) as u16,
+                (k.forms - 1) as u16,
+                0,
+                0,
+            )
+        }
+    }
+}
