@@ -72,22 +72,22 @@ room l e =
 -- what a way through the run must give: the claim, the answer, and what is left in the slices
 module _ (s : List ℕ) (l : Lent) where
   abbrev pub Meets : Said → Lent → Type 0
-  Meets a m = Demand3 s a (m .plan) (m .lists) (m .lengths) × (a ≡ said s l) × (m ≡ after s l)
+  Meets a m = Demand3 s a (m .plan) (m .lists) (m .lengths) × ((a ≡ said s l) × (m ≡ after s l))
 
   -- ---- 8: nothing has changed
   pub too-short : long l ≡ false → Meets (refusal 8 0) l
   unfolding said after
-  too-short e = ((λ b v r. refl), rw e, rw e)
+  too-short e = ((λ b v r. refl), (rw e, rw e))
 
   module _ (e : long l ≡ true) where
     -- ---- a refused book
     pub turned-down : (k line : ℕ) → reading s ≡ turnedDown k line → Meets (refusal k line) (left (turnedDown k line) l)
     unfolding said after
-    turned-down k line q = ((λ b v r. absurd (refused-only s k line q b v r)), rw (e, q) refl, rw (e, q) refl)
+    turned-down k line q = ((λ b v r. absurd (refused-only s k line q b v r)), (rw (e, q) refl, rw (e, q) refl))
 
     -- ---- an accepted one
     module _ (b : Book) (q : reading s ≡ accepted b) where
-      is-valid : valid b ≡ true
+      pub is-valid : valid b ≡ true
       is-valid = reading-iff s b .0 q .0
 
       fits : Room l
@@ -104,14 +104,15 @@ module _ (s : List ℕ) (l : Lent) where
           row-read list short (length (rules b)) (l .lists) (l .lengths)
           (omega (arith, fits .lists, few-rules b (valid-admissible b is-valid))) (omega (arith, fits .lengths, few-rules b (valid-admissible b is-valid))) r low
 
+      abbrev RightFor : Book → Type 0
+      RightFor x = Right x (left (accepted b) l .plan) (left (accepted b) l .lists) (left (accepted b) l .lengths) (length (stepsOf (encodeCells b)))
+
+      right-for : RightFor b
+      right-for = right b (left (accepted b) l .plan) (left (accepted b) l .lists) (left (accepted b) l .lengths) (length (stepsOf (encodeCells b))) in-rows (plan-count (encodeCells b) (drop planCount (l .plan))) (steps-few b (valid-admissible b is-valid))
+
       pub taken : Meets (steps (length (stepsOf (encodeCells b)))) (left (accepted b) l)
       unfolding said after
-      taken = (
-        (λ a v r. subst (λ x. Right x (left (accepted b) l .plan) (left (accepted b) l .lists) (left (accepted b) l .lengths) (length (stepsOf (encodeCells b)))) (one-book b a is-valid v (reading-iff s b .0 q .1 ∙ sym r))
-            (right b (left (accepted b) l .plan) (left (accepted b) l .lists) (left (accepted b) l .lengths) (length (stepsOf (encodeCells b))) in-rows (plan-count (encodeCells b) (drop planCount (l .plan))) (steps-few b (valid-admissible b is-valid)))),
-        rw (e, q) refl,
-        rw (e, q) refl,
-      )
+      taken = ((λ a v r. subst RightFor (one-book b a is-valid v (reading-iff s b .0 q .1 ∙ sym r)) right-for), (rw (e, q) refl, rw (e, q) refl))
 
 -- ---- what read's answer tells, for tables that are long enough
 module _ (s ns cs : List ℕ) (vs : List ℤ) (e : longEnough ns cs vs ≡ true) where
@@ -179,3 +180,12 @@ module _ (b : Book) (v : valid b ≡ true) (cells cs : List ℕ) (values vs : Li
       ap₂ (λ c w. withLengths (listAt c w) (ruleCount c) ks) cells-of values-of
       ∙ lengths-same (listAt (encodeCells b) (encodeValues b)) (λ r. listOf b (ruleOf b r)) (ruleCount (encodeCells b)) ks same-lists
       ∙ ap (λ n. withLengths (λ r. listOf b (ruleOf b r)) n ks) (rules-counted b)
+
+-- ---- lengths that were kept
+pub long-kept : (ns ns′ cs cs′ : List ℕ) (vs vs′ : List ℤ) → longEnough ns cs vs ≡ true → length ns′ ≡ length ns → length cs′ ≡ length cs → length vs′ ≡ length vs → longEnough ns′ cs′ vs′ ≡ true
+unfolding longEnough
+long-kept ns ns′ cs cs′ vs vs′ e p q r = rw (p, q, r) e
+
+pub long-by : (l : Lent) {tables : Bool} → tables ≡ longEnough (l .names) (l .cells) (l .values) → (tables && (leb planCount (length (l .plan)) && (leb workCount (length (l .work)) && (leb listCount (length (l .lists)) && leb lengthCount (length (l .lengths)))))) ≡ long l
+unfolding long
+long-by l e = ap (λ (t : Bool). t && (leb planCount (length (l .plan)) && (leb workCount (length (l .work)) && (leb listCount (length (l .lists)) && leb lengthCount (length (l .lengths)))))) e
