@@ -1,0 +1,72 @@
+-- What the tables of a valid book say is what the book says: its lists, and how many steps its plan has.
+use Prim.Native.Nat.{ℕ, _+_, _*_, _<_, _≤_}
+use mathlib.Core.Path.{_≡_, refl, sym, ap, ap₂, subst, _∙_}
+use mathlib.Core.List.{List, _++_}
+use mathlib.Core.Bool.{Bool, true, _&&_}
+use native.Mathlib.Omega.{arith}
+use lib.Dec.{ltb}
+use lib.ListN.{length}
+use Rattle.base.specs.Lists.{member, ascending}
+use Rattle.base.specs.Bounded.{members}
+use Rattle.base.proofs.Bounded.{member-members, members-ascending, size-members, size-le}
+use Rattle.model.specs.Graph.{Graph}
+use Rattle.model.specs.Shapes.{Shape}
+use Rattle.model.specs.Rules.{Rule, selects, violates, violations}
+use Rattle.model.specs.Books.{Book, graphOf, schema, rules, conformsIn, listOf}
+use Rattle.model.specs.Sizes.{formsIn}
+use Rattle.model.specs.Valid.{admissible}
+use Rattle.tables.specs.Decode.{graphAt, ruleAt}
+use Rattle.tables.proofs.WellFormed.{sound}
+use Rattle.encoding.specs.Encode.{encodeCells, encodeValues}
+use Rattle.encoding.proofs.Counts.{forms-counted, rules-counted}
+use Rattle.encoding.proofs.Graph.{graph-read, rule-at}
+use Rattle.encoding.proofs.Schema.{schema-read}
+use Rattle.encoding.proofs.WellFormed.{well-formed}
+use Rattle.plan.specs.Layout.{stepCount, planCount}
+use Rattle.translation.specs.Compile.{stepsOf, planOf}
+use Rattle.translation.proofs.Plans.{plan-few, plan-count}
+use Rattle.lists.specs.Rows.{row}
+use Rattle.tablerun.specs.Lists.{listAt}
+use Rattle.validation.specs.Claim.{noRule, ruleOf, breaks, Right}
+
+module _ (b : Book) (ok : admissible b ≡ true) where
+  -- the list of rule r
+  pub list-read : (r : ℕ) → r < length (rules b) → listAt (encodeCells b) (encodeValues b) r ≡ listOf b (ruleOf b r)
+  unfolding listAt listOf
+  list-read r low =
+      ap₂ (λ (g : Graph) (H : List Shape). violations g H (ruleAt (encodeCells b) r)) (graph-read b ok) (schema-read b ok)
+      ∙ ap (violations (graphOf b) (schema b)) (rule-at b ok r noRule low)
+
+  pub few-nodes : graphOf b .nodes ≤ 1024
+  unfolding graphAt
+  few-nodes = subst (λ n. n ≤ 1024) (ap (λ (g : Graph). g .nodes) (graph-read b ok)) (sound (encodeCells b) (well-formed b ok) .nodes)
+
+  pub few-rules : length (rules b) ≤ 32
+  few-rules = subst (λ n. n ≤ 32) (rules-counted b) (sound (encodeCells b) (well-formed b ok) .rules)
+
+  pub steps-few : length (stepsOf (encodeCells b)) ≤ 4 * formsIn b + 2 * length (rules b)
+  steps-few = omega (arith, plan-few (encodeCells b), forms-counted b, rules-counted b)
+
+-- ---- the members of a list, in words of the claim
+module _ (b : Book) (q : Rule) where
+  pub listed-exactly : (v : ℕ) → member v (listOf b q) ≡ breaks b q v
+  unfolding listOf violations violates conformsIn
+  listed-exactly v = member-members (violates (graphOf b) (schema b) q) (graphOf b .nodes) v
+
+  pub listed-ordered : ascending (listOf b q) ≡ true
+  unfolding listOf violations
+  listed-ordered = members-ascending (violates (graphOf b) (schema b) q) (graphOf b .nodes)
+
+  pub listed-few : length (listOf b q) ≤ graphOf b .nodes
+  unfolding listOf violations
+  listed-few = subst (λ k. k ≤ graphOf b .nodes) (size-members (violates (graphOf b) (schema b) q) (graphOf b .nodes)) (size-le (violates (graphOf b) (schema b) q) (graphOf b .nodes))
+
+-- ---- the claim for a book whose lists stand in their rows
+pub right : (b : Book) (plan lists lengths : List ℕ) (n : ℕ) → ((r : ℕ) → r < length (rules b) → row lists lengths r ≡ listOf b (ruleOf b r)) → stepCount plan ≡ n → n ≤ 4 * formsIn b + 2 * length (rules b) → Right b plan lists lengths n
+right b plan lists lengths n rows e l =
+    record {
+      exactly = λ r low v. ap (member v) (rows r low) ∙ listed-exactly b (ruleOf b r) v;
+      ordered = λ r low. ap ascending (rows r low) ∙ listed-ordered b (ruleOf b r);
+      counted = e;
+      few = l;
+    }

@@ -1,0 +1,191 @@
+-- The three ways through the whole run: too short, refused, accepted. Each meets the claim.
+use Prim.Native.Nat.{ℕ, _+_, _*_, _<_, _≤_}
+use mathlib.Core.Path.{_≡_, refl, sym, ap, ap₂, subst, _∙_}
+use mathlib.Core.List.{List, _++_}
+use mathlib.Core.Bool.{Bool, true, false, cond, _&&_}
+use native.Mathlib.Omega.{arith}
+use lib.Dec.{leb}
+use lib.IntN.{ℤ}
+use lib.ListN.{length, take, drop}
+use lib.Seq.{take-at}
+use borrow.Author.Tests.{leb-true}
+use Rattle.base.proofs.Bools.{and-left, and-right}
+use Rattle.model.specs.declared.Refusal.{Refusal}
+use Rattle.model.specs.Refusals.{codeOf, lineOf}
+use Rattle.model.proofs.Refusals.{code-range}
+use Rattle.model.specs.Books.{Book, rules, listOf, graphOf}
+use Rattle.model.specs.Sizes.{formsIn}
+use Rattle.tables.specs.Layout.{cellCount, valueCount, ruleCount}
+use Rattle.tables.specs.Sizes.{longEnough}
+use Rattle.tables.specs.WellFormed.{wellFormed}
+use Rattle.encoding.specs.Encode.{encodeCells, encodeValues}
+use Rattle.encoding.proofs.Counts.{cells-length, values-length, rules-counted}
+use Rattle.encoding.proofs.WellFormed.{well-formed}
+use Rattle.grammar.specs.Writing.{render}
+use Rattle.grammar.specs.Valid.{valid}
+use Rattle.grammar.specs.Reading.{Outcome, accepted, turnedDown, reading}
+use Rattle.grammar.proofs.Books.{reading-iff, one-book, refused-only, valid-admissible}
+use Rattle.grammar.proofs.GroundsBooks.{other-refusals}
+use Rattle.plan.specs.Layout.{planCount, stepCount}
+use Rattle.translation.specs.Compile.{stepsOf, planOf}
+use Rattle.translation.proofs.Plans.{plan-count}
+use Rattle.reader.specs.declared.ReadAnswer.{ReadAnswer}
+use Rattle.reader.specs.declared.ReadAnswer.the-variants as answers
+use Rattle.reader.specs.Answers as reads
+use Rattle.runner.specs.Run.{workCount, filled}
+use Rattle.lists.specs.Rows.{listCount, lengthCount, row, withRows, withLengths}
+use Rattle.lists.proofs.ReadOff.{row-read}
+use Rattle.tablerun.specs.Lists.{listAt}
+use Rattle.tablerun.proofs.Lists.{rows-same, lengths-same}
+use Rattle.validation.specs.Claim.{ruleOf, Right, Said, steps, refusal, Answers, Demand3}
+use Rattle.itemreader.specs.declared.Counts.{Counts}
+use Rattle.validation.specs.Whole.{Lent, lent, long, answered, left, said, after}
+use Rattle.validation.proofs.Books.{list-read, steps-few, few-nodes, few-rules, listed-few, right}
+
+-- the slices are as long as the limits
+pub record Room (l : Lent) : Type 0 where
+  pub tables : longEnough (l .names) (l .cells) (l .values) ≡ true
+  pub plan : planCount ≤ length (l .plan)
+  pub work : workCount ≤ length (l .work)
+  pub lists : listCount ≤ length (l .lists)
+  pub lengths : lengthCount ≤ length (l .lengths)
+
+pub room : (l : Lent) → long l ≡ true → Room l
+unfolding long
+room l e =
+    let t : Bool = longEnough (l .names) (l .cells) (l .values) in
+    let p : Bool = leb planCount (length (l .plan)) in
+    let w : Bool = leb workCount (length (l .work)) in
+    let s : Bool = leb listCount (length (l .lists)) in
+    let k : Bool = leb lengthCount (length (l .lengths)) in
+    let e₁ = and-right t (p && (w && (s && k))) e in
+    let e₂ = and-right p (w && (s && k)) e₁ in
+    let e₃ = and-right w (s && k) e₂ in
+    record {
+      tables = and-left t (p && (w && (s && k))) e;
+      plan = leb-true planCount (length (l .plan)) (and-left p (w && (s && k)) e₁);
+      work = leb-true workCount (length (l .work)) (and-left w (s && k) e₂);
+      lists = leb-true listCount (length (l .lists)) (and-left s k e₃);
+      lengths = leb-true lengthCount (length (l .lengths)) (and-right s k e₃);
+    }
+
+-- what a way through the run must give: the claim, the answer, and what is left in the slices
+module _ (s : List ℕ) (l : Lent) where
+  abbrev pub Meets : Said → Lent → Type 0
+  Meets a m = Demand3 s a (m .plan) (m .lists) (m .lengths) × ((a ≡ said s l) × (m ≡ after s l))
+
+  -- ---- 8: nothing has changed
+  pub too-short : long l ≡ false → Meets (refusal 8 0) l
+  unfolding said after
+  too-short e = ((λ b v r. refl), (rw e, rw e))
+
+  module _ (e : long l ≡ true) where
+    -- ---- a refused book
+    pub turned-down : (k line : ℕ) → reading s ≡ turnedDown k line → Meets (refusal k line) (left (turnedDown k line) l)
+    unfolding said after
+    turned-down k line q = ((λ b v r. absurd (refused-only s k line q b v r)), (rw (e, q) refl, rw (e, q) refl))
+
+    -- ---- an accepted one
+    module _ (b : Book) (q : reading s ≡ accepted b) where
+      pub is-valid : valid b ≡ true
+      is-valid = reading-iff s b .0 q .0
+
+      fits : Room l
+      fits = room l e
+
+      abbrev list : ℕ → List ℕ
+      list r = listOf b (ruleOf b r)
+
+      short : (r : ℕ) → length (list r) ≤ 1024
+      short r = omega (arith, listed-few b (ruleOf b r), few-nodes b (valid-admissible b is-valid))
+
+      in-rows : (r : ℕ) → r < length (rules b) → row (left (accepted b) l .lists) (left (accepted b) l .lengths) r ≡ listOf b (ruleOf b r)
+      in-rows r low =
+          row-read list short (length (rules b)) (l .lists) (l .lengths)
+          (omega (arith, fits .lists, few-rules b (valid-admissible b is-valid))) (omega (arith, fits .lengths, few-rules b (valid-admissible b is-valid))) r low
+
+      abbrev RightFor : Book → Type 0
+      RightFor x = Right x (left (accepted b) l .plan) (left (accepted b) l .lists) (left (accepted b) l .lengths) (length (stepsOf (encodeCells b)))
+
+      right-for : RightFor b
+      right-for = right b (left (accepted b) l .plan) (left (accepted b) l .lists) (left (accepted b) l .lengths) (length (stepsOf (encodeCells b))) in-rows (plan-count (encodeCells b) (drop planCount (l .plan))) (steps-few b (valid-admissible b is-valid))
+
+      pub taken : Meets (steps (length (stepsOf (encodeCells b)))) (left (accepted b) l)
+      unfolding said after
+      taken = ((λ a v r. subst RightFor (one-book b a is-valid v (reading-iff s b .0 q .1 ∙ sym r)) right-for), (rw (e, q) refl, rw (e, q) refl))
+
+-- ---- what read's answer tells, for tables that are long enough
+module _ (s ns cs : List ℕ) (vs : List ℤ) (e : longEnough ns cs vs ≡ true) where
+  by-reading : reads.readAnswer s ns cs vs ≡ reads.answered (reading s)
+  unfolding reads.readAnswer
+  by-reading = rw e refl
+
+  pub was-refused : (x : ReadAnswer) (r : Refusal) → reads.answerOf x ≡ reads.readAnswer s ns cs vs → x ≡ answers.Refused r → reading s ≡ turnedDown (codeOf r) (lineOf r)
+  was-refused x r p q = go (reading s) refl (ap reads.answerOf (sym q) ∙ p ∙ by-reading)
+    where
+      go : (o : Outcome) → reading s ≡ o → reads.answerOf (answers.Refused r) ≡ reads.answered (reading s) → reading s ≡ turnedDown (codeOf r) (lineOf r)
+      go (accepted b) a d = absurd (let z : codeOf r ≡ 0 = ap (λ (y : reads.Answer). y .refusal) (d ∙ ap reads.answered a) in let f : ⊥ = omega (arith, code-range r .0) in f)
+      go (turnedDown k line) a d =
+          let y = d ∙ ap reads.answered a in
+          a ∙ ap₂ turnedDown (ap (λ (x : reads.Answer). x .refusal) (sym y)) (ap (λ (x : reads.Answer). x .line) (sym y))
+
+  pub was-accepted : (x : ReadAnswer) (n : Counts) → reads.answerOf x ≡ reads.readAnswer s ns cs vs → x ≡ answers.Accepted n → (b : Book) × (reading s ≡ accepted b)
+  was-accepted x n p q = go (reading s) refl (ap reads.answerOf (sym q) ∙ p ∙ by-reading)
+    where
+      go : (o : Outcome) → reading s ≡ o → reads.answerOf (answers.Accepted n) ≡ reads.answered (reading s) → (b : Book) × (reading s ≡ accepted b)
+      go (accepted b) a d = (b, a)
+      go (turnedDown k line) a d =
+          let z : 0 ≡ k = ap (λ (y : reads.Answer). y .refusal) (d ∙ ap reads.answered a) in
+          absurd (let f : ⊥ = omega (arith, z, other-refusals s k line a (λ i. omega (arith, z, i)) .0) in f)
+
+  module _ (o : Outcome) (a : reading s ≡ o) where
+    pub names-left : reads.namesOf s ns cs vs ≡ reads.namesLeft o ns
+    unfolding reads.namesOf
+    names-left = rw (e, a) refl
+
+    pub cells-left : reads.cellsOf s ns cs vs ≡ reads.cellsLeft o cs
+    unfolding reads.cellsOf
+    cells-left = rw (e, a) refl
+
+    pub values-left : reads.valuesOf s ns cs vs ≡ reads.valuesLeft o vs
+    unfolding reads.valuesOf
+    values-left = rw (e, a) refl
+
+-- ---- slices that are the same
+pub lent-same : {ns ns′ cs cs′ : List ℕ} {vs vs′ : List ℤ} {ps ps′ ws ws′ ls ls′ ks ks′ : List ℕ} → ns ≡ ns′ → cs ≡ cs′ → vs ≡ vs′ → ps ≡ ps′ → ws ≡ ws′ → ls ≡ ls′ → ks ≡ ks′ → lent ns cs vs ps ws ls ks ≡ lent ns′ cs′ vs′ ps′ ws′ ls′ ks′
+lent-same a b c d e f g = λ j. record { names = a j; cells = b j; values = c j; plan = d j; work = e j; lists = f j; lengths = g j }
+
+-- ---- the tables that an accepted book leaves
+module _ (b : Book) (v : valid b ≡ true) (cells cs : List ℕ) (values vs : List ℤ) (e : cells ≡ encodeCells b ++ cs) (f : values ≡ encodeValues b ++ vs) where
+  pub cells-of : take cellCount cells ≡ encodeCells b
+  cells-of = ap (take cellCount) e ∙ take-at (encodeCells b) cs cellCount (cells-length b)
+
+  pub values-of : take valueCount values ≡ encodeValues b
+  values-of = ap (take valueCount) f ∙ take-at (encodeValues b) vs valueCount (values-length b)
+
+  pub well-formed-of : wellFormed (take cellCount cells) ≡ true
+  well-formed-of = ap wellFormed cells-of ∙ well-formed b (valid-admissible b v)
+
+  same-lists : (r : ℕ) → r < ruleCount (encodeCells b) → listAt (encodeCells b) (encodeValues b) r ≡ listOf b (ruleOf b r)
+  same-lists r low = list-read b (valid-admissible b v) r (subst (λ n. r < n) (rules-counted b) low)
+
+  pub rows-of : (ls : List ℕ) → withRows (listAt (take cellCount cells) (take valueCount values)) (ruleCount (take cellCount cells)) ls ≡ withRows (λ r. listOf b (ruleOf b r)) (length (rules b)) ls
+  rows-of ls =
+      ap₂ (λ c w. withRows (listAt c w) (ruleCount c) ls) cells-of values-of
+      ∙ rows-same (listAt (encodeCells b) (encodeValues b)) (λ r. listOf b (ruleOf b r)) (ruleCount (encodeCells b)) ls same-lists
+      ∙ ap (λ n. withRows (λ r. listOf b (ruleOf b r)) n ls) (rules-counted b)
+
+  pub lengths-of : (ks : List ℕ) → withLengths (listAt (take cellCount cells) (take valueCount values)) (ruleCount (take cellCount cells)) ks ≡ withLengths (λ r. listOf b (ruleOf b r)) (length (rules b)) ks
+  lengths-of ks =
+      ap₂ (λ c w. withLengths (listAt c w) (ruleCount c) ks) cells-of values-of
+      ∙ lengths-same (listAt (encodeCells b) (encodeValues b)) (λ r. listOf b (ruleOf b r)) (ruleCount (encodeCells b)) ks same-lists
+      ∙ ap (λ n. withLengths (λ r. listOf b (ruleOf b r)) n ks) (rules-counted b)
+
+-- ---- lengths that were kept
+pub long-kept : (ns ns′ cs cs′ : List ℕ) (vs vs′ : List ℤ) → longEnough ns cs vs ≡ true → length ns′ ≡ length ns → length cs′ ≡ length cs → length vs′ ≡ length vs → longEnough ns′ cs′ vs′ ≡ true
+unfolding longEnough
+long-kept ns ns′ cs cs′ vs vs′ e p q r = rw (p, q, r) e
+
+pub long-by : (l : Lent) {tables : Bool} → tables ≡ longEnough (l .names) (l .cells) (l .values) → (tables && (leb planCount (length (l .plan)) && (leb workCount (length (l .work)) && (leb listCount (length (l .lists)) && leb lengthCount (length (l .lengths)))))) ≡ long l
+unfolding long
+long-by l e = ap (λ (t : Bool). t && (leb planCount (length (l .plan)) && (leb workCount (length (l .work)) && (leb listCount (length (l .lists)) && leb lengthCount (length (l .lengths)))))) e
