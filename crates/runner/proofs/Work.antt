@@ -103,6 +103,10 @@ module _ (cs : List ℕ) (vs : List ℤ) (ps : List ℕ) where
   unfolding filled
   filled-words ws k l = part-words (stepCount ps) k (drop (16 * stepCount ps) ws) l
 
+  pub length-filled : (ws : List ℕ) → 16 * stepCount ps ≤ length ws → length (filled cs vs ps ws) ≡ length ws
+  unfolding filled
+  length-filled ws room = omega (arith, room, length-append (stepWords cs vs ps (stepCount ps)) (drop (16 * stepCount ps) ws), length-steps (stepCount ps), length-drop (16 * stepCount ps) ws)
+
   pub filled-has : nodeCount cs ≤ 1024 → (ws : List ℕ) (k : ℕ) → k < stepCount ps → (v : ℕ) → v < nodeCount cs → has (drop (16 * k) (filled cs vs ps ws)) v ≡ setAt cs vs ps k v
   unfolding filled
   filled-has few ws k l v lv = part-has few (stepCount ps) k (drop (16 * stepCount ps) ws) l v lv

@@ -1,7 +1,8 @@
 -- Tables that are long enough and well formed get no refusal: not from compile, and not from run on the plan that compile left.
 use Prim.Native.Nat.{ℕ, _≤_}
 use mathlib.Core.List.{List, _++_}
-use mathlib.Core.Bool.{Bool, true, false, _&&_}
+use mathlib.Core.Option.{Option}
+use mathlib.Core.Bool.{Bool, true, false, _&&_, true≢false}
 use mathlib.Core.Path.{_≡_, refl, sym, ap, ap₂, _∙_}
 use native.Mathlib.Omega.{arith}
 use lib.Dec.{leb}
@@ -11,6 +12,7 @@ use lib.Seq.{take-at}
 use borrow.Author.Tests.{le-leb}
 use Rattle.base.proofs.Bools.{and-both, never-both}
 use Rattle.model.specs.declared.Refusal.{Refusal}
+use Rattle.model.specs.Graph.{holds}
 use Rattle.tables.specs.Layout.{cellCount, valueCount, ruleCount}
 use Rattle.tables.specs.Sizes.{longEnough}
 use Rattle.tables.specs.WellFormed.{wellFormed}
@@ -29,6 +31,11 @@ use Rattle.runner.proofs.Answers as run-told
 use Rattle.lists.specs.Rows.{listIn, withRows, withLengths}
 use Rattle.tablerun.specs.Lists.{listAt}
 use Rattle.tablerun.proofs.Lists.{bare-well-formed, rule-nodes, rows-same, lengths-same}
+
+-- done is no refusal
+pub not-refused : (x : Ran) (r : Refusal) → runs.saidOf x ≡ Option.none → x ≡ ran.Refused r → ⊥
+unfolding holds
+not-refused x r e f = true≢false (ap (holds (λ k. true)) (ap runs.saidOf (sym f) ∙ e))
 
 module _ (ns cells : List ℕ) (values : List ℤ) (ps : List ℕ) (long : longEnough ns cells values ≡ true) (ok : wellFormed (take cellCount cells) ≡ true) (room : planCount ≤ length ps) where
   abbrev cs : List ℕ
@@ -67,8 +74,9 @@ module _ (ns cells : List ℕ) (values : List ℤ) (ps : List ℕ) (long : longE
     unfolding runs.lentRight
     run-right = and-both (wellFormed cs) (planWellFormed cs (take planCount qs)) ok plan-right
 
-    pub never-stopped : (x : Ran) (r : Refusal) → runs.saidOf x ≡ runs.runSaid ns cells values qs ws → x ≡ ran.Refused r → ⊥
-    never-stopped x r e f = never-both run-lent (run-told.told-refused ns cells values qs ws r (ap runs.saidOf (sym f) ∙ e) run-right .0)
+    pub run-done : runs.runSaid ns cells values qs ws ≡ Option.none
+    unfolding runs.runSaid
+    run-done = rw (run-lent, run-right) refl
 
     pub work-left : runs.workAfter ns cells values qs ws ≡ runs.filled cs (take valueCount values) (planOf cs) ws
     work-left = run-told.after-done ns cells values qs ws run-lent run-right ∙ ap (λ p. runs.filled cs (take valueCount values) p ws) plan-cells

@@ -1,2 +1,5 @@
 pub mod Books
 pub mod Whole
+pub mod Tables
+pub mod Verdicts
+pub mod ByHand
