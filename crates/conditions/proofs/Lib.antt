@@ -2,3 +2,4 @@ pub mod Terms
 pub mod Items
 pub mod Members
 pub mod Pairs
+pub mod Covers

@@ -1,6 +1,6 @@
 -- Pairs of members, in the order of the search.
 use Prim.Native.Nat.{ℕ, _≤_, _<_}
-use mathlib.Core.Bool.{Bool, true, false, not, _&&_}
+use mathlib.Core.Bool.{Bool, true, false, not, _&&_, and-true}
 use mathlib.Core.List.{List}
 use mathlib.Core.Option.{Option}
 use mathlib.Core.Logic.{_↔_}
@@ -12,14 +12,14 @@ use borrow.Author.Tests.{eq-eqb, ne-eqb, eqb-true, eqb-false, lt-ltb, ltb-true, 
 use Rattle.base.specs.Bounded.{_⇒_, every}
 use Rattle.base.proofs.Bools.{bool-cases, same-test, never-both, implies-true, true-implies, and-left, and-both}
 use Rattle.base.proofs.Bounded.{every-at, every-all}
-use Rattle.nodeset.specs.Words.{has, wordsOf}
-use Rattle.nodeset.proofs.Sets.{has-of}
+use Rattle.nodeset.specs.Words.{has, wordsOf, intersection}
+use Rattle.nodeset.proofs.Sets.{has-of, length-of, wordsOf-ext}
 use Rattle.model.specs.Graph.{Term, languageOf, holds, holds₂}
 use Rattle.model.specs.Shapes.{allPairs, less, lessEq, sameLang}
 use Rattle.model.proofs.Logic.{pairs-iff}
 use Rattle.tables.specs.Layout.{nodeCount, kindAt, langAt}
 use Rattle.tables.specs.Decode.{termAt}
-use Rattle.conditions.specs.Pairs.{pairOk, partnersBelow, eachPair}
+use Rattle.conditions.specs.Pairs.{pairOk, partnersBelow, eachPair, unlikeLangs}
 use Rattle.conditions.specs.declared.Pair.{Pair}
 use Rattle.conditions.specs.declared.Pair.the-variants.{Less, LessEq, OtherLang}
 use Rattle.conditions.proofs.Terms.{lang-test}
@@ -91,14 +91,49 @@ module _ (cs : List ℕ) (vs : List ℤ) (a b : List ℕ) where
   unfolding partnersBelow pairOk
   each-lesseq = each-all (nodeCount cs) (has a) (has b) (λ x y. lessEq (termAt cs vs x) (termAt cs vs y))
 
--- ws: the members of a that have a language
-pub each-lang : (cs : List ℕ) (vs : List ℤ) (a ws : List ℕ) → nodeCount cs ≤ 1024 → ws ≡ wordsOf (λ m. ltb m (nodeCount cs) && (has a m && eqb (kindAt cs m) 4)) 16
-    → eachPair (nodeCount cs) (λ y. partnersBelow OtherLang y (nodeCount cs)) (has ws) (has ws) (λ x y. pairOk OtherLang (termAt cs vs x) (termAt cs vs y)) ≡ allPairs (nodeCount cs) (has a) (has a) (λ x y. not (eqb x y) ⇒ not (sameLang (termAt cs vs x) (termAt cs vs y)))
-unfolding partnersBelow pairOk sameLang
-each-lang cs vs a ws room e = each-unlike (nodeCount cs) (has a) (has ws) (λ x. eqb (kindAt cs x) 4) (λ x y. sameLang (termAt cs vs x) (termAt cs vs y))
-    (λ x l. has-of (λ m. ltb m (nodeCount cs) && (has a m && eqb (kindAt cs m) 4)) 16 e x (omega arith) ∙ ap (λ (b : Bool). b && (has a x && eqb (kindAt cs x) 4)) (lt-ltb x (nodeCount cs) l))
-    (λ x y l k t. and-left (eqb (kindAt cs x) 4) (eqb (kindAt cs y) 4 && eqb (langAt cs x) (langAt cs y)) (lang-test cs vs x y l k ∙ t))
-    (λ x y. turn (termAt cs vs x) (termAt cs vs y))
+-- languages: only nodes that have one clash, and the order of two is of no account
+module _ (cs : List ℕ) (vs : List ℤ) where
+  abbrev clashes : ℕ → ℕ → Bool
+  clashes x y = sameLang (termAt cs vs x) (termAt cs vs y)
+
+  clash-only : (x y : ℕ) → x < nodeCount cs → y < nodeCount cs → clashes x y ≡ true → eqb (kindAt cs x) 4 ≡ true
+  clash-only x y l k t = and-left (eqb (kindAt cs x) 4) (eqb (kindAt cs y) 4 && eqb (langAt cs x) (langAt cs y)) (lang-test cs vs x y l k ∙ t)
+
+  clash-turn : (x y : ℕ) → clashes x y ≡ clashes y x
+  unfolding sameLang
+  clash-turn x y = lang-turn (languageOf (termAt cs vs x)) (languageOf (termAt cs vs y))
+
+  -- w: those of a that have a language; those of a
+  with-lang : (a w : ℕ → Bool) → ((x : ℕ) → x < nodeCount cs → w x ≡ (a x && eqb (kindAt cs x) 4)) → eachPair (nodeCount cs) (λ y. y) w w (λ x y. not (clashes x y)) ≡ unlikeLangs cs vs a
+  with-lang a w split = each-unlike (nodeCount cs) a w (λ x. eqb (kindAt cs x) 4) clashes split clash-only clash-turn
+
+  all-of : (a w : ℕ → Bool) → ((x : ℕ) → x < nodeCount cs → w x ≡ a x) → eachPair (nodeCount cs) (λ y. y) w w (λ x y. not (clashes x y)) ≡ unlikeLangs cs vs a
+  all-of a w same = each-unlike (nodeCount cs) a w (λ x. true) clashes (λ x l. same x l ∙ sym (and-true (a x))) (λ x y l k t. refl) clash-turn
+
+  -- the pairs that the search looks at
+  abbrev searched : List ℕ → Bool
+  searched ws = eachPair (nodeCount cs) (λ y. partnersBelow OtherLang y (nodeCount cs)) (has ws) (has ws) (λ x y. pairOk OtherLang (termAt cs vs x) (termAt cs vs y))
+
+  module _ (a ws : List ℕ) (room : nodeCount cs ≤ 1024) where
+    pub each-lang : ws ≡ wordsOf (λ m. ltb m (nodeCount cs) && (has a m && eqb (kindAt cs m) 4)) 16 → searched ws ≡ unlikeLangs cs vs (has a)
+    unfolding partnersBelow pairOk
+    each-lang e = with-lang (has a) (has ws) (λ x l. has-of (λ m. ltb m (nodeCount cs) && (has a m && eqb (kindAt cs m) 4)) 16 e x (omega arith) ∙ ap (λ (b : Bool). b && (has a x && eqb (kindAt cs x) 4)) (lt-ltb x (nodeCount cs) l))
+
+    pub each-both : (b la : List ℕ) → la ≡ wordsOf (has a) 16 → ws ≡ intersection la b → searched ws ≡ unlikeLangs cs vs (λ x. has a x && has b x)
+    unfolding partnersBelow pairOk intersection
+    each-both b la e f = all-of (λ x. has a x && has b x) (has ws) (λ x l.
+        has-of (λ m. has la m && has b m) 16 (f ∙ ap (wordsOf (λ m. has la m && has b m)) (length-of (has a) 16 e)) x (omega arith)
+        ∙ ap (λ (t : Bool). t && has b x) (has-of (has a) 16 e x (omega arith)))
+
+  -- among the nodes that have a language, or among all: the same
+  pub unlike-among : (a b : ℕ → Bool) → ((x : ℕ) → x < nodeCount cs → b x ≡ eqb (kindAt cs x) 4) → unlikeLangs cs vs (λ x. a x && b x) ≡ unlikeLangs cs vs a
+  unlike-among a b h = sym (all-of (λ x. a x && b x) (λ x. a x && b x) (λ x l. refl)) ∙ with-lang a (λ x. a x && b x) (λ x l. ap (λ (t : Bool). a x && t) (h x l))
+
+-- of all nodes, those that have a language
+pub all-langs : (cs ws : List ℕ) (n : ℕ) → n ≡ nodeCount cs → ws ≡ wordsOf (λ m. ltb m n) 16 → wordsOf (λ m. ltb m (nodeCount cs) && (has ws m && eqb (kindAt cs m) 4)) 16 ≡ wordsOf (λ m. ltb m (nodeCount cs) && eqb (kindAt cs m) 4) 16
+all-langs cs ws n e f = wordsOf-ext (λ m. ltb m (nodeCount cs) && (has ws m && eqb (kindAt cs m) 4)) (λ m. ltb m (nodeCount cs) && eqb (kindAt cs m) 4) 16 (λ m l.
+    ap (λ (b : Bool). ltb m (nodeCount cs) && (b && eqb (kindAt cs m) 4)) (has-of (λ m. ltb m n) 16 f m l ∙ ap (ltb m) e) ∙ twice (ltb m (nodeCount cs)) (eqb (kindAt cs m) 4))
   where
-    turn : (s t : Term) → sameLang s t ≡ sameLang t s
-    turn s t = lang-turn (languageOf s) (languageOf t)
+    twice : (a b : Bool) → (a && (a && b)) ≡ (a && b)
+    twice true b = refl
+    twice false b = refl

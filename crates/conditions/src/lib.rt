@@ -5,6 +5,7 @@
 //   closed_holds                every fact out of a node has a listed link
 //   less_holds, lesseq_holds    each member of one set has a number less than, or at most, that of each member of another
 //   onelang_holds               no two members of a set have the same language
+//   onelang_among, languages    .. no two that are in another set; the set of the nodes that have a language
 //   subset_holds, equal_holds, apart_holds
 //                               one set in another; two sets with the same members, with none in common
 //   insert_if                   a number joins a set, or not
@@ -29,7 +30,7 @@ use tables::reads::predicate;
 use tables::reads::subject;
 use tables::reads::wide;
 ghost use mathlib.Core.Path.{_≡_};
-ghost use mathlib.Core.Bool.{not, _&&_, _||_};
+ghost use mathlib.Core.Bool.{not, cond, _&&_, _||_};
 ghost use mathlib.Core.List.{List};
 ghost use Prim.Native.Nat.{ℕ, _+_, _<_, _≤_};
 ghost use lib.Dec.{eqb, ltb};
@@ -41,7 +42,7 @@ ghost use Rattle.nodeset.specs.Words.{has, wordsOf};
 ghost use Rattle.model.specs.Shapes.{nodeKind, datatype, satisfies, conforms, subset, noneShared, allPairs, less, lessEq, sameLang};
 ghost use Rattle.tables.specs.Layout.{nodeCount, kindAt, subjectAt, predicateAt, formCodeAt, formFirstAt, formSecondAt};
 ghost use Rattle.tables.specs.Decode.{termAt, triplesAt, graphAt, kindOf, itemsAt, shapeAt};
-ghost use Rattle.conditions.specs.Pairs.{onlyListed, pairOk, partnersBelow, eachPair};
+ghost use Rattle.conditions.specs.Pairs.{onlyListed, pairOk, partnersBelow, eachPair, unlikeLangs, covers, Lowest};
 
 // x is one of n items from number i on.
 pub fn listed(cells: &[u16], i: u16, n: u16, x: u16) -> bool
@@ -191,18 +192,52 @@ fn pairs_hold(pair: Pair, cells: &[u16], values: &[i64], a: &[u64], b: &[u64]) -
     ok
 }
 
+// Of two nodes one such that whatever is less than it is less than the other: one without a number, else one with the least.
+fn lower(cells: &[u16], values: &[i64], x: usize, y: usize) -> usize
+    requires { ⌜ (x < nodeCount (now cells)) × (y < nodeCount (now cells)) ⌝ }
+    ensures { λ r. ⌜ r ≡ cond (covers (termAt (now (cells .entry)) (now (values .entry)) x) (termAt (now (cells .entry)) (now (values .entry)) y)) x y ⌝ }
+{
+    if !has_number(cells, x) {
+        return x;
+    }
+    if pair_holds(Pair::LessEq, cells, values, x, y) {
+        return x;
+    }
+    y
+}
+
+// The lowest of all members of b: with it the others need not be looked at.
+fn lowest(cells: &[u16], values: &[i64], b: &[u64]) -> usize
+    ensures { λ r. ⌜ Lowest (now (cells .entry)) (now (values .entry)) (has (now (b .entry))) r ⌝ }
+{
+    let n = node_count(cells);
+    let mut r = next_member(b, 0, n);
+    let mut y = r;
+    while y < n {
+        r = lower(cells, values, r, y);
+        y = next_member(b, y + 1, n);
+    }
+    r
+}
+
 // Each member of a has a number, and each of b, and the first is less than the second.
 pub fn less_holds(cells: &[u16], values: &[i64], a: &[u64], b: &[u64]) -> bool
+    requires { ⌜ nodeCount (now cells) ≤ 1024 ⌝ }
     ensures { λ r. ⌜ r ≡ allPairs (nodeCount (now (cells .entry))) (has (now (a .entry))) (has (now (b .entry))) (λ x y. less (termAt (now (cells .entry)) (now (values .entry)) x) (termAt (now (cells .entry)) (now (values .entry)) y)) ⌝ }
 {
-    pairs_hold(Pair::Less, cells, values, a, b)
+    let s = NodeSet::EMPTY.with(lowest(cells, values, b));
+    let words = s.words;
+    pairs_hold(Pair::Less, cells, values, a, &words)
 }
 
 // The same with at most.
 pub fn lesseq_holds(cells: &[u16], values: &[i64], a: &[u64], b: &[u64]) -> bool
+    requires { ⌜ nodeCount (now cells) ≤ 1024 ⌝ }
     ensures { λ r. ⌜ r ≡ allPairs (nodeCount (now (cells .entry))) (has (now (a .entry))) (has (now (b .entry))) (λ x y. lessEq (termAt (now (cells .entry)) (now (values .entry)) x) (termAt (now (cells .entry)) (now (values .entry)) y)) ⌝ }
 {
-    pairs_hold(Pair::LessEq, cells, values, a, b)
+    let s = NodeSet::EMPTY.with(lowest(cells, values, b));
+    let words = s.words;
+    pairs_hold(Pair::LessEq, cells, values, a, &words)
 }
 
 // x joins the set, where yes.
@@ -231,10 +266,30 @@ fn with_language(cells: &[u16], a: &[u64]) -> NodeSet
 // No two members of a have the same language. With 32 languages, two of the first 33 that have one have the same.
 pub fn onelang_holds(cells: &[u16], values: &[i64], a: &[u64]) -> bool
     requires { ⌜ nodeCount (now cells) ≤ 1024 ⌝ }
-    ensures { λ r. ⌜ r ≡ allPairs (nodeCount (now (cells .entry))) (has (now (a .entry))) (has (now (a .entry))) (λ x y. not (eqb x y) ⇒ not (sameLang (termAt (now (cells .entry)) (now (values .entry)) x) (termAt (now (cells .entry)) (now (values .entry)) y))) ⌝ }
+    ensures { λ r. ⌜ r ≡ unlikeLangs (now (cells .entry)) (now (values .entry)) (has (now (a .entry))) ⌝ }
 {
     let s = with_language(cells, a);
     let words = s.words;
+    pairs_hold(Pair::OtherLang, cells, values, &words, &words)
+}
+
+// The nodes that have a language.
+pub fn languages(cells: &[u16]) -> NodeSet
+    ensures { λ r. ⌜ r .words ≡ wordsOf (λ m. ltb m (nodeCount (now (cells .entry))) && eqb (kindAt (now (cells .entry)) m) 4) 16 ⌝ }
+{
+    let all = NodeSet::whole(node_count(cells));
+    let words = all.words;
+    with_language(cells, &words)
+}
+
+// No two members of a that are in b have the same language. Where b has all nodes with a language, no two members of a.
+pub fn onelang_among(cells: &[u16], values: &[i64], a: &[u64], b: &[u64]) -> bool
+    requires { ⌜ nodeCount (now cells) ≤ 1024 ⌝ }
+    ensures { λ r. ⌜ r ≡ unlikeLangs (now (cells .entry)) (now (values .entry)) (λ w. has (now (a .entry)) w && has (now (b .entry)) w) ⌝ }
+{
+    let s = load(a);
+    let mut words = s.words;
+    intersect_into(&mut words, b);
     pairs_hold(Pair::OtherLang, cells, values, &words, &words)
 }
 

@@ -31,10 +31,11 @@ use Rattle.plan.specs.Sets.{inStep}
 use Rattle.plan.specs.WellFormed.{testOk, closedOk, stepOk}
 use Rattle.plan.proofs.Complements.{not-equal, not-apart, not-pairs, not-less, not-lessEq, not-clash}
 use Rattle.plancheck.proofs.Codes.{step-by, step-unknown}
+use Rattle.conditions.specs.Pairs.{unlikeLangs}
 use Rattle.stepsets.specs.Asks.{nodesOf, orNot, asked}
 use Rattle.stepsets.specs.Picks.{picked}
 use Rattle.stepsets.specs.declared.Ask.{Ask}
-use Rattle.stepsets.specs.declared.Ask.the-variants.{Is, Test, Count, Every, Equal, Apart, Less, LessEq, OneLang}
+use Rattle.stepsets.specs.declared.Ask.the-variants.{Is, Test, Count, Every, Equal, Apart, Less, LessEq}
 use Rattle.stepsets.specs.declared.Pick.the-variants.{From, Into, Typed, Open}
 use Rattle.stepsets.proofs.Nodes.{nodes-ext, nodes-all, nodes-never}
 use Rattle.stepsets.proofs.Rows.{ends-low}
@@ -240,14 +241,13 @@ module _ (h : Read) where
     unfolding stepOf inStep
     open-arm = nodes-ext _ _ n (λ v l. picked-open cs vs v a ∙ opened-by cs vs a w v)
 
-  module _ (s : ℕ → Bool) where
-    pub onelang-arm : nodesOf (λ v. orNot false (asked cs vs OneLang (from (graphAt cs vs) (pathAt cs a) v) s v)) n ≡ by 20
-    unfolding stepOf inStep asked graphAt
-    onelang-arm = refl
+  pub onelang-arm : nodesOf (λ v. orNot false (unlikeLangs cs vs (from (graphAt cs vs) (pathAt cs a) v))) n ≡ by 20
+  unfolding stepOf inStep graphAt
+  onelang-arm = refl
 
-    pub manylang-arm : nodesOf (λ v. orNot true (asked cs vs OneLang (from (graphAt cs vs) (pathAt cs a) v) s v)) n ≡ by 21
-    unfolding stepOf inStep asked graphAt
-    manylang-arm = nodes-ext _ _ n (λ v l. not-pairs n (from (graphAt cs vs) (pathAt cs a) v) (from (graphAt cs vs) (pathAt cs a) v) _ _ (not-clash (termAt cs vs)))
+  pub manylang-arm : nodesOf (λ v. orNot true (unlikeLangs cs vs (from (graphAt cs vs) (pathAt cs a) v))) n ≡ by 21
+  unfolding stepOf inStep graphAt
+  manylang-arm = nodes-ext _ _ n (λ v l. not-pairs n (from (graphAt cs vs) (pathAt cs a) v) (from (graphAt cs vs) (pathAt cs a) v) _ _ (not-clash (termAt cs vs)))
 
   module _ (p : LinkNo) (e : p .0 ≡ a) where
     pub from-arm : nodesOf (picked cs (From p)) n ≡ by 22

@@ -24,6 +24,7 @@ use stepsets::closed_set;
 use stepsets::either_set;
 use stepsets::ends_set;
 use stepsets::facts_set;
+use stepsets::lang_set;
 use stepsets::path_set;
 use stepsets::plain_set;
 use tablecheck::well_formed;
@@ -85,8 +86,8 @@ fn step_set(cells: &[u16], values: &[i64], plan: &[u16], work: &[u64], k: usize)
         17 => ends_set(Ask::Less, true, cells, values, a, l),
         18 => ends_set(Ask::LessEq, false, cells, values, a, l),
         19 => ends_set(Ask::LessEq, true, cells, values, a, l),
-        20 => path_set(Ask::OneLang, false, cells, values, a, work, 0),
-        21 => path_set(Ask::OneLang, true, cells, values, a, work, 0),
+        20 => lang_set(false, cells, values, a),
+        21 => lang_set(true, cells, values, a),
         22 => facts_set(Pick::From(p), cells),
         23 => facts_set(Pick::Into(p), cells),
         24 => facts_set(Pick::Typed(c), cells),

@@ -6,13 +6,17 @@ use mathlib.Core.Path.{_≡_, refl, sym, ap, ap₂, _∙_}
 use native.Mathlib.Omega.{arith}
 use lib.Dec.{eqb, ltb, leb}
 use lib.IntN.{ℤ}
-use borrow.Author.Tests.{eqb-true, leb-true}
+use borrow.Author.Tests.{eqb-true, leb-true, lt-ltb}
 use Rattle.base.specs.Bounded.{_⇒_, every, size}
 use Rattle.base.proofs.Bools.{bool-cases, and-left, and-right}
 use Rattle.base.proofs.Bounded.{every-ext, size-ext}
 use Rattle.model.specs.Shapes.{Upper, atMost, unbounded, within, subset, noneShared, allPairs}
-use Rattle.tables.specs.Layout.{nodeCount, formCodeAt, noNumber}
+use Rattle.nodeset.specs.Words.{has, wordsOf}
+use Rattle.nodeset.proofs.Sets.{has-of}
+use Rattle.tables.specs.Layout.{nodeCount, kindAt, formCodeAt, noNumber}
 use Rattle.tables.specs.Decode.{upperOf}
+use Rattle.conditions.specs.Pairs.{unlikeLangs}
+use Rattle.conditions.proofs.Pairs.{unlike-among}
 use Rattle.stepsets.specs.Asks.{nodesOf, orNot, asked, askOk}
 use Rattle.stepsets.proofs.Nodes.{nodes-ext}
 use Rattle.stepsets.specs.declared.Ask.{Ask}
@@ -39,6 +43,9 @@ module _ (cs : List ℕ) (vs : List ℤ) (few : nodeCount cs ≤ 1024) {a a′ b
   eb′ : (w : ℕ) → w < nodeCount cs → b w ≡ b′ w
   eb′ w l = eb w (omega arith)
 
+  both′ : (w : ℕ) → w < nodeCount cs → (a w && b w) ≡ (a′ w && b′ w)
+  both′ w l = ap₂ (λ (s t : Bool). s && t) (ea′ w l) (eb′ w l)
+
   pub asked-ext : (ask : Ask) → asked cs vs ask a b v ≡ asked cs vs ask a′ b′ v
   unfolding asked
   asked-ext (Is c) = refl
@@ -49,12 +56,19 @@ module _ (cs : List ℕ) (vs : List ℤ) (few : nodeCount cs ≤ 1024) {a a′ b
   asked-ext Apart = apart-ext (nodeCount cs) ea′ eb′
   asked-ext Less = pairs-ext (nodeCount cs) ea′ eb′ _
   asked-ext LessEq = pairs-ext (nodeCount cs) ea′ eb′ _
-  asked-ext OneLang = pairs-ext (nodeCount cs) ea′ ea′ _
+  asked-ext OneLang = pairs-ext (nodeCount cs) both′ both′ _
 
 -- of each node, its own two sets
 pub where-ext : (cs : List ℕ) (vs : List ℤ) → nodeCount cs ≤ 1024 → (ask : Ask) (breaks : Bool) (a a′ b b′ : ℕ → ℕ → Bool) → ((v : ℕ) → v < nodeCount cs → (w : ℕ) → w < 1024 → a v w ≡ a′ v w) → ((v : ℕ) → v < nodeCount cs → (w : ℕ) → w < 1024 → b v w ≡ b′ v w)
     → nodesOf (λ v. orNot breaks (asked cs vs ask (a v) (b v) v)) (nodeCount cs) ≡ nodesOf (λ v. orNot breaks (asked cs vs ask (a′ v) (b′ v) v)) (nodeCount cs)
 where-ext cs vs few ask breaks a a′ b b′ ea eb = nodes-ext (λ v. orNot breaks (asked cs vs ask (a v) (b v) v)) (λ v. orNot breaks (asked cs vs ask (a′ v) (b′ v) v)) (nodeCount cs) (λ v l. ap (orNot breaks) (asked-ext cs vs few (ea v l) (eb v l) v ask))
+
+-- ends without a language need not be looked at
+pub where-langs : (cs : List ℕ) (vs : List ℤ) → nodeCount cs ≤ 1024 → (breaks : Bool) (a : ℕ → ℕ → Bool) {ws : List ℕ} → ws ≡ wordsOf (λ m. ltb m (nodeCount cs) && eqb (kindAt cs m) 4) 16
+    → nodesOf (λ v. orNot breaks (asked cs vs OneLang (a v) (has ws) v)) (nodeCount cs) ≡ nodesOf (λ v. orNot breaks (unlikeLangs cs vs (a v))) (nodeCount cs)
+unfolding asked
+where-langs cs vs few breaks a {ws} e = nodes-ext _ _ (nodeCount cs) (λ v _. ap (orNot breaks) (unlike-among cs vs (a v) (has ws) (λ x l.
+    has-of (λ m. ltb m (nodeCount cs) && eqb (kindAt cs m) 4) 16 e x (omega arith) ∙ ap (λ (t : Bool). t && eqb (kindAt cs x) 4) (lt-ltb x (nodeCount cs) l))))
 
 -- ---- LO and HI as the code tests them
 pub within-code : (lo hi k : ℕ) → (leb lo k && (leb k hi || eqb hi noNumber)) ≡ within lo (upperOf hi) k

@@ -1,14 +1,16 @@
--- What is asked of each node, over two sets that go with it: its ends, and the ends of a link or the set of a step.
+-- What is asked of each node, over two sets that go with it: its ends, and the ends of a link, the set of a step or the nodes
+-- that have a language.
 use Prim.Native.Nat.{ℕ}
 use mathlib.Core.List.{List}
 use mathlib.Core.Bool.{Bool, true, not, cond, _&&_}
 use lib.Dec.{eqb, ltb, leb}
 use lib.IntN.{ℤ}
-use Rattle.base.specs.Bounded.{_⇒_, size}
+use Rattle.base.specs.Bounded.{size}
 use Rattle.nodeset.specs.Words.{wordsOf}
-use Rattle.model.specs.Shapes.{conforms, within, subset, noneShared, allPairs, less, lessEq, sameLang}
+use Rattle.model.specs.Shapes.{conforms, within, subset, noneShared, allPairs, less, lessEq}
 use Rattle.tables.specs.Layout.{nodeCount, formCodeAt}
 use Rattle.tables.specs.Decode.{graphAt, termAt, shapeAt, upperOf}
+use Rattle.conditions.specs.Pairs.{unlikeLangs}
 use Rattle.stepsets.specs.declared.Ask.{Ask}
 use Rattle.stepsets.specs.declared.Ask.the-variants.{Is, Test, Count, Every, Equal, Apart, Less, LessEq, OneLang}
 
@@ -30,7 +32,7 @@ asked cs vs Equal a b v = subset (nodeCount cs) a b && subset (nodeCount cs) b a
 asked cs vs Apart a b v = noneShared (nodeCount cs) a b
 asked cs vs Less a b v = allPairs (nodeCount cs) a b (λ x y. less (termAt cs vs x) (termAt cs vs y))
 asked cs vs LessEq a b v = allPairs (nodeCount cs) a b (λ x y. lessEq (termAt cs vs x) (termAt cs vs y))
-asked cs vs OneLang a b v = allPairs (nodeCount cs) a a (λ x y. not (eqb x y) ⇒ not (sameLang (termAt cs vs x) (termAt cs vs y)))
+asked cs vs OneLang a b v = unlikeLangs cs vs (λ w. a w && b w)
 
 -- a test names a form entry that is one
 unfoldable pub askOk : List ℕ → Ask → Bool

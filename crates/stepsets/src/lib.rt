@@ -4,6 +4,7 @@
 //   nodes_where   the nodes of which a condition holds, or the contrary: one loop for all conditions
 //   plain_set     .. that looks at the node alone
 //   path_set      .. on the ends of a path and the set of a step
+//   lang_set      .. that no two ends of a path have the same language
 //   ends_set      .. on two end sets
 //   facts_set     the nodes that the facts pick, in one pass over them
 //   closed_set    the nodes of which every fact has a listed link
@@ -11,10 +12,11 @@
 use conditions::apart_holds;
 use conditions::equal_holds;
 use conditions::insert_if;
+use conditions::languages;
 use conditions::less_holds;
 use conditions::lesseq_holds;
 use conditions::listed;
-use conditions::onelang_holds;
+use conditions::onelang_among;
 use conditions::subset_holds;
 use conditions::test_holds;
 use model::LinkNo;
@@ -42,12 +44,13 @@ ghost use Rattle.model.specs.Shapes.{within, from, objects, starts};
 ghost use Rattle.tables.specs.Layout.{nodeCount, pathCount, cellCount};
 ghost use Rattle.tables.specs.Decode.{graphAt, pathAt, endAt, upperOf};
 ghost use Rattle.tables.specs.WellFormed.{wellFormed, endOk};
+ghost use Rattle.conditions.specs.Pairs.{unlikeLangs};
 ghost use Rattle.stepsets.specs.Asks.{nodesOf, orNot, asked, askOk};
 ghost use Rattle.stepsets.specs.Ends.{EndOf};
 ghost use Rattle.stepsets.specs.Picks.{nodeOf, picks, picked};
 
 // What is asked of each node: that it is a node; that it meets the test of a form entry; how many of its ends are in a set,
-// that all are; that two end sets are equal, are apart, that each pair is less, or at most; that no two ends share a language.
+// that all are; that two end sets are equal, are apart, that each pair is less, or at most; that no two ends in a set share a language.
 pub enum Ask {
     Is(NodeNo),
     Test(usize),
@@ -89,7 +92,7 @@ fn ask_holds(ask: Ask, cells: &[u16], values: &[i64], a: &[u64], b: &[u64], v: u
         Ask::Apart => apart_holds(a, b, node_count(cells)),
         Ask::Less => less_holds(cells, values, a, b),
         Ask::LessEq => lesseq_holds(cells, values, a, b),
-        Ask::OneLang => onelang_holds(cells, values, a),
+        Ask::OneLang => onelang_among(cells, values, a, b),
     }
 }
 
@@ -167,6 +170,18 @@ pub fn path_set(
     let mut rows = [0u64; 16384];
     all_table_ends(&mut rows, End::Path(p), cells);
     nodes_where(ask, breaks, cells, values, &rows, part(work, 16 * j), false)
+}
+
+// That no two ends of path entry p have the same language. Only ends that have one are looked at.
+pub fn lang_set(breaks: bool, cells: &[u16], values: &[i64], p: usize) -> NodeSet
+    requires { ⌜ (cellCount ≤ length (now cells)) × (wellFormed (now cells) ≡ true) × (p < pathCount (now cells)) ⌝ }
+    ensures { λ r. ⌜ r .words ≡ nodesOf (λ v. orNot breaks (unlikeLangs (now (cells .entry)) (now (values .entry)) (from (graphAt (now (cells .entry)) (now (values .entry))) (pathAt (now (cells .entry)) p) v))) (nodeCount (now (cells .entry))) ⌝ }
+{
+    let mut rows = [0u64; 16384];
+    all_table_ends(&mut rows, End::Path(p), cells);
+    let set = languages(cells);
+    let words = set.words;
+    nodes_where(Ask::OneLang, breaks, cells, values, &rows, &words, false)
 }
 
 // END of a pair condition: 65,535 is `id`, another number a path entry.

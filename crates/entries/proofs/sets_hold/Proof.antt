@@ -68,7 +68,7 @@ slice-aggregate-less-holds-2 : tie.Need-slice-aggregate-less-holds-2
 slice-aggregate-less-holds-2 c = search needs
 
 less-holds-requires : tie.Need-less-holds-requires
-less-holds-requires c κs = search needs
+less-holds-requires c κs = let r = c .before .before .before .before .before .before .before .before .before .before .before .before .args in nodes-le (r .cells .now) (c .before .before .before .before .before .before .before .before .before .before .before .before .pre .0 .tables)
 
 slice-aggregate-lesseq-holds : tie.Need-slice-aggregate-lesseq-holds
 slice-aggregate-lesseq-holds c = search needs
@@ -77,7 +77,7 @@ slice-aggregate-lesseq-holds-2 : tie.Need-slice-aggregate-lesseq-holds-2
 slice-aggregate-lesseq-holds-2 c = search needs
 
 lesseq-holds-requires : tie.Need-lesseq-holds-requires
-lesseq-holds-requires c κs = search needs
+lesseq-holds-requires c κs = let r = c .before .before .before .before .before .before .before .before .before .before .before .before .args in nodes-le (r .cells .now) (c .before .before .before .before .before .before .before .before .before .before .before .before .pre .0 .tables)
 
 returns : tie.Need-returns
 unfolding endIn

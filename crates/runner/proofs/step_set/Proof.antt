@@ -30,6 +30,7 @@ use Rattle.stepsets.proofs.both_set.Reads as both-set-reads
 use Rattle.stepsets.proofs.either_set.Reads as either-set-reads
 use Rattle.stepsets.proofs.path_set.Reads as path-set-reads
 use Rattle.stepsets.proofs.ends_set.Reads as ends-set-reads
+use Rattle.stepsets.proofs.lang_set.Reads as lang-set-reads
 use Rattle.stepsets.proofs.closed_set.Reads as closed-set-reads
 use Rattle.stepsets.proofs.facts_set.Reads as facts-set-reads
 use Rattle.runner.proofs.step_set.Reads as reads
@@ -37,7 +38,7 @@ use Rattle.runner.proofs.step_set.Lts as lts
 
 -- what is asked of each callee, and what it tells
 abbrev calls : lts.Claims
-calls = (node-count-reads.Asked, node-count-reads.Learnt, step-first-reads.Asked, step-first-reads.Learnt, step-second-reads.Asked, step-second-reads.Learnt, step-third-reads.Asked, step-third-reads.Learnt, step-fourth-reads.Asked, step-fourth-reads.Learnt, step-node-reads.Asked, step-node-reads.Learnt, step-link-reads.Asked, step-link-reads.Learnt, step-second-link-reads.Asked, step-second-link-reads.Learnt, step-code-reads.Asked, step-code-reads.Learnt, whole-reads.Asked, whole-reads.Learnt, plain-set-reads.Asked, plain-set-reads.Learnt, both-set-reads.Asked, both-set-reads.Learnt, either-set-reads.Asked, either-set-reads.Learnt, path-set-reads.Asked, path-set-reads.Learnt, ends-set-reads.Asked, ends-set-reads.Learnt, closed-set-reads.Asked, closed-set-reads.Learnt, facts-set-reads.Asked, facts-set-reads.Learnt)
+calls = (node-count-reads.Asked, node-count-reads.Learnt, step-first-reads.Asked, step-first-reads.Learnt, step-second-reads.Asked, step-second-reads.Learnt, step-third-reads.Asked, step-third-reads.Learnt, step-fourth-reads.Asked, step-fourth-reads.Learnt, step-node-reads.Asked, step-node-reads.Learnt, step-link-reads.Asked, step-link-reads.Learnt, step-second-link-reads.Asked, step-second-link-reads.Learnt, step-code-reads.Asked, step-code-reads.Learnt, whole-reads.Asked, whole-reads.Learnt, plain-set-reads.Asked, plain-set-reads.Learnt, both-set-reads.Asked, both-set-reads.Learnt, either-set-reads.Asked, either-set-reads.Learnt, path-set-reads.Asked, path-set-reads.Learnt, ends-set-reads.Asked, ends-set-reads.Learnt, closed-set-reads.Asked, closed-set-reads.Learnt, facts-set-reads.Asked, facts-set-reads.Learnt, lang-set-reads.Asked, lang-set-reads.Learnt)
 
 -- what is known after the step's code has been read, which all arms share
 abbrev Place : Type 0
@@ -164,13 +165,13 @@ ends-set-requires-8 : tie.Need-ends-set-requires-8
 unfolding stepOf stepOk askOk
 ends-set-requires-8 c κs = (c .before .before .before .before .before .before .before .before .before .before .before .before .before .pre .0, c .before .before .before .before .before .before .before .before .before .before .before .before .before .pre .1, path-end (read (c .before)) (right-by (read (c .before)) 19 (c .match .keys20)), refl)
 
-path-set-requires-3 : tie.Need-path-set-requires-3
-unfolding stepOf stepOk askOk
-path-set-requires-3 c κs = (c .before .before .before .before .before .before .before .before .before .before .before .before .before .pre .0, c .before .before .before .before .before .before .before .before .before .before .before .before .before .pre .1, path-alone (read (c .before)) (right-by (read (c .before)) 20 (c .match .keys21)), omega arith, refl)
+lang-set-requires : tie.Need-lang-set-requires
+unfolding stepOf stepOk
+lang-set-requires c κs = (c .before .before .before .before .before .before .before .before .before .before .before .before .before .pre .0, c .before .before .before .before .before .before .before .before .before .before .before .before .before .pre .1, path-alone (read (c .before)) (right-by (read (c .before)) 20 (c .match .keys21)))
 
-path-set-requires-4 : tie.Need-path-set-requires-4
-unfolding stepOf stepOk askOk
-path-set-requires-4 c κs = (c .before .before .before .before .before .before .before .before .before .before .before .before .before .pre .0, c .before .before .before .before .before .before .before .before .before .before .before .before .before .pre .1, path-alone (read (c .before)) (right-by (read (c .before)) 21 (c .match .keys22)), omega arith, refl)
+lang-set-requires-2 : tie.Need-lang-set-requires-2
+unfolding stepOf stepOk
+lang-set-requires-2 c κs = (c .before .before .before .before .before .before .before .before .before .before .before .before .before .pre .0, c .before .before .before .before .before .before .before .before .before .before .before .before .before .pre .1, path-alone (read (c .before)) (right-by (read (c .before)) 21 (c .match .keys22)))
 
 facts-set-requires-2 : tie.Need-facts-set-requires-2
 facts-set-requires-2 c κs = search needs
@@ -250,10 +251,10 @@ unfolding stepOf stepOk
 returns-20 c = arm (read (c .before .before)) 19 (c .before .match .keys20) (c .ends-set8 .ensures ∙ notlesseq-arm (read (c .before .before)) (c .before .before .before .step-second-link .result) (c .before .before .before .step-second-link .ensures ∙ sym (c .before .before .before .before .before .before .before .before .step-second .ensures)) (path-of (read (c .before .before)) (right-by (read (c .before .before)) 19 (c .before .match .keys20))))
 
 returns-21 : tie.Need-returns-21
-returns-21 c = arm (read (c .before .before)) 20 (c .before .match .keys21) (c .path-set3 .ensures ∙ onelang-arm (read (c .before .before)) (has (drop (16 * 0) (now (c .before .before .before .before .before .before .before .before .before .before .before .before .before .before .args .work)))))
+returns-21 c = arm (read (c .before .before)) 20 (c .before .match .keys21) (c .lang-set .ensures ∙ onelang-arm (read (c .before .before)))
 
 returns-22 : tie.Need-returns-22
-returns-22 c = arm (read (c .before .before)) 21 (c .before .match .keys22) (c .path-set4 .ensures ∙ manylang-arm (read (c .before .before)) (has (drop (16 * 0) (now (c .before .before .before .before .before .before .before .before .before .before .before .before .before .before .args .work)))))
+returns-22 c = arm (read (c .before .before)) 21 (c .before .match .keys22) (c .lang-set2 .ensures ∙ manylang-arm (read (c .before .before)))
 
 returns-23 : tie.Need-returns-23
 returns-23 c = arm (read (c .before .before)) 22 (c .before .match .keys23) (c .facts-set2 .ensures ∙ from-arm (read (c .before .before)) (c .before .before .before .before .step-link .result) (c .before .before .before .before .step-link .ensures ∙ sym (c .before .before .before .before .before .before .before .before .before .step-first .ensures)))
@@ -299,8 +300,8 @@ step-set-spec =
     ends-set-requires-6
     ends-set-requires-7
     ends-set-requires-8
-    path-set-requires-3
-    path-set-requires-4
+    lang-set-requires
+    lang-set-requires-2
     facts-set-requires-2
     facts-set-requires-3
     facts-set-requires-4
