@@ -235,40 +235,22 @@ pub fn read_form(
 {
     match open_form(cells, values, names, counts, book, at, left, n, up) {
         Opening::Whole(form) => form,
-        Opening::Part(front) => {
+        Opening::Part(p) => {
             let m = Ended {
                 forms: n.forms,
-                paths: front.paths,
+                paths: p.paths,
                 items: n.items,
             };
-            let first = read_form(
-                cells,
-                values,
-                names,
-                counts,
-                book,
-                front.next,
-                left - 1,
-                m,
-                up + 1,
-            );
+            let depth = left - 1;
+            let begun = up + 1;
+            let first = read_form(cells, values, names, counts, book, p.next, depth, m, begun);
             let Form::Is(l, next) = first else {
                 return first;
             };
-            if 4 < front.code {
-                return close_child(cells, book, next, l, front);
+            if 4 < p.code {
+                return close_child(cells, book, next, l, p);
             }
-            let second = read_form(
-                cells,
-                values,
-                names,
-                counts,
-                book,
-                next,
-                left - 1,
-                l,
-                up + 1,
-            );
+            let second = read_form(cells, values, names, counts, book, next, depth, l, begun);
             let Form::Is(k, last) = second else {
                 return second;
             };
@@ -277,7 +259,7 @@ pub fn read_form(
                 book,
                 last,
                 k,
-                front.code,
+                p.code,
                 (l.forms - 1) as u16,
                 (k.forms - 1) as u16,
                 0,

@@ -15,7 +15,7 @@ use Rattle.encoding.specs.Flatten.{kindCode}
 use Rattle.stores.specs.Entries.{putForm, pathCells, testCells, shapeCells, testValues, shapeValues}
 use Rattle.leafreader.specs.declared.Ended.{Ended}
 use Rattle.leafreader.specs.declared.Form.{Form}
-use Rattle.leafreader.specs.Forms.{begunOf, endedOf, formEnded, FormRead, Closes, putItem, ListShape, ValueShape, EndShape, PathShape}
+use Rattle.leafreader.specs.Forms.{begunOf, endedOf, formEnded, FormRead, Closes, putItem, UsedShape, ListShape, ValueShape, EndShape, PathShape}
 use Rattle.leafreader.proofs.Forms.{ended-eq}
 
 -- what has ended after a form of one entry, by its paths and items
@@ -25,21 +25,9 @@ one-ended φ n l f e p i = ended-eq (endedOf (record { forms = n .forms + formEn
 
 module _ (n : Ended) (cs : List ℕ) (vs : List ℤ) where
   -- ---- one item
-  pub is-closes : (k : ℕ) → Closes (hasValue k) (begunOf n) cs vs vs n (putItem true (n .forms) 1 0 cs k)
-  unfolding formEntries shapePaths listItems shapeCells shapeValues
-  is-closes k = record { ended = one-ended (hasValue k) n n refl refl (omega arith) (omega arith); cells = refl; values = refl }
-
-  pub shape-closes : (k : ℕ) → Closes (hasShape k) (begunOf n) cs vs vs n (putItem true (n .forms) 2 0 cs k)
-  unfolding formEntries shapePaths listItems shapeCells shapeValues
-  shape-closes k = record { ended = one-ended (hasShape k) n n refl refl (omega arith) (omega arith); cells = refl; values = refl }
-
   pub kind-closes : (k : Kind) → Closes (test (nodeKind k)) (begunOf n) cs vs vs n (putItem true (n .forms) 6 0 cs (kindCode k))
   unfolding formEntries shapePaths listItems testItems shapeCells testCells shapeValues testValues
   kind-closes k = record { ended = one-ended (test (nodeKind k)) n n refl refl (omega arith) (omega arith); cells = refl; values = refl }
-
-  pub datatype-closes : (k : ℕ) → Closes (test (datatype k)) (begunOf n) cs vs vs n (putItem true (n .forms) 7 0 cs k)
-  unfolding formEntries shapePaths listItems testItems shapeCells testCells shapeValues testValues
-  datatype-closes k = record { ended = one-ended (test (datatype k)) n n refl refl (omega arith) (omega arith); cells = refl; values = refl }
 
   pub true-read : {x : Read Shape} {cs' : List ℕ} (next : ℕ) → x ≡ got top next → cs' ≡ putForm (n .forms) 0 0 0 0 0 cs → FormRead x (begunOf n) cs cs' vs vs (Form.Is (formEnded n) next)
   unfolding formEntries shapePaths listItems shapeCells shapeValues
@@ -49,6 +37,19 @@ module _ (n : Ended) (cs : List ℕ) (vs : List ℤ) where
   pub onelang-closes : (m : ℕ) (e : Path) (mid : List ℕ) → n .paths + pathEntries e ≡ m → mid ≡ pathCells (n .paths) e cs → Closes (uniqueLang e) (begunOf n) cs vs vs (record { forms = n .forms; paths = m; items = n .items }) (putForm (n .forms) 20 (m - 1) 0 0 0 mid)
   unfolding formEntries shapePaths listItems shapeCells shapeValues after
   onelang-closes m e mid c w = record { ended = one-ended (uniqueLang e) n (record { forms = n .forms; paths = m; items = n .items }) refl refl c (omega arith); cells = rw (c, w); values = refl }
+
+-- ---- names
+pub is-used : UsedShape hasValue 1
+unfolding formEntries shapePaths listItems shapeCells shapeValues
+is-used n k cs vs = record { ended = one-ended (hasValue k) n n refl refl (omega arith) (omega arith); cells = refl; values = refl }
+
+pub shape-used : UsedShape hasShape 2
+unfolding formEntries shapePaths listItems shapeCells shapeValues
+shape-used n k cs vs = record { ended = one-ended (hasShape k) n n refl refl (omega arith) (omega arith); cells = refl; values = refl }
+
+pub datatype-used : UsedShape (λ k. test (datatype k)) 7
+unfolding formEntries shapePaths listItems testItems shapeCells testCells shapeValues testValues
+datatype-used n k cs vs = record { ended = one-ended (test (datatype k)) n n refl refl (omega arith) (omega arith); cells = refl; values = refl }
 
 -- ---- lists
 pub lang-shape : ListShape (λ ks. test (languageIn ks)) 8

@@ -81,7 +81,10 @@ ItemForm s item n put cs' r =
     → ((y : Arg k) → Closes (f y) m cs vs vs' n (put (g y)))
     → FormRead (restAt s a R true (k ∷ []) (λ xs. f (xs .0)) b at) m cs cs' vs vs' r
 
--- the entry of a form with a list, a number V, an END and a link, a PATH and a link
+-- the entry of a form with a name, a list, a number V, an END and a link, a PATH and a link
+abbrev pub UsedShape : (ℕ → Shape) → ℕ → Type 0
+UsedShape f code = (n : Ended) (k : ℕ) (cs : List ℕ) (vs : List ℤ) → Closes (f k) (begunOf n) cs vs vs n (putItem true (n .forms) code 0 cs k)
+
 abbrev pub ListShape : (List ℕ → Shape) → ℕ → Type 0
 ListShape f code = (n : Ended) (ks cs : List ℕ) (vs : List ℤ)
     → Closes (f ks) (begunOf n) cs vs vs (record { forms = n .forms; paths = n .paths; items = n .items + length ks }) (putForm (n .forms) code (n .items) (length ks) 0 0 (putItems (n .items) ks cs))

@@ -28,7 +28,7 @@ ghost use Rattle.grammar.specs.Reading.{Readers, Begun, trueAt, readersAt};
 ghost use Rattle.stores.specs.Entries.{putForm};
 ghost use Rattle.itemreader.specs.Answers.{poolOf, Below, restAt};
 ghost use Rattle.itemreader.specs.Held.{Limits, Held};
-ghost use Rattle.leafreader.specs.Forms.{begunOf, FormRead, closedForm, Within, childrenOf, formBody, putItem, ItemForm, ListShape, ValueShape, EndShape, PathShape, endNumber};
+ghost use Rattle.leafreader.specs.Forms.{begunOf, FormRead, closedForm, Within, childrenOf, formBody, putItem, ItemForm, UsedShape, ListShape, ValueShape, EndShape, PathShape, endNumber};
 
 // How many form entries, path entries and list items have ended.
 pub struct Ended {
@@ -127,6 +127,27 @@ fn item_form(
             )
         }
     }
+}
+
+// is, shape and datatype: a name.
+fn used_form(
+    cells: &mut [u16],
+    names: &[u8],
+    counts: Counts,
+    pool: Pool,
+    book: &[u8],
+    at: usize,
+    n: Ended,
+    up: usize,
+    code: u16,
+) -> Form
+    requires { ⌜ (at ≤ length (now book)) × (45056 ≤ length (now names)) × (16602 ≤ length (now cells)) × (n .forms + up < 112) × (n .paths ≤ 128) × (n .items ≤ 128) × Limits counts ⌝ }
+    ensures { λ r. ⌜ ((a : Book) → Held (now (names .entry)) counts a → (R : Readers) (b : Begun) (f : ℕ → Shape) → UsedShape f code → (vs : List ℤ) → FormRead (restAt (now (book .entry)) a R true (used (poolOf pool) ∷ []) (λ xs. f (xs .0)) b at) (begunOf n) (now (cells .entry)) (now (cells .exit)) vs vs r) ⌝ }
+    ensures { λ r. ⌜ Within (n .forms) up (length (now (book .entry))) r ⌝ }
+    ensures { λ _. ⌜ drop 16602 (now (cells .exit)) ≡ drop 16602 (now (cells .entry)) ⌝ }
+{
+    let item = read_used(names, counts, pool, book, at);
+    item_form(cells, book, item, n, up, code, 0, true)
 }
 
 // lang and closed: a list of names.
@@ -348,37 +369,10 @@ pub fn read_leaf(
     ensures { λ _. ⌜ drop 1136 (now (values .exit)) ≡ drop 1136 (now (values .entry)) ⌝ }
 {
     match code {
-        0 => item_form(
-            cells,
-            book,
-            read_used(names, counts, Pool::Nodes, book, at),
-            n,
-            up,
-            1,
-            0,
-            true,
-        ),
-        1 => item_form(
-            cells,
-            book,
-            read_used(names, counts, Pool::Shapes, book, at),
-            n,
-            up,
-            2,
-            0,
-            true,
-        ),
+        0 => used_form(cells, names, counts, Pool::Nodes, book, at, n, up, 1),
+        1 => used_form(cells, names, counts, Pool::Shapes, book, at, n, up, 2),
         5 => item_form(cells, book, read_kind(book, at), n, up, 6, 0, true),
-        6 => item_form(
-            cells,
-            book,
-            read_used(names, counts, Pool::Types, book, at),
-            n,
-            up,
-            7,
-            0,
-            true,
-        ),
+        6 => used_form(cells, names, counts, Pool::Types, book, at, n, up, 7),
         7 => list_form(cells, names, counts, Pool::Langs, book, at, n, up, 8),
         8 => value_form(cells, values, book, at, n, up, 9),
         9 => value_form(cells, values, book, at, n, up, 10),

@@ -45,25 +45,25 @@ read-form-enum-known-form : (t : ℕ) → read-form-lts.Need-enum-known-form (re
 read-form-enum-known-form t c =
     search needs
 
-read-form-enum-known-front : (t : ℕ) → read-form-lts.Need-enum-known-front (read-form-calls t) (read-form-at t) read-form.Post
-read-form-enum-known-front t c =
+read-form-enum-known-p : (t : ℕ) → read-form-lts.Need-enum-known-p (read-form-calls t) (read-form-at t) read-form.Post
+read-form-enum-known-p t c =
     search needs
 
-read-form-sub-read-form : (t : ℕ) → read-form-lts.Need-sub-read-form (read-form-calls t) (read-form-at t) read-form.Post
-read-form-sub-read-form t c =
-    let s = c .before .before .before .before .before .before .before .before .before .before .before .before .before .before .args in
-    let o = c .before .before .before .before .before .before .before .before .open-form in
-    let fr = c .before .before .before .front .given in
+read-form-sub-depth : (t : ℕ) → read-form-lts.Need-sub-depth (read-form-calls t) (read-form-at t) read-form.Post
+read-form-sub-depth t c =
+    let s = c .before .before .before .before .before .before .before .before .before .before .before .before .args in
+    let o = c .before .before .before .before .before .before .open-form in
+    let fr = c .before .p .given in
     let front : Front = fr .0 .0 in
     let w = part-within (s .left) (s .up) (length (s .book .now)) (s .n) (o .result) (o .ensures .1 .0) front (fr .1) in
     let l = w .0 in
     omega arith
 
-read-form-add-read-form : (t : ℕ) → read-form-lts.Need-add-read-form (read-form-calls t) (read-form-at t) read-form.Post
-read-form-add-read-form t c =
-    let s = c .before .before .before .before .before .before .before .before .before .before .before .before .before .before .args in
-    let o = c .before .before .before .before .before .before .before .before .open-form in
-    let fr = c .before .before .before .front .given in
+read-form-add-begun : (t : ℕ) → read-form-lts.Need-add-begun (read-form-calls t) (read-form-at t) read-form.Post
+read-form-add-begun t c =
+    let s = c .before .before .before .before .before .before .before .before .before .before .before .before .args in
+    let o = c .before .before .before .before .before .before .open-form in
+    let fr = c .before .p .given in
     let front : Front = fr .0 .0 in
     let w = part-within (s .left) (s .up) (length (s .book .now)) (s .n) (o .result) (o .ensures .1 .0) front (fr .1) in
     let l = w .1 in
@@ -74,7 +74,7 @@ read-form-read-form-requires t c κs =
     let s = c .before .before .before .before .before .before .before .before .before .before .before .before .before .before .args in
     let p = c .before .before .before .before .before .before .before .before .before .before .before .before .before .before .pre in
     let o = c .before .before .before .before .before .before .before .before .open-form in
-    let fr = c .before .before .before .front .given in
+    let fr = c .before .before .before .p .given in
     let front : Front = fr .0 .0 in
     let w = part-within (s .left) (s .up) (length (s .book .now)) (s .n) (o .result) (o .ensures .1 .0) front (fr .1) in
     let m = p .0 in
@@ -102,7 +102,7 @@ read-form-returns : (t : ℕ) → read-form-lts.Need-returns (read-form-calls t)
 read-form-returns t c =
     let s = c .before .before .before .before .before .before .before .before .before .before .before .before .before .before .before .before .before .before .before .before .args in
     let o = c .before .before .before .before .before .before .before .before .before .before .before .before .before .before .open-form in
-    let fr = c .before .before .before .before .before .before .before .before .before .front .given in
+    let fr = c .before .before .before .before .before .before .before .before .before .p .given in
     let front : Front = fr .0 .0 in
     let r = c .before .before .before .before .before .read-form in
     let k = c .enum-told .given in (
@@ -121,7 +121,7 @@ read-form-close-child-requires t c κs =
     let s = c .before .before .before .before .before .before .before .before .before .before .before .before .before .before .before .before .before .before .before .before .before .before .before .before .args in
     let p = c .before .before .before .before .before .before .before .before .before .before .before .before .before .before .before .before .before .before .before .before .before .before .before .before .pre in
     let o = c .before .before .before .before .before .before .before .before .before .before .before .before .before .before .before .before .before .before .open-form in
-    let fr = c .before .before .before .before .before .before .before .before .before .before .before .before .before .front .given in
+    let fr = c .before .before .before .before .before .before .before .before .before .before .before .before .before .p .given in
     let front : Front = fr .0 .0 in
     let r = c .before .before .before .before .before .before .before .before .before .read-form in
     let f = c .before .before .before .before .first .given in
@@ -144,7 +144,7 @@ read-form-returns-2 : (t : ℕ) → read-form-lts.Need-returns-2 (read-form-call
 read-form-returns-2 t c =
     let s = c .before .before .before .before .before .before .before .before .before .before .before .before .before .before .before .before .before .before .before .before .before .before .before .before .before .before .before .args in
     let o = c .before .before .before .before .before .before .before .before .before .before .before .before .before .before .before .before .before .before .before .before .before .open-form in
-    let fr = c .before .before .before .before .before .before .before .before .before .before .before .before .before .before .before .before .front .given in
+    let fr = c .before .before .before .before .before .before .before .before .before .before .before .before .before .before .before .before .p .given in
     let front : Front = fr .0 .0 in
     let r = c .before .before .before .before .before .before .before .before .before .before .before .before .read-form in
     let f = c .before .before .before .before .before .before .before .first .given in
@@ -167,32 +167,12 @@ read-form-returns-2 t c =
       (rw (q .ensures .0) (closed-within (s .book .now) next l (s .n .forms) (s .up) (omega arith) (omega arith) (w1 .2) (w1 .3)), (q .ensures .1 .1 ∙ (r .ensures .1 .1 .0 ∙ o .ensures .1 .1 .0), r .ensures .1 .1 .1 ∙ o .ensures .1 .1 .1)),
     )
 
-read-form-sub-read-form-2 : (t : ℕ) → read-form-lts.Need-sub-read-form-2 (read-form-calls t) (read-form-at t) read-form.Post
-read-form-sub-read-form-2 t c =
-    let s = c .before .before .before .before .before .before .before .before .before .before .before .before .before .before .before .before .before .before .before .before .before .before .before .before .before .args in
-    let o = c .before .before .before .before .before .before .before .before .before .before .before .before .before .before .before .before .before .before .before .open-form in
-    let fr = c .before .before .before .before .before .before .before .before .before .before .before .before .before .before .front .given in
-    let front : Front = fr .0 .0 in
-    let w = part-within (s .left) (s .up) (length (s .book .now)) (s .n) (o .result) (o .ensures .1 .0) front (fr .1) in
-    let l = w .0 in
-    omega arith
-
-read-form-add-read-form-2 : (t : ℕ) → read-form-lts.Need-add-read-form-2 (read-form-calls t) (read-form-at t) read-form.Post
-read-form-add-read-form-2 t c =
-    let s = c .before .before .before .before .before .before .before .before .before .before .before .before .before .before .before .before .before .before .before .before .before .before .before .before .before .args in
-    let o = c .before .before .before .before .before .before .before .before .before .before .before .before .before .before .before .before .before .before .before .open-form in
-    let fr = c .before .before .before .before .before .before .before .before .before .before .before .before .before .before .front .given in
-    let front : Front = fr .0 .0 in
-    let w = part-within (s .left) (s .up) (length (s .book .now)) (s .n) (o .result) (o .ensures .1 .0) front (fr .1) in
-    let l = w .1 in
-    omega arith
-
 read-form-read-form-requires-2 : (t : ℕ) → read-form-lts.Need-read-form-requires-2 (read-form-calls t) (read-form-at t) read-form.Post
 read-form-read-form-requires-2 t c κs =
     let s = c .before .before .before .before .before .before .before .before .before .before .before .before .before .before .before .before .before .before .before .before .before .before .before .before .before .args in
     let p = c .before .before .before .before .before .before .before .before .before .before .before .before .before .before .before .before .before .before .before .before .before .before .before .before .before .pre in
     let o = c .before .before .before .before .before .before .before .before .before .before .before .before .before .before .before .before .before .before .before .open-form in
-    let fr = c .before .before .before .before .before .before .before .before .before .before .before .before .before .before .front .given in
+    let fr = c .before .before .before .before .before .before .before .before .before .before .before .before .before .before .p .given in
     let front : Front = fr .0 .0 in
     let w = part-within (s .left) (s .up) (length (s .book .now)) (s .n) (o .result) (o .ensures .1 .0) front (fr .1) in
     let r = c .before .before .before .before .before .before .before .before .before .before .read-form in
@@ -224,7 +204,7 @@ read-form-returns-3 : (t : ℕ) → read-form-lts.Need-returns-3 (read-form-call
 read-form-returns-3 t c =
     let s = c .before .before .before .before .before .before .before .before .before .before .before .before .before .before .before .before .before .before .before .before .before .before .before .before .before .before .before .before .before .before .before .args in
     let o = c .before .before .before .before .before .before .before .before .before .before .before .before .before .before .before .before .before .before .before .before .before .before .before .before .before .open-form in
-    let fr = c .before .before .before .before .before .before .before .before .before .before .before .before .before .before .before .before .before .before .before .before .front .given in
+    let fr = c .before .before .before .before .before .before .before .before .before .before .before .before .before .before .before .before .before .before .before .before .p .given in
     let front : Front = fr .0 .0 in
     let r = c .before .before .before .before .before .before .before .before .before .before .before .before .before .before .before .before .read-form in
     let f = c .before .before .before .before .before .before .before .before .before .before .before .first .given in
@@ -344,7 +324,7 @@ read-form-returns-5 : (t : ℕ) → read-form-lts.Need-returns-5 (read-form-call
 read-form-returns-5 t c =
     let s = c .before .before .before .before .before .before .before .before .before .before .before .before .before .before .before .before .before .before .before .before .before .before .before .before .before .before .before .before .before .before .before .before .before .before .before .before .before .before .args in
     let o = c .before .before .before .before .before .before .before .before .before .before .before .before .before .before .before .before .before .before .before .before .before .before .before .before .before .before .before .before .before .before .before .before .open-form in
-    let fr = c .before .before .before .before .before .before .before .before .before .before .before .before .before .before .before .before .before .before .before .before .before .before .before .before .before .before .before .front .given in
+    let fr = c .before .before .before .before .before .before .before .before .before .before .before .before .before .before .before .before .before .before .before .before .before .before .before .before .before .before .before .p .given in
     let front : Front = fr .0 .0 in
     let r = c .before .before .before .before .before .before .before .before .before .before .before .before .before .before .before .before .before .before .before .before .before .before .before .read-form in
     let f = c .before .before .before .before .before .before .before .before .before .before .before .before .before .before .before .before .before .before .first .given in
@@ -382,9 +362,9 @@ pub +read-form-spec : {M : Type 1} → statement M
     read-form.Post
     (read-form-open-form-requires t)
     (read-form-enum-known-form t)
-    (read-form-enum-known-front t)
-    (read-form-sub-read-form t)
-    (read-form-add-read-form t)
+    (read-form-enum-known-p t)
+    (read-form-sub-depth t)
+    (read-form-add-begun t)
     (read-form-read-form-requires t)
     (read-form-enum-known-first t)
     (read-form-enum-told t)
@@ -395,8 +375,6 @@ pub +read-form-spec : {M : Type 1} → statement M
     (read-form-same-length-3 t)
     (read-form-same-length-4 t)
     (read-form-returns-2 t)
-    (read-form-sub-read-form-2 t)
-    (read-form-add-read-form-2 t)
     (read-form-read-form-requires-2 t)
     (read-form-enum-known-second t)
     (read-form-enum-told-2 t)

@@ -1,53 +1,33 @@
 use mathlib.Core.Path.{refl}
 use native.Mathlib.Omega.{arith}
 use Rattle.model.specs.Shapes.{nodeKind, datatype, languageIn, minInclusive, minExclusive, maxInclusive, maxExclusive, hasShape, hasValue, test, equals, disjoint, closed, lessThan, lessThanEq}
-use Rattle.model.specs.Books.{nodes, types, shapes}
-use Rattle.grammar.specs.Syntax.{used, kindWord}
+use Rattle.grammar.specs.Syntax.{kindWord}
 use Rattle.grammar.specs.Reading.{bodyAt, readersAt}
 use Rattle.encoding.specs.Flatten.{kindCode}
-use Rattle.itemreader.specs.Answers.{same}
 use Rattle.itemreader.proofs.Items.{below-more}
 use Rattle.leafreader.specs.Forms.{begunOf}
 use Rattle.leafreader.proofs.Forms.{form-is, body-is, last-leaf}
-use Rattle.leafreader.proofs.Shapes.{is-closes, shape-closes, kind-closes, datatype-closes, lang-shape, closed-shape, from-shape, above-shape, to-shape, below-shape, equal-shape, apart-shape, less-shape, lesseq-shape}
+use Rattle.leafreader.proofs.Shapes.{kind-closes, is-used, shape-used, datatype-used, lang-shape, closed-shape, from-shape, above-shape, to-shape, below-shape, equal-shape, apart-shape, less-shape, lesseq-shape}
 use borrow.Author.Needs.{needs}
 use Rattle.leafreader.proofs.read_leaf.Statement.{statement}
 use Rattle.leafreader.proofs.read_leaf.Tie as tie
 
-read-used-requires : tie.Need-read-used-requires
-read-used-requires c κs = search needs
+used-form-requires : tie.Need-used-form-requires
+used-form-requires c κs = search needs
 
-item-form-requires : tie.Need-item-form-requires
-item-form-requires c κs =
-    let p = c .before .before .before .before .before .before .pre in
-    let l = p .7 .node-limit in
-    (p .4, p .5, p .6, p .2, below-more _ 65536 _ (c .read-used .result) (omega arith) (c .read-used .ensures .1))
-
-read-used-requires-2 : tie.Need-read-used-requires-2
-read-used-requires-2 c κs = search needs
-
-item-form-requires-2 : tie.Need-item-form-requires-2
-item-form-requires-2 c κs =
-    let p = c .before .before .before .before .before .before .pre in
-    let l = p .7 .shape-limit in
-    (p .4, p .5, p .6, p .2, below-more _ 65536 _ (c .read-used2 .result) (omega arith) (c .read-used2 .ensures .1))
+used-form-requires-2 : tie.Need-used-form-requires-2
+used-form-requires-2 c κs = search needs
 
 read-kind-requires : tie.Need-read-kind-requires
 read-kind-requires c κs = search needs
 
-item-form-requires-3 : tie.Need-item-form-requires-3
-item-form-requires-3 c κs =
+item-form-requires : tie.Need-item-form-requires
+item-form-requires c κs =
     let p = c .before .before .before .before .before .before .pre in
     (p .4, p .5, p .6, p .2, below-more _ 65536 _ (c .read-kind .result) (omega arith) (c .read-kind .ensures .1))
 
-read-used-requires-3 : tie.Need-read-used-requires-3
-read-used-requires-3 c κs = search needs
-
-item-form-requires-4 : tie.Need-item-form-requires-4
-item-form-requires-4 c κs =
-    let p = c .before .before .before .before .before .before .pre in
-    let l = p .7 .type-limit in
-    (p .4, p .5, p .6, p .2, below-more _ 65536 _ (c .read-used3 .result) (omega arith) (c .read-used3 .ensures .1))
+used-form-requires-3 : tie.Need-used-form-requires-3
+used-form-requires-3 c κs = search needs
 
 list-form-requires : tie.Need-list-form-requires
 list-form-requires c κs = search needs
@@ -88,9 +68,9 @@ same-length c = search needs
 returns : tie.Need-returns
 unfolding bodyAt
 returns c =
-    let s = c .before .before .before .before .before .before .before .before .before .args in
-    let o = c .before .before .item-form in
-    (λ a h b q i. form-is (body-is (s .book .now) a (s .left) (s .code) 0 b (s .at) (c .before .before .before .before .before .match .keys1)) (o .ensures .0 a (readersAt (s .book .now) a (s .left)) b (used nodes) same (s .at) (c .before .before .before .read-used .ensures .0 a h (readersAt (s .book .now) a (s .left)) b) (begunOf (s .n)) (s .cells .now) (s .values .now) (s .values .now) hasValue (λ k. is-closes (s .n) (s .cells .now) (s .values .now) k)), (o .ensures .1 .0, (o .ensures .1 .1, refl)))
+    let s = c .before .before .before .before .before .before .before .before .args in
+    let o = c .before .before .used-form in
+    (λ a h b q i. form-is (body-is (s .book .now) a (s .left) (s .code) 0 b (s .at) (c .before .before .before .before .match .keys1)) (o .ensures .0 a h (readersAt (s .book .now) a (s .left)) b hasValue is-used (s .values .now)), (o .ensures .1 .0, (o .ensures .1 .1, refl)))
 
 same-length-2 : tie.Need-same-length-2
 same-length-2 c = search needs
@@ -98,9 +78,9 @@ same-length-2 c = search needs
 returns-2 : tie.Need-returns-2
 unfolding bodyAt
 returns-2 c =
-    let s = c .before .before .before .before .before .before .before .before .before .args in
-    let o = c .before .before .item-form2 in
-    (λ a h b q i. form-is (body-is (s .book .now) a (s .left) (s .code) 1 b (s .at) (c .before .before .before .before .before .match .keys2)) (o .ensures .0 a (readersAt (s .book .now) a (s .left)) b (used shapes) same (s .at) (c .before .before .before .read-used2 .ensures .0 a h (readersAt (s .book .now) a (s .left)) b) (begunOf (s .n)) (s .cells .now) (s .values .now) (s .values .now) hasShape (λ k. shape-closes (s .n) (s .cells .now) (s .values .now) k)), (o .ensures .1 .0, (o .ensures .1 .1, refl)))
+    let s = c .before .before .before .before .before .before .before .before .args in
+    let o = c .before .before .used-form2 in
+    (λ a h b q i. form-is (body-is (s .book .now) a (s .left) (s .code) 1 b (s .at) (c .before .before .before .before .match .keys2)) (o .ensures .0 a h (readersAt (s .book .now) a (s .left)) b hasShape shape-used (s .values .now)), (o .ensures .1 .0, (o .ensures .1 .1, refl)))
 
 same-length-3 : tie.Need-same-length-3
 same-length-3 c = search needs
@@ -109,7 +89,7 @@ returns-3 : tie.Need-returns-3
 unfolding bodyAt
 returns-3 c =
     let s = c .before .before .before .before .before .before .before .before .before .args in
-    let o = c .before .before .item-form3 in
+    let o = c .before .before .item-form in
     (λ a h b q i. form-is (body-is (s .book .now) a (s .left) (s .code) 5 b (s .at) (c .before .before .before .before .before .match .keys3)) (o .ensures .0 a (readersAt (s .book .now) a (s .left)) b kindWord kindCode (s .at) (c .before .before .before .read-kind .ensures .0 a (readersAt (s .book .now) a (s .left)) b) (begunOf (s .n)) (s .cells .now) (s .values .now) (s .values .now) (λ k. test (nodeKind k)) (λ k. kind-closes (s .n) (s .cells .now) (s .values .now) k)), (o .ensures .1 .0, (o .ensures .1 .1, refl)))
 
 same-length-4 : tie.Need-same-length-4
@@ -118,9 +98,9 @@ same-length-4 c = search needs
 returns-4 : tie.Need-returns-4
 unfolding bodyAt
 returns-4 c =
-    let s = c .before .before .before .before .before .before .before .before .before .args in
-    let o = c .before .before .item-form4 in
-    (λ a h b q i. form-is (body-is (s .book .now) a (s .left) (s .code) 6 b (s .at) (c .before .before .before .before .before .match .keys4)) (o .ensures .0 a (readersAt (s .book .now) a (s .left)) b (used types) same (s .at) (c .before .before .before .read-used3 .ensures .0 a h (readersAt (s .book .now) a (s .left)) b) (begunOf (s .n)) (s .cells .now) (s .values .now) (s .values .now) (λ k. test (datatype k)) (λ k. datatype-closes (s .n) (s .cells .now) (s .values .now) k)), (o .ensures .1 .0, (o .ensures .1 .1, refl)))
+    let s = c .before .before .before .before .before .before .before .before .args in
+    let o = c .before .before .used-form3 in
+    (λ a h b q i. form-is (body-is (s .book .now) a (s .left) (s .code) 6 b (s .at) (c .before .before .before .before .match .keys4)) (o .ensures .0 a h (readersAt (s .book .now) a (s .left)) b (λ k. test (datatype k)) datatype-used (s .values .now)), (o .ensures .1 .0, (o .ensures .1 .1, refl)))
 
 same-length-5 : tie.Need-same-length-5
 same-length-5 c = search needs
@@ -251,14 +231,11 @@ pub read-leaf-spec : {M : Type 1} → statement M
 read-leaf-spec =
     tie.close
     (tie.spec
-    read-used-requires
-    item-form-requires
-    read-used-requires-2
-    item-form-requires-2
+    used-form-requires
+    used-form-requires-2
     read-kind-requires
-    item-form-requires-3
-    read-used-requires-3
-    item-form-requires-4
+    item-form-requires
+    used-form-requires-3
     list-form-requires
     value-form-requires
     value-form-requires-2
