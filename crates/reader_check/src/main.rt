@@ -102,18 +102,24 @@ fn cell(i: usize, x: u16) {
     }
 }
 
+// The digits of a number, whatever its sign.
+fn size(x: i64) -> u64 {
+    if x < 0 {
+        ((-1 - x) as u64) + 1
+    } else {
+        x as u64
+    }
+}
+
 fn value(i: usize, x: i64) {
     if x != 0 {
         write(b"  value");
         number(i as u64);
         if x < 0 {
             write(b" minus");
-            number((-1 - x) as u64);
-            write(b" and 1\n");
-        } else {
-            number(x as u64);
-            write(b"\n");
         }
+        number(size(x));
+        write(b"\n");
     }
 }
 
@@ -141,7 +147,7 @@ fn name_length(name: &[u8]) -> usize
     name.len()
 }
 
-fn name(at: usize, place: &[u8]) {
+fn spell(at: usize, place: &[u8]) {
     let n = name_length(place);
     if 0 < n {
         write(b"  name");
@@ -152,14 +158,18 @@ fn name(at: usize, place: &[u8]) {
     }
 }
 
+fn name(names: &[u8], at: usize)
+    requires { ⌜ at ≤ 45056 ⌝ }
+{
+    let end = at + 32;
+    if end <= names.len() {
+        spell(at, &names[at..end]);
+    }
+}
+
 fn names_out(names: &[u8]) {
-    let mut at = 0;
-    while at < 45056 {
-        let end = at + 32;
-        if end <= names.len() {
-            name(at, &names[at..end]);
-        }
-        at = end;
+    for k in 0..1408 {
+        name(names, k * 32);
     }
 }
 
@@ -217,21 +227,29 @@ fn smaller(a: usize, b: usize) -> usize
     if a < b { a } else { b }
 }
 
+// The second byte of a title.
+fn second(part: &[u8]) -> u8 {
+    if 1 < part.len() { part[1] } else { 0 }
+}
+
+// Where the book ends.
+fn book_end(part: &[u8]) -> usize
+    ensures { λ r. ⌜ r ≤ length (now (part .entry)) ⌝ }
+{
+    let n = part.len();
+    if n == 0 {
+        return 0;
+    }
+    if second(part) == 33 { n - 1 } else { n }
+}
+
 // A title and a book.
 fn case(part: &[u8]) {
     let end = line_end(part, 0);
-    let to = if (1 < part.len()) & (second(part) == 33) {
-        part.len() - 1
-    } else {
-        part.len()
-    };
+    let to = book_end(part);
     let from = smaller(end + 1, to);
     let name = smaller(3, end);
     book(&part[name..end], &part[from..to], second(part) == 63);
-}
-
-fn second(part: &[u8]) -> u8 {
-    if 1 < part.len() { part[1] } else { 0 }
 }
 
 fn cases(text: &[u8]) {
@@ -244,17 +262,26 @@ fn cases(text: &[u8]) {
 }
 
 // ---- books at the limits
-// Puts a text at a place, as far as there is room. The place after it.
+// Puts a byte at a place, where there is room. The place after it.
+fn put_byte(book: &mut Text, at: usize, b: u8) -> usize
+    requires { ⌜ at ≤ 65537 ⌝ }
+    ensures { λ r. ⌜ r ≤ 65537 ⌝ }
+{
+    if at < BYTES {
+        book[at] = b;
+        at + 1
+    } else {
+        at
+    }
+}
+
 fn put(book: &mut Text, at: usize, text: &[u8]) -> usize
     requires { ⌜ at ≤ 65537 ⌝ }
     ensures { λ r. ⌜ r ≤ 65537 ⌝ }
 {
     let mut p = at;
     for i in 0..text.len() {
-        if p < BYTES {
-            book[p] = text[i];
-            p += 1;
-        }
+        p = put_byte(book, p, text[i]);
     }
     p
 }
@@ -289,15 +316,26 @@ fn repeated(book: &mut Text, at: usize, line: &[u8], count: usize) -> usize
     p
 }
 
+// The book in the first n bytes.
+fn start(title: &[u8], text: &[u8], n: usize) {
+    if n <= text.len() {
+        book(title, &text[..n], false);
+    }
+}
+
+fn made(title: &[u8], text: &Text, n: usize) {
+    start(title, text, n);
+}
+
 // Some lines, then numbered ones: as many as there may be, and one more.
 fn limit(title: &[u8], head: &[u8], before: &[u8], after: &[u8], count: usize) {
     let mut text = [0u8; 65537];
     let from = put(&mut text, 0, head);
     let p = numbered(&mut text, from, before, after, count);
-    book(title, &text[..p], false);
+    made(title, &text, p);
     if count < 65536 {
         let q = numbered(&mut text, from, before, after, count + 1);
-        book(title, &text[..q], false);
+        made(title, &text, q);
     }
 }
 
@@ -306,9 +344,9 @@ fn limit_alike(title: &[u8], head: &[u8], line: &[u8], count: usize) {
     let mut text = [0u8; 65537];
     let from = put(&mut text, 0, head);
     let p = repeated(&mut text, from, line, count);
-    book(title, &text[..p], false);
+    made(title, &text, p);
     let q = put(&mut text, p, line);
-    book(title, &text[..q], false);
+    made(title, &text, q);
 }
 
 // 65,536 bytes: 1 + 890 things, 4,082 facts; and one byte more.
@@ -317,9 +355,9 @@ fn longest() {
     let a = put(&mut text, 0, b"(thing x)\n");
     let b = numbered(&mut text, a, b"(thing n", b")\n", 890);
     let p = repeated(&mut text, b, b"(fact x a x)\n", 4082);
-    book(b"65536 bytes", &text[..p], false);
+    made(b"65536 bytes", &text, p);
     let q = put(&mut text, p, b"\n");
-    book(b"65537 bytes", &text[..q], false);
+    made(b"65537 bytes", &text, q);
 }
 
 fn limits() {
