@@ -44,6 +44,7 @@ ghost use Rattle.verdict.specs.Answers.{decisionOf, judgedOn, judged, is
 ghost use Rattle.verdict.specs.Memo.{yesPlace, noPlace, Ready, Settled};
 ghost use Rattle.verdict.specs.Parts.{looksAtEnds, hasParts, firstPart, secondPart, looksAt, PartsKnown, Enough};
 
+// The first of two numbers, or the second.
 fn pick(first: bool, a: usize, b: usize) -> usize
     ensures { λ r. ⌜ r ≡ cond first a b ⌝ }
 {
@@ -93,6 +94,7 @@ fn looks_at_ends(cells: &[u16], e: usize) -> bool
     (code == 13) | (code == 14)
 }
 
+// Entry e is one of these: the verdict on it looks at parts.
 fn has_parts(cells: &[u16], e: usize) -> bool
     ensures { λ r. ⌜ r ≡ hasParts (now (cells .entry)) e ⌝ }
 {
@@ -100,6 +102,7 @@ fn has_parts(cells: &[u16], e: usize) -> bool
     ((2 <= code) & (code <= 5)) | looks_at_ends(cells, e)
 }
 
+// The numbers of the parts of entry e; one that has a single part has it as both.
 fn first_part(cells: &[u16], e: usize) -> usize
     ensures { λ r. ⌜ r ≡ firstPart (now (cells .entry)) e ⌝ }
 {
@@ -210,6 +213,7 @@ fn conforming(cells: &[u16], values: &[i64], e: usize, v: usize) -> bool
     requires { ⌜ Tables (now cells) × (e < formCount (now cells)) × (v < nodeCount (now cells)) ⌝ }
     ensures { λ r. ⌜ r ≡ conforms (graphAt (now (cells .entry)) (now (values .entry))) (shapeAt (now (cells .entry)) (now (values .entry)) e) v ⌝ }
 {
+    // 32 words for each of 112 entries
     let mut memo = [0u64; 3584];
     let nobody = NodeSet::EMPTY;
     settle(&mut memo, e, nobody.with(v), cells, values);
