@@ -1,12 +1,13 @@
 -- The answer, case by case.
-use Prim.Native.Nat.{ℕ, _≤_, _<_}
+use Prim.Native.Nat.{ℕ, _<_}
 use mathlib.Core.List.{List}
-use mathlib.Core.Bool.{Bool, true, false, cond, _&&_, and-false}
+use mathlib.Core.Bool.{Bool, true, false, cond, _&&_}
 use mathlib.Core.Path.{_≡_, sym, ap, ap₂, _∙_}
 use lib.Dec.{ltb}
 use lib.IntN.{ℤ}
 use lib.ListN.{take}
-use borrow.Author.Tests.{lt-ltb, le-ltb}
+use borrow.Author.Tests.{ltb-true}
+use Rattle.base.proofs.Bools.{and-left, and-right}
 use Rattle.model.specs.Shapes.{conforms}
 use Rattle.tables.specs.Layout.{cellCount, valueCount, nodeCount, shapeCount, rootAt}
 use Rattle.tables.specs.Decode.{graphAt, shapeAt}
@@ -23,19 +24,19 @@ module _ (cs : List ℕ) (vs : List ℤ) (node shape : ℕ) where
   unfolding judgedOn
   judged-malformed w = ap (λ (b : Bool). cond b (cond (ltb node (nodeCount cs) && ltb shape (shapeCount cs)) said (refused 10 0)) (refused 9 0)) (sym w)
 
-  module _ (w : wellFormed cs ≡ true) where
-    by-places : {p : Bool} → (ltb node (nodeCount cs) && ltb shape (shapeCount cs)) ≡ p → cond p said (refused 10 0) ≡ judgedOn cs vs node shape
+  module _ (w : wellFormed cs ≡ true) {there : Bool} (et : (ltb node (nodeCount cs) && ltb shape (shapeCount cs)) ≡ there) where
+    by-places : {b : Bool} → there ≡ b → cond b said (refused 10 0) ≡ judgedOn cs vs node shape
     unfolding judgedOn
-    by-places {p} h = ap₂ (λ (b p : Bool). cond b (cond p said (refused 10 0)) (refused 9 0)) (sym w) (sym h)
+    by-places {b} h = ap₂ (λ (w p : Bool). cond w (cond p said (refused 10 0)) (refused 9 0)) (sym w) (sym (et ∙ h))
 
-    pub judged-no-node : nodeCount cs ≤ node → refused 10 0 ≡ judgedOn cs vs node shape
-    judged-no-node l = by-places (ap (λ (b : Bool). b && ltb shape (shapeCount cs)) (le-ltb node (nodeCount cs) l))
+    pub places-there : there ≡ true → (node < nodeCount cs) × (shape < shapeCount cs)
+    places-there h = (ltb-true node (nodeCount cs) (and-left (ltb node (nodeCount cs)) (ltb shape (shapeCount cs)) (et ∙ h)), ltb-true shape (shapeCount cs) (and-right (ltb node (nodeCount cs)) (ltb shape (shapeCount cs)) (et ∙ h)))
 
-    pub judged-no-shape : shapeCount cs ≤ shape → refused 10 0 ≡ judgedOn cs vs node shape
-    judged-no-shape l = by-places (ap (λ (b : Bool). ltb node (nodeCount cs) && b) (le-ltb shape (shapeCount cs) l) ∙ and-false (ltb node (nodeCount cs)))
+    pub judged-absent : there ≡ false → refused 10 0 ≡ judgedOn cs vs node shape
+    judged-absent h = by-places h
 
-    pub judged-given : node < nodeCount cs → shape < shapeCount cs → (e : ℕ) {b : Bool} → e ≡ rootAt cs shape → conforms (graphAt cs vs) (shapeAt cs vs e) node ≡ b → given b ≡ judgedOn cs vs node shape
-    judged-given l k e ee h = ap given (sym h) ∙ ap (λ (e : ℕ). given (conforms (graphAt cs vs) (shapeAt cs vs e) node)) ee ∙ by-places (ap₂ (λ (s t : Bool). s && t) (lt-ltb node (nodeCount cs) l) (lt-ltb shape (shapeCount cs) k))
+    pub judged-given : there ≡ true → (e : ℕ) {b : Bool} → e ≡ rootAt cs shape → conforms (graphAt cs vs) (shapeAt cs vs e) node ≡ b → given b ≡ judgedOn cs vs node shape
+    judged-given h e ee hb = ap given (sym hb) ∙ ap (λ (e : ℕ). given (conforms (graphAt cs vs) (shapeAt cs vs e) node)) ee ∙ by-places h
 
 module _ (ns cs : List ℕ) (vs : List ℤ) (node shape : ℕ) where
   pub judged-short : longEnough ns cs vs ≡ false → refused 8 0 ≡ judged ns cs vs node shape

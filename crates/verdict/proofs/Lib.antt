@@ -3,3 +3,4 @@ pub mod Parts
 pub mod Holds
 pub mod Settling
 pub mod Answers
+pub mod Books

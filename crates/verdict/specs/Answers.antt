@@ -36,7 +36,11 @@ judgedOn cs vs node shape =
 unfoldable pub judged : List ℕ → List ℕ → List ℤ → ℕ → ℕ → Decision
 judged ns cs vs node shape = cond (longEnough ns cs vs) (judgedOn (take cellCount cs) (take valueCount vs) node shape) (refused 8 0)
 
+-- a verdict is given, and not refused
+unfoldable pub isGiven : Decision → Bool
+isGiven (given b) = true
+isGiven (refused number line) = false
+
 -- the tally counts verdicts given, and stays at the greatest number of 32 bits
 unfoldable pub tallied : Decision → ℕ → ℕ
-tallied (given b) t = cond (eqb t 4294967295) t (t + 1)
-tallied (refused number line) t = t
+tallied d t = cond (isGiven d) (cond (eqb t 4294967295) t (t + 1)) t

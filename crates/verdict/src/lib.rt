@@ -40,10 +40,11 @@ ghost use Rattle.model.specs.Shapes.{conforms};
 ghost use Rattle.tables.specs.Layout.{cellCount, nodeCount, formCount};
 ghost use Rattle.tables.specs.Decode.{graphAt, shapeAt};
 ghost use Rattle.entries.specs.Tables.{Tables};
-ghost use Rattle.verdict.specs.Answers.{decisionOf, judgedOn, judged, tallied};
+ghost use Rattle.verdict.specs.Answers.{decisionOf, judgedOn, judged, isGiven, tallied};
 ghost use Rattle.verdict.specs.Memo.{yesPlace, noPlace, Ready, Settled};
 ghost use Rattle.verdict.specs.Parts.{looksAtEnds, hasParts, firstPart, secondPart, looksAt, PartsKnown, Enough};
 
+// The first of two numbers, or the second.
 fn pick(first: bool, a: usize, b: usize) -> usize
     ensures { λ r. ⌜ r ≡ cond first a b ⌝ }
 {
@@ -93,6 +94,7 @@ fn looks_at_ends(cells: &[u16], e: usize) -> bool
     (code == 13) | (code == 14)
 }
 
+// Entry e is one of these: the verdict on it looks at parts.
 fn has_parts(cells: &[u16], e: usize) -> bool
     ensures { λ r. ⌜ r ≡ hasParts (now (cells .entry)) e ⌝ }
 {
@@ -100,6 +102,7 @@ fn has_parts(cells: &[u16], e: usize) -> bool
     ((2 <= code) & (code <= 5)) | looks_at_ends(cells, e)
 }
 
+// The numbers of the parts of entry e; one that has a single part has it as both.
 fn first_part(cells: &[u16], e: usize) -> usize
     ensures { λ r. ⌜ r ≡ firstPart (now (cells .entry)) e ⌝ }
 {
@@ -210,6 +213,7 @@ fn conforming(cells: &[u16], values: &[i64], e: usize, v: usize) -> bool
     requires { ⌜ Tables (now cells) × (e < formCount (now cells)) × (v < nodeCount (now cells)) ⌝ }
     ensures { λ r. ⌜ r ≡ conforms (graphAt (now (cells .entry)) (now (values .entry))) (shapeAt (now (cells .entry)) (now (values .entry)) e) v ⌝ }
 {
+    // 32 words for each of 112 entries
     let mut memo = [0u64; 3584];
     let nobody = NodeSet::EMPTY;
     settle(&mut memo, e, nobody.with(v), cells, values);
@@ -234,46 +238,52 @@ fn answer_on(cells: &[u16], values: &[i64], node: usize, shape: usize) -> Answer
     requires { ⌜ cellCount ≤ length (now cells) ⌝ }
     ensures { λ r. ⌜ decisionOf r ≡ judgedOn (now (cells .entry)) (now (values .entry)) node shape ⌝ }
 {
-    if !tablecheck::well_formed(cells) {
+    let ok = tablecheck::well_formed(cells);
+    let there = (node < node_count(cells)) & (shape < shape_count(cells));
+    if !ok {
         return Answer::Refused(Refusal::Malformed);
     }
-    if node_count(cells) <= node {
+    if !there {
         return Answer::Refused(Refusal::Absent);
     }
-    if shape_count(cells) <= shape {
-        return Answer::Refused(Refusal::Absent);
+    if !conforming(cells, values, root(cells, shape), node) {
+        return Answer::No;
     }
-    if conforming(cells, values, root(cells, shape), node) {
-        return Answer::Yes;
-    }
-    Answer::No
+    Answer::Yes
 }
 
-// One more, up to the greatest number of 32 bits.
-fn one_more(tally: u32) -> u32
-    ensures { λ r. ⌜ r ≡ cond (eqb tally 4294967295) tally (tally + 1) ⌝ }
+// A verdict is given, and not refused.
+fn is_given(answer: Answer) -> bool
+    ensures { λ r. ⌜ r ≡ isGiven (decisionOf answer) ⌝ }
 {
-    if tally == 4294967295 {
-        tally
-    } else {
-        tally + 1
+    match answer {
+        Answer::Yes => true,
+        Answer::No => true,
+        Answer::Refused(_) => false,
     }
 }
 
-// The answer with the tally afterwards: a refusal does not count.
+// One more for a verdict given, up to the greatest number of 32 bits.
+fn counted(given: bool, tally: u32) -> u32
+    ensures { λ r. ⌜ r ≡ cond given (cond (eqb tally 4294967295) tally (tally + 1)) tally ⌝ }
+{
+    if !given {
+        return tally;
+    }
+    if tally == 4294967295 {
+        return 4294967295;
+    }
+    tally + 1
+}
+
+// The answer with the tally afterwards.
 fn told(answer: Answer, tally: u32) -> Outcome
     ensures { λ r. ⌜ (r .answer ≡ answer) × (r .tally ≡ tallied (decisionOf answer) tally) ⌝ }
 {
-    match answer {
-        Answer::Yes => Outcome {
-            answer,
-            tally: one_more(tally),
-        },
-        Answer::No => Outcome {
-            answer,
-            tally: one_more(tally),
-        },
-        Answer::Refused(_) => Outcome { answer, tally },
+    let after = counted(is_given(answer), tally);
+    Outcome {
+        answer,
+        tally: after,
     }
 }
 

@@ -1,47 +1,22 @@
--- `told` meets its contract, by the answer.
-use mathlib.Core.Path.{refl, sym, ap, _∙_}
-use Rattle.verdict.specs.declared.Answer.{Answer}
-use Rattle.verdict.specs.Answers.{decisionOf, tallied}
+-- `told` meets its contract.
+use Prim.Native.Nat.{_+_}
+use mathlib.Core.Bool.{Bool, cond}
+use mathlib.Core.Path.{refl, ap, _∙_}
+use lib.Dec.{eqb}
+use Rattle.verdict.specs.Answers.{tallied}
 use borrow.Author.Needs.{needs}
 use Rattle.verdict.proofs.told.Statement.{statement}
 use Rattle.verdict.proofs.told.Tie as tie
 
-enum-told : tie.Need-enum-told
-enum-told c = search needs
+is-given-requires : tie.Need-is-given-requires
+is-given-requires c κs = search needs
 
-one-more-requires : tie.Need-one-more-requires
-one-more-requires c κs = search needs
-
-enum-told-2 : tie.Need-enum-told-2
-enum-told-2 c = search needs
-
-one-more-requires-2 : tie.Need-one-more-requires-2
-one-more-requires-2 c κs = search needs
-
-enum-told-3 : tie.Need-enum-told-3
-enum-told-3 c = search needs
+counted-requires : tie.Need-counted-requires
+counted-requires c κs = search needs
 
 returns : tie.Need-returns
 unfolding tallied
-returns c = (refl, c .one-more .ensures ∙ ap (λ (a : Answer). tallied (decisionOf a) (c .before .before .before .args .tally)) (sym (c .before .enum-told .given .1)))
-
-returns-2 : tie.Need-returns-2
-unfolding tallied
-returns-2 c = (refl, c .one-more2 .ensures ∙ ap (λ (a : Answer). tallied (decisionOf a) (c .before .before .before .args .tally)) (sym (c .before .enum-told2 .given .1)))
-
-returns-3 : tie.Need-returns-3
-unfolding tallied
-returns-3 c = (refl, ap (λ (a : Answer). tallied (decisionOf a) (c .before .before .args .tally)) (sym (c .enum-told3 .given .1)))
+returns c = let t = c .before .before .args .tally in (refl, c .counted .ensures ∙ ap (λ (g : Bool). cond g (cond (eqb t 4294967295) t (t + 1)) t) (c .before .is-given .ensures))
 
 pub told-spec : {M : Type 1} → statement M
-told-spec =
-    tie.close
-    (tie.spec
-    enum-told
-    one-more-requires
-    enum-told-2
-    one-more-requires-2
-    enum-told-3
-    returns
-    returns-2
-    returns-3)
+told-spec = tie.close (tie.spec is-given-requires counted-requires returns)
