@@ -1,0 +1,5 @@
+pub mod Writing
+pub mod Names
+pub mod Parts
+pub mod Answers
+pub mod Report
