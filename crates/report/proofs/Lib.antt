@@ -3,3 +3,4 @@ pub mod Names
 pub mod Parts
 pub mod Answers
 pub mod Report
+pub mod Book

@@ -42,6 +42,10 @@ module _ (p : ℕ → Bool) (l : List ℕ) (i : ℕ) where
   all-done h = ap (allb p) (drop-of-length-le l h)
 
 -- ---- the lines of a rule: one node more
+pub lines-none : (r : ℕ) → [] ≡ breakLines r []
+unfolding breakLines
+lines-none r = refl
+
 lines-snoc : (r : ℕ) (f : ℕ → Name) (vs : List ℕ) (v : ℕ) → breakLines r (map f vs) ++ breakLine r (f v) ≡ breakLines r (map f (vs ++ (v ∷ [])))
 unfolding breakLines
 lines-snoc r f [] v = sym (append-nil (breakLine r (f v)))

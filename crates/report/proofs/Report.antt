@@ -1,5 +1,5 @@
 -- The report and its parts; document 01's two reports, by computation.
-use Prim.Native.Nat.{ℕ, suc, _+_, _<_}
+use Prim.Native.Nat.{ℕ, suc, _+_, _<_, _≤_}
 use mathlib.Core.List.{List, [], _∷_, _++_, append-assoc, append-nil}
 use mathlib.Core.Path.{_≡_, refl, sym, ap, ap₂, _∙_}
 use native.Mathlib.Omega.{arith}
@@ -35,29 +35,34 @@ report-of-refusal = refl
 
 -- ---- the parts, one after the other, are the report
 module _ (b : Book) where
-  -- the part of the rule that follows those above
-  rule-part : (above rs : List Rule) (r : Rule) → rules b ≡ above ++ (r ∷ rs) → part b (suc (length above)) ≡ ruleLines b (length above) r
+  pub rule-part : (k : ℕ) → k < length (rules b) → part b (suc k) ≡ ruleLines b k (getD (rules b) k noRule)
   unfolding part
-  rule-part above rs r e =
-      let k : ℕ = length above in
-      let low : k < length (rules b) = omega (arith, ap length e, length-append above (r ∷ rs)) in
-      let own : getD (rules b) k noRule ≡ r = ap (λ (l : List Rule). getD l k noRule) e ∙ getD-at above r rs noRule k refl in
-      rw (lt-ltb k (length (rules b)) low, own)
+  rule-part k low = rw (lt-ltb k (length (rules b)) low)
+
+  pub last-part : (k : ℕ) → length (rules b) ≤ k → part b (suc k) ≡ lastLine b
+  unfolding part
+  last-part k high = rw (le-ltb k (length (rules b)) high)
+
+  -- the rule that follows those above it, by its number
+  module _ (above rs : List Rule) (r : Rule) (e : rules b ≡ above ++ (r ∷ rs)) where
+    pub next-low : length above < length (rules b)
+    next-low = omega (arith, ap length e, length-append above (r ∷ rs))
+
+    pub next-rule : getD (rules b) (length above) noRule ≡ r
+    next-rule = ap (λ (l : List Rule). getD l (length above) noRule) e ∙ getD-at above r rs noRule (length above) refl
+
+    pub next-count : length (above ++ (r ∷ [])) ≡ suc (length above)
+    next-count = length-append above (r ∷ []) ∙ omega arith
 
   rules-joined : (above rs : List Rule) → rules b ≡ above ++ rs → joined (part b) (suc (length above)) ++ linesFrom b (length above) rs ≡ joined (part b) (suc (length (rules b)))
   unfolding linesFrom joined
   rules-joined above [] e = append-nil (joined (part b) (suc (length above))) ∙ ap (λ (l : List Rule). joined (part b) (suc (length l))) (sym (e ∙ append-nil above))
   rules-joined above (r ∷ rs) e =
       let k : ℕ = length above in
-      let next : length (above ++ (r ∷ [])) ≡ suc k = length-append above (r ∷ []) ∙ omega arith in
       sym (append-assoc (joined (part b) (suc k)) (ruleLines b k r) (linesFrom b (suc k) rs))
-      ∙ ap (λ (t : List ℕ). (joined (part b) (suc k) ++ t) ++ linesFrom b (suc k) rs) (sym (rule-part above rs r e))
-      ∙ ap (λ (n : ℕ). joined (part b) (suc n) ++ linesFrom b n rs) (sym next)
+      ∙ ap (λ (t : List ℕ). (joined (part b) (suc k) ++ t) ++ linesFrom b (suc k) rs) (sym (rule-part k (next-low above rs r e) ∙ ap (ruleLines b k) (next-rule above rs r e)))
+      ∙ ap (λ (n : ℕ). joined (part b) (suc n) ++ linesFrom b n rs) (sym (next-count above rs r e))
       ∙ rules-joined (above ++ (r ∷ [])) rs (e ∙ sym (append-snoc above r rs))
-
-  last-part : part b (suc (length (rules b))) ≡ lastLine b
-  unfolding part
-  last-part = rw (le-ltb (length (rules b)) (length (rules b)) (omega arith))
 
   pub parts-joined : joined (part b) (length (rules b) + 2) ≡ report b
   unfolding joined part report
@@ -65,5 +70,5 @@ module _ (b : Book) where
       let n : ℕ = length (rules b) in
       let two : n + 2 ≡ suc (suc n) = omega arith in
       ap (joined (part b)) two
-      ∙ ap₂ (λ (x y : List ℕ). x ++ y) (sym (rules-joined [] (rules b) refl)) last-part
+      ∙ ap₂ (λ (x y : List ℕ). x ++ y) (sym (rules-joined [] (rules b) refl)) (last-part n (omega arith))
       ∙ append-assoc (firstLine b) (linesFrom b 0 (rules b)) (lastLine b)

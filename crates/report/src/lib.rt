@@ -16,7 +16,7 @@ ghost use mathlib.Core.Path.{_≡_};
 ghost use mathlib.Core.Bool.{true, _&&_};
 ghost use mathlib.Core.List.{_∷_, map};
 ghost use Prim.Native.Nat.{_+_, _*_, _<_, _≤_};
-ghost use lib.ListN.{length, take, drop};
+ghost use lib.ListN.{length, getD, take, drop};
 ghost use lib.Dec.{ltb};
 ghost use Rattle.base.specs.Lists.{allb};
 ghost use Rattle.text.specs.Decimals.{decimal};
@@ -25,7 +25,7 @@ ghost use Rattle.tables.specs.Layout.{nameCount, nodeCount, ruleCount};
 ghost use Rattle.tables.specs.WellFormed.{wellFormed};
 ghost use Rattle.lists.specs.Rows.{listCount, lengthCount};
 ghost use Rattle.report.specs.Report.{headLine, breakLine, breakLines, foundLine, refusalReport};
-ghost use Rattle.report.specs.Pages.{pageCount, nameIn, foundIn, partIn, rowOk, partOk, Put};
+ghost use Rattle.report.specs.Pages.{pageCount, nameIn, rowIn, foundIn, partIn, rowOk, partOk, Put};
 ghost use Rattle.report.specs.Answers.{saidOf, long, partSaid, partAfter, refusalSaid, refusalAfter};
 
 // 32 rows of 1,024 places, a length for each, and a page for 1,024 lines of the longest names.
@@ -177,6 +177,16 @@ fn total(lengths: &[u16], n: usize) -> usize
     sum
 }
 
+// The lines of rule r, from its row.
+fn put_rule(page: &mut [u8], names: &[u8], lists: &[u16], lengths: &[u16], r: usize) -> usize
+    requires { ⌜ (pageCount ≤ length (now page)) × (nameCount ≤ length (now names)) × (listCount ≤ length (now lists)) × (lengthCount ≤ length (now lengths)) × (r < 32) × (getD (now lengths) r 0 ≤ 1024) × (allb (λ v. ltb v 1024) (rowIn (now lists) (now lengths) r) ≡ true) ⌝ }
+    ensures { λ end. ⌜ Put (now (page .entry)) (now (page .exit)) 0 (breakLines r (map (nameIn (now (names .entry))) (rowIn (now (lists .entry)) (now (lengths .entry)) r))) end ⌝ }
+{
+    let first = MAX_NODES * r;
+    let last = first + wide(lengths[r]);
+    put_breaks(page, names, &lists[first..last], r)
+}
+
 // Part k of the report.
 fn put_part(
     page: &mut [u8],
@@ -196,10 +206,7 @@ fn put_part(
     if rules < k {
         return put_found(page, total(lengths, rules));
     }
-    let r = k - 1;
-    let first = MAX_NODES * r;
-    let last = first + wide(lengths[r]);
-    put_breaks(page, names, &lists[first..last], r)
+    put_rule(page, names, lists, lengths, k - 1)
 }
 
 // Every number of a list is below n.

@@ -47,7 +47,7 @@ put-decimal-slice-write-page : (t : ℕ) → put-decimal-lts.Need-slice-write-pa
   put-decimal-below t,
   put-decimal.Post,
 ) (put-decimal-at t) put-decimal.Post
-put-decimal-slice-write-page t c = 
+put-decimal-slice-write-page t c =
     let a = c .before .before .args in
     let digit = decimal-digit (a .n) (c .if1 .taken) in
     let room : a .at < length (now (a .page)) = omega (arith, ap length digit, c .before .before .pre .1) in
@@ -58,7 +58,7 @@ put-decimal-add-result : (t : ℕ) → put-decimal-lts.Need-add-result (
   put-decimal-below t,
   put-decimal.Post,
 ) (put-decimal-at t) put-decimal.Post
-put-decimal-add-result t c = 
+put-decimal-add-result t c =
     let a = c .before .before .args in
     let digit = decimal-digit (a .n) (c .if1 .taken) in
     let room : a .at < length (now (a .page)) = omega (arith, ap length digit, c .before .before .pre .1) in
@@ -76,7 +76,7 @@ put-decimal-returns : (t : ℕ) → put-decimal-lts.Need-returns (
   put-decimal-below t,
   put-decimal.Post,
 ) (put-decimal-at t) put-decimal.Post
-put-decimal-returns t c = 
+put-decimal-returns t c =
     let a = c .before .before .args in
     let digit = decimal-digit (a .n) (c .if1 .taken) in
     let room : a .at < length (now (a .page)) = omega (arith, ap length digit, c .before .before .pre .1) in
@@ -87,7 +87,7 @@ put-decimal-put-decimal-requires : (t : ℕ) → put-decimal-lts.Need-put-decima
   put-decimal-below t,
   put-decimal.Post,
 ) (put-decimal-at t) put-decimal.Post
-put-decimal-put-decimal-requires t c κs = 
+put-decimal-put-decimal-requires t c κs =
     let a = c .before .before .before .args in
     let more = decimal-more (a .n) (c .before .if1 .left) in
     let less : a .n / 10 < a .n = div-lt-self (omega arith) (omega arith) in
@@ -112,7 +112,7 @@ put-decimal-slice-write-page-2 : (t : ℕ) → put-decimal-lts.Need-slice-write-
   put-decimal-below t,
   put-decimal.Post,
 ) (put-decimal-at t) put-decimal.Post
-put-decimal-slice-write-page-2 t c = 
+put-decimal-slice-write-page-2 t c =
     let a = c .before .before .before .before .before .before .args in
     let p = c .before .before .put-decimal .ensures in
     let more = decimal-more (a .n) (c .before .before .before .before .if1 .left) in
@@ -125,7 +125,7 @@ put-decimal-add-result-2 : (t : ℕ) → put-decimal-lts.Need-add-result-2 (
   put-decimal-below t,
   put-decimal.Post,
 ) (put-decimal-at t) put-decimal.Post
-put-decimal-add-result-2 t c = 
+put-decimal-add-result-2 t c =
     let a = c .before .before .before .before .before .before .args in
     let p = c .before .before .put-decimal .ensures in
     let more = decimal-more (a .n) (c .before .before .before .before .if1 .left) in
@@ -145,7 +145,7 @@ put-decimal-returns-2 : (t : ℕ) → put-decimal-lts.Need-returns-2 (
   put-decimal-below t,
   put-decimal.Post,
 ) (put-decimal-at t) put-decimal.Post
-put-decimal-returns-2 t c = 
+put-decimal-returns-2 t c =
     let a = c .before .before .before .before .before .before .args in
     let p = c .before .before .put-decimal .ensures in
     let more = decimal-more (a .n) (c .before .before .before .before .if1 .left) in
