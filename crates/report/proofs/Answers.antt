@@ -10,7 +10,7 @@ use borrow.Author.Tests.{leb-true, le-leb, lt-leb}
 use Rattle.base.proofs.Bools.{and-left, and-right}
 use Rattle.tables.specs.Sizes.{longEnough}
 use Rattle.tables.proofs.Sizes as sizes
-use Rattle.lists.specs.Rows.{listCount, lengthCount, over}
+use Rattle.lists.specs.Rows.{listCount, lengthCount}
 use Rattle.report.specs.Report.{refusalReport}
 use Rattle.report.specs.Pages.{pageCount, Put}
 use Rattle.report.specs.Answers.{Answer, refused, wrote, long, right, known, text, partSaid, partAfter, refusalSaid, refusalAfter}

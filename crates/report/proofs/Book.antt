@@ -9,8 +9,7 @@ use lib.Dec.{eqb, ltb, leb}
 use lib.IntN.{ℤ}
 use lib.ListN.{length, getD, take, drop, replicate, length-drop, length-append, List·getD-append}
 use lib.Seq.{take-at, take-append-add, getD-take, getD-drop, append-snoc, length-take-le, ext-getD}
-use borrow.Author.Tests.{lt-ltb, le-leb, ltb-true, eq-eqb, ne-eqb}
-use Rattle.base.specs.Bounded.{members}
+use borrow.Author.Tests.{le-leb, ltb-true, eq-eqb, ne-eqb}
 use Rattle.base.specs.Lists.{member, allb}
 use Rattle.base.proofs.Bools.{and-left, and-right, and-both}
 use Rattle.base.proofs.Bounded.{member-members}
@@ -19,7 +18,6 @@ use Rattle.text.specs.Pool.{padded, allNames}
 use Rattle.text.proofs.Items.{name-short, name-bytes}
 use Rattle.text.proofs.Places.{names-at}
 use Rattle.text.proofs.Pool.{padded-length}
-use Rattle.model.specs.Limits.{maxName}
 use Rattle.model.specs.Rules.{Rule, violates, violations}
 use Rattle.model.specs.Books.{Name, Book, nodes, names, rules, graphOf, schema, listOf}
 use Rattle.model.specs.Valid.{capacity, admissible}
@@ -27,7 +25,7 @@ use Rattle.model.proofs.Lines.{names-within}
 use Rattle.grammar.specs.Writing.{nameOf}
 use Rattle.grammar.specs.Valid.{valid}
 use Rattle.grammar.proofs.Books.{valid-admissible}
-use Rattle.tables.specs.Layout.{cellCount, nodeCount, factCount, ruleCount}
+use Rattle.tables.specs.Layout.{cellCount, nodeCount, ruleCount}
 use Rattle.tables.specs.WellFormed.{wellFormed}
 use Rattle.encoding.specs.Encode.{encodeNames, encodeCells}
 use Rattle.encoding.proofs.Places.{below-or}
@@ -41,7 +39,7 @@ use Rattle.report.specs.Report.{headLine, breakLines, foundLine, ruleLin
 use Rattle.report.specs.Pages.{beforeZero, nameIn, rowIn, foundIn, partIn, rowOk, partOk}
 use Rattle.report.specs.Answers.{refused, wrote, long, right, known, text, partSaid, partAfter}
 use Rattle.report.proofs.Report.{rule-part, last-part, next-low, next-rule, next-count, parts-joined}
-use Rattle.report.proofs.Parts.{part-head, part-rule, part-last, ok-head, ok-rule, ok-last}
+use Rattle.report.proofs.Parts.{part-rule, part-last, ok-head, ok-rule, ok-last}
 
 -- ---- a name, and zeros after it
 not-zero : (x : ℕ) → nameByte x ≡ true → x ≡ 0 → ⊥

@@ -1,8 +1,8 @@
 -- The parts of the report by tables and lists, as they are tested and written.
 use Prim.Native.Nat.{ℕ, zero, suc, _+_, _-_, _*_, _<_, _≤_}
 use mathlib.Core.List.{List, [], _∷_, _++_, map, append-nil, append-assoc}
-use mathlib.Core.Bool.{Bool, true, false, cond, _&&_}
-use mathlib.Core.Path.{_≡_, refl, sym, ap, ap₂, _∙_}
+use mathlib.Core.Bool.{Bool, true, false, _&&_}
+use mathlib.Core.Path.{_≡_, refl, sym, ap, _∙_}
 use native.Mathlib.Numerals.{add-one}
 use native.Mathlib.Omega.{arith}
 use lib.Dec.{ltb, leb}
@@ -12,7 +12,6 @@ use borrow.Author.Tests.{lt-ltb, le-ltb, le-leb, lt-leb, leb-true, ltb-true}
 use Rattle.base.specs.Lists.{allb}
 use Rattle.base.proofs.Bools.{and-left, and-right}
 use Rattle.base.proofs.Lists.{allb-weaker}
-use Rattle.model.specs.Limits.{maxNodes}
 use Rattle.model.specs.Books.{Name}
 use Rattle.tables.specs.Layout.{nodeCount, factCount, ruleCount}
 use Rattle.report.specs.Report.{headLine, breakLine, breakLines, foundLine}

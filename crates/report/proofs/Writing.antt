@@ -1,6 +1,6 @@
 -- Writing on a page, one text after the other; how long a number is; the lines as they are put together.
 use Prim.Native.Nat.{ℕ, zero, suc, _+_, _*_, _/_, _%_, _<_, _≤_}
-use mathlib.Core.List.{List, [], _∷_, _++_, append-assoc, append-nil}
+use mathlib.Core.List.{List, [], _∷_, _++_, append-assoc}
 use mathlib.Core.Path.{_≡_, refl, sym, ap, ap₂, subst, _∙_}
 use native.Mathlib.Nat.{add-zero, zero-add, add-suc, suc-add, div-add-mod'}
 use native.Mathlib.Numerals.{add-one}
@@ -9,7 +9,6 @@ use lib.ListN.{length, getD, set, take, drop, length-append}
 use lib.Seq.{sets, length-sets, sets-eq, take-suc}
 use Rattle.text.specs.Decimals.{decimal}
 use Rattle.text.proofs.Inverse.{decimal-digit, decimal-more}
-use Rattle.base.proofs.Bools.{bool-cases}
 use Rattle.encoding.proofs.Places.{below-or}
 use Rattle.lists.specs.Rows.{over}
 use Rattle.grammar.specs.Writing.{spaced, bracket}

@@ -21,7 +21,7 @@ ghost use lib.Dec.{ltb};
 ghost use Rattle.base.specs.Lists.{allb};
 ghost use Rattle.text.specs.Decimals.{decimal};
 ghost use Rattle.model.specs.Refusals.{codeOf, lineOf};
-ghost use Rattle.tables.specs.Layout.{nameCount, nodeCount, ruleCount};
+ghost use Rattle.tables.specs.Layout.{nameCount};
 ghost use Rattle.tables.specs.WellFormed.{wellFormed};
 ghost use Rattle.lists.specs.Rows.{listCount, lengthCount};
 ghost use Rattle.report.specs.Report.{headLine, breakLine, breakLines, foundLine, refusalReport};

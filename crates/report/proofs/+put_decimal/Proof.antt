@@ -1,7 +1,7 @@
-use Prim.Native.Nat.{ℕ, _+_, _/_, _%_, _<_, _≤_}
+use Prim.Native.Nat.{ℕ, _+_, _/_, _%_, _<_}
 use mathlib.Core.List.{_∷_, []}
-use mathlib.Core.Path.{_≡_, sym, ap, _∙_}
-use native.Mathlib.Nat.{div-lt-self, mod-lt, div-add-mod'}
+use mathlib.Core.Path.{sym, ap}
+use native.Mathlib.Nat.{div-lt-self, mod-lt}
 use native.Mathlib.Omega.{arith}
 use denote.Ref.{now}
 use lib.ListN.{length, length-append}
@@ -28,21 +28,18 @@ abbrev put-decimal-below : ℕ → In 1 put-decimal-kinds.ps
 put-decimal-below t =
     and 1 put-decimal-kinds.ps (falls 1 put-decimal-kinds.ps _<_ μ-put-decimal t) put-decimal.Pre
 
--- src/lib.rt:63:25
 put-decimal-cast-page : (t : ℕ) → put-decimal-lts.Need-cast-page (
   put-decimal-below t,
   put-decimal.Post,
 ) (put-decimal-at t) put-decimal.Post
 put-decimal-cast-page t c = search needs
 
--- src/lib.rt:63:20
 put-decimal-add-page : (t : ℕ) → put-decimal-lts.Need-add-page (
   put-decimal-below t,
   put-decimal.Post,
 ) (put-decimal-at t) put-decimal.Post
 put-decimal-add-page t c = search needs
 
--- src/lib.rt:63:9
 put-decimal-slice-write-page : (t : ℕ) → put-decimal-lts.Need-slice-write-page (
   put-decimal-below t,
   put-decimal.Post,
@@ -53,7 +50,6 @@ put-decimal-slice-write-page t c =
     let room : a .at < length (now (a .page)) = omega (arith, ap length digit, c .before .before .pre .1) in
     room
 
--- src/lib.rt:64:16
 put-decimal-add-result : (t : ℕ) → put-decimal-lts.Need-add-result (
   put-decimal-below t,
   put-decimal.Post,
@@ -64,14 +60,12 @@ put-decimal-add-result t c =
     let room : a .at < length (now (a .page)) = omega (arith, ap length digit, c .before .before .pre .1) in
     search needs
 
--- src/lib.rt:64:9
 put-decimal-same-length : (t : ℕ) → put-decimal-lts.Need-same-length (
   put-decimal-below t,
   put-decimal.Post,
 ) (put-decimal-at t) put-decimal.Post
 put-decimal-same-length t c = search needs
 
--- src/lib.rt:64:9
 put-decimal-returns : (t : ℕ) → put-decimal-lts.Need-returns (
   put-decimal-below t,
   put-decimal.Post,
@@ -82,7 +76,6 @@ put-decimal-returns t c =
     let room : a .at < length (now (a .page)) = omega (arith, ap length digit, c .before .before .pre .1) in
     put-as (sym digit) (put-byte (now (a .page)) (a .at) (48 + a .n) room)
 
--- src/lib.rt:66:9
 put-decimal-put-decimal-requires : (t : ℕ) → put-decimal-lts.Need-put-decimal-requires (
   put-decimal-below t,
   put-decimal.Post,
@@ -93,21 +86,18 @@ put-decimal-put-decimal-requires t c κs =
     let less : a .n / 10 < a .n = div-lt-self (omega arith) (omega arith) in
     (omega (arith, less, c .before .before .before .pre .0), omega (arith, ap length more, length-append (decimal (a .n / 10)) ((48 + a .n % 10) ∷ []), c .before .before .before .pre .1))
 
--- src/lib.rt:67:22
 put-decimal-cast-page-2 : (t : ℕ) → put-decimal-lts.Need-cast-page-2 (
   put-decimal-below t,
   put-decimal.Post,
 ) (put-decimal-at t) put-decimal.Post
 put-decimal-cast-page-2 t c = let digit : c .before .before .before .before .before .before .args .n % 10 < 10 = mod-lt (c .before .before .before .before .before .before .args .n) (omega arith) in search needs
 
--- src/lib.rt:67:17
 put-decimal-add-page-2 : (t : ℕ) → put-decimal-lts.Need-add-page-2 (
   put-decimal-below t,
   put-decimal.Post,
 ) (put-decimal-at t) put-decimal.Post
 put-decimal-add-page-2 t c = let digit : c .before .before .before .before .before .before .args .n % 10 < 10 = mod-lt (c .before .before .before .before .before .before .args .n) (omega arith) in search needs
 
--- src/lib.rt:67:5
 put-decimal-slice-write-page-2 : (t : ℕ) → put-decimal-lts.Need-slice-write-page-2 (
   put-decimal-below t,
   put-decimal.Post,
@@ -120,7 +110,6 @@ put-decimal-slice-write-page-2 t c =
     let room : c .before .before .put-decimal .result < length (c .before .before .put-decimal .last .0) = omega (arith, put-length p, p .ends, ap length more, length-append (decimal (a .n / 10)) ((48 + a .n % 10) ∷ []), c .before .before .before .before .before .before .pre .1) in
     room
 
--- src/lib.rt:68:5
 put-decimal-add-result-2 : (t : ℕ) → put-decimal-lts.Need-add-result-2 (
   put-decimal-below t,
   put-decimal.Post,
@@ -133,14 +122,12 @@ put-decimal-add-result-2 t c =
     let room : c .before .before .put-decimal .result < length (c .before .before .put-decimal .last .0) = omega (arith, put-length p, p .ends, ap length more, length-append (decimal (a .n / 10)) ((48 + a .n % 10) ∷ []), c .before .before .before .before .before .before .pre .1) in
     search needs
 
--- src/lib.rt:58:1
 put-decimal-same-length-2 : (t : ℕ) → put-decimal-lts.Need-same-length-2 (
   put-decimal-below t,
   put-decimal.Post,
 ) (put-decimal-at t) put-decimal.Post
 put-decimal-same-length-2 t c = search needs
 
--- src/lib.rt:58:1
 put-decimal-returns-2 : (t : ℕ) → put-decimal-lts.Need-returns-2 (
   put-decimal-below t,
   put-decimal.Post,

@@ -1,5 +1,4 @@
-use Prim.Native.Nat.{_+_, _-_, _≤_}
-use mathlib.Core.Bool.{Bool}
+use Prim.Native.Nat.{_-_, _≤_}
 use mathlib.Core.Path.{_≡_, refl, sym, ap, _∙_}
 use native.Mathlib.Omega.{arith}
 use denote.Ref.{now}
@@ -11,9 +10,6 @@ use Rattle.base.specs.Lists.{allb}
 use Rattle.report.proofs.Parts.{all-step, all-fails, all-done}
 use Rattle.report.proofs.all_below.Statement.{statement}
 use Rattle.report.proofs.all_below.Tie as tie
-use Rattle.report.proofs.all_below.Reads as reads
-use Rattle.report.proofs.all_below.Lts as lts
-use Rattle.tables.proofs.reads.wide.Reads as wide-reads
 
 abbrev Inv-loop : tie.InvT-loop
 Inv-loop list n i₀ i = (i ≤ length list) × (allb (λ v. ltb v n) list ≡ allb (λ v. ltb v n) (drop i list))

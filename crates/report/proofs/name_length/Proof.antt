@@ -1,5 +1,4 @@
 use Prim.Native.Nat.{_+_, _-_, _*_, _≤_}
-use mathlib.Core.Path.{_≡_, refl, sym, ap, _∙_}
 use native.Mathlib.Omega.{arith}
 use denote.Ref.{now}
 use lib.ListN.{length}
@@ -7,8 +6,6 @@ use borrow.Author.Needs.{needs}
 use Rattle.report.proofs.Names.{Named, named-start, named-more, named-stop, named-end}
 use Rattle.report.proofs.name_length.Statement.{statement}
 use Rattle.report.proofs.name_length.Tie as tie
-use Rattle.report.proofs.name_length.Reads as reads
-use Rattle.report.proofs.name_length.Lts as lts
 
 abbrev Inv-loop : tie.InvT-loop
 Inv-loop names v j₀ j = (j ≤ 31) × ((room : 32 * v + 31 ≤ length names) → Named names v room j)

@@ -1,25 +1,15 @@
 use borrow.Author.Needs.{needs}
-use Prim.Native.Nat.{ℕ, suc, _+_, _-_, _*_, _<_, _≤_}
-use mathlib.Core.List.{List, _∷_, [], map}
-use mathlib.Core.Path.{_≡_, refl, sym, ap, subst, _∙_}
+use Prim.Native.Nat.{suc, _-_}
+use mathlib.Core.Path.{_≡_, sym, ap, _∙_}
 use native.Mathlib.Omega.{arith}
 use denote.Ref.{now}
-use lib.ListN.{length, getD, take, drop}
-use Rattle.base.specs.Bytes.{bytes}
-use Rattle.text.specs.Decimals.{decimal}
 use mathlib.Core.Bool.{Bool, _&&_}
 use borrow.Author.Tests.{not-true, not-false}
-use Rattle.tables.specs.WellFormed.{wellFormed}
 use Rattle.tables.proofs.WellFormed as tables
-use Rattle.report.specs.Pages.{partOk, rowOk}
+use Rattle.report.specs.Pages.{partOk}
 use Rattle.report.proofs.Parts.{ok-head, ok-rule, ok-last}
 use Rattle.report.proofs.part_ok.Statement.{statement}
 use Rattle.report.proofs.part_ok.Tie as tie
-use Rattle.report.proofs.part_ok.Reads as reads
-use Rattle.report.proofs.part_ok.Lts as lts
-use Rattle.report.proofs.row_ok.Reads as row-ok-reads
-use Rattle.tablecheck.proofs.well_formed.Reads as well-formed-reads
-use Rattle.tables.proofs.reads.rule_count.Reads as rule-count-reads
 
 well-formed-requires : tie.Need-well-formed-requires
 well-formed-requires c κs = search needs

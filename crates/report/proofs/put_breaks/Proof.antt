@@ -1,12 +1,10 @@
 use borrow.Author.Needs.{needs}
-use Prim.Native.Nat.{ℕ, suc, _+_, _-_, _*_, _<_, _≤_}
-use mathlib.Core.List.{List, _∷_, [], map}
-use mathlib.Core.Path.{_≡_, refl, sym, ap, subst, _∙_}
+use Prim.Native.Nat.{ℕ, _-_, _*_, _≤_}
+use mathlib.Core.List.{List, map}
+use mathlib.Core.Path.{_≡_, refl, ap, _∙_}
 use native.Mathlib.Omega.{arith}
 use denote.Ref.{now}
-use lib.ListN.{length, getD, take, drop}
-use Rattle.base.specs.Bytes.{bytes}
-use Rattle.text.specs.Decimals.{decimal}
+use lib.ListN.{length, getD, take}
 use lib.Dec.{ltb}
 use lib.Seq.{take-all}
 use borrow.Author.Tests.{ltb-true}
@@ -17,10 +15,6 @@ use Rattle.report.proofs.Writing.{put-none, put-then, put-as, put-lengt
 use Rattle.report.proofs.Parts.{lines-none, lines-more}
 use Rattle.report.proofs.put_breaks.Statement.{statement}
 use Rattle.report.proofs.put_breaks.Tie as tie
-use Rattle.report.proofs.put_breaks.Reads as reads
-use Rattle.report.proofs.put_breaks.Lts as lts
-use Rattle.report.proofs.put_break.Reads as put-break-reads
-use Rattle.tables.proofs.reads.wide.Reads as wide-reads
 
 abbrev Inv-loop : tie.InvT-loop
 Inv-loop page₀ names list r at₀ i₀ page at i = (i ≤ length list) × (at ≤ 45 * i) × (length page ≡ length page₀) × Put page₀ page 0 (breakLines r (map (nameIn names) (take i list))) at

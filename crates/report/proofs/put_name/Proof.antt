@@ -1,20 +1,13 @@
 use borrow.Author.Needs.{needs}
-use Prim.Native.Nat.{ℕ, suc, _+_, _-_, _*_, _<_, _≤_}
-use mathlib.Core.List.{List, _∷_, [], map}
-use mathlib.Core.Path.{_≡_, refl, sym, ap, subst, _∙_}
+use Prim.Native.Nat.{ℕ, _+_, _-_, _*_}
+use mathlib.Core.Path.{_≡_, ap, _∙_}
 use native.Mathlib.Omega.{arith}
 use denote.Ref.{now}
-use lib.ListN.{length, take, drop, length-take}
-use Rattle.base.specs.Bytes.{bytes}
-use Rattle.text.specs.Decimals.{decimal}
+use lib.ListN.{take, drop, length-take}
 use Rattle.report.proofs.Writing.{put-then, put-as}
 use Rattle.report.specs.Pages.{nameIn}
 use Rattle.report.proofs.put_name.Statement.{statement}
 use Rattle.report.proofs.put_name.Tie as tie
-use Rattle.report.proofs.put_name.Reads as reads
-use Rattle.report.proofs.put_name.Lts as lts
-use Rattle.report.proofs.name_length.Reads as name-length-reads
-use Rattle.report.proofs.put_bytes.Reads as put-bytes-reads
 
 slice-aggregate-put-bytes : tie.Need-slice-aggregate-put-bytes
 slice-aggregate-put-bytes c = search needs

@@ -1,12 +1,9 @@
 use borrow.Author.Needs.{needs}
-use Prim.Native.Nat.{ℕ, suc, _+_, _-_, _*_, _<_, _≤_}
-use mathlib.Core.List.{List, _∷_, [], map}
-use mathlib.Core.Path.{_≡_, refl, sym, ap, subst, _∙_}
+use Prim.Native.Nat.{suc, _-_, _<_}
+use mathlib.Core.Path.{_≡_, sym, ap, _∙_}
 use native.Mathlib.Omega.{arith}
 use denote.Ref.{now}
-use lib.ListN.{length, getD, take, drop}
-use Rattle.base.specs.Bytes.{bytes}
-use Rattle.text.specs.Decimals.{decimal}
+use lib.ListN.{getD}
 use mathlib.Core.Bool.{true}
 use Rattle.tables.specs.Layout.{nodeCount, factCount, ruleCount}
 use Rattle.tables.proofs.WellFormed as tables
@@ -16,15 +13,6 @@ use Rattle.report.proofs.Writing.{put-as}
 use Rattle.report.proofs.Parts.{part-head, part-rule, part-last, ok-rule, row-short, row-below}
 use Rattle.report.proofs.put_part.Statement.{statement}
 use Rattle.report.proofs.put_part.Tie as tie
-use Rattle.report.proofs.put_part.Reads as reads
-use Rattle.report.proofs.put_part.Lts as lts
-use Rattle.report.proofs.put_found.Reads as put-found-reads
-use Rattle.report.proofs.put_head.Reads as put-head-reads
-use Rattle.report.proofs.put_rule.Reads as put-rule-reads
-use Rattle.report.proofs.total.Reads as total-reads
-use Rattle.tables.proofs.reads.fact_count.Reads as fact-count-reads
-use Rattle.tables.proofs.reads.node_count.Reads as node-count-reads
-use Rattle.tables.proofs.reads.rule_count.Reads as rule-count-reads
 
 rule-count-requires : tie.Need-rule-count-requires
 rule-count-requires c κs = search needs

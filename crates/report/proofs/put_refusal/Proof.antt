@@ -1,19 +1,10 @@
 use borrow.Author.Needs.{needs}
-use Prim.Native.Nat.{ℕ, suc, _+_, _-_, _*_, _<_, _≤_}
-use mathlib.Core.List.{List, _∷_, [], map}
-use mathlib.Core.Path.{_≡_, refl, sym, ap, subst, _∙_}
 use native.Mathlib.Omega.{arith}
-use denote.Ref.{now}
-use lib.ListN.{length, getD, take, drop}
 use Rattle.base.specs.Bytes.{bytes}
 use Rattle.text.specs.Decimals.{decimal}
 use Rattle.report.proofs.Writing.{put-then, put-as, put-length, twenty-digits, line-two}
 use Rattle.report.proofs.put_refusal.Statement.{statement}
 use Rattle.report.proofs.put_refusal.Tie as tie
-use Rattle.report.proofs.put_refusal.Reads as reads
-use Rattle.report.proofs.put_refusal.Lts as lts
-use Rattle.report.proofs.put_bytes.Reads as put-bytes-reads
-use Rattle.report.proofs.put_number.Reads as put-number-reads
 
 slice-aggregate-put-bytes : tie.Need-slice-aggregate-put-bytes
 slice-aggregate-put-bytes c = search needs
@@ -25,7 +16,7 @@ put-number-requires : tie.Need-put-number-requires
 put-number-requires c κs =
     let a = c .before .before .before .before .before .before .before .args in
     let p = c .before .before .before .put-bytes .ensures in
-    omega (arith, p .ends, put-length p, twenty-digits (a .number) (omega (arith, c .before .before .before .before .before .before .before .fits)), c .before .before .before .before .before .before .before .pre)
+    omega (arith, p .ends, put-length p, twenty-digits (a .number) (omega (arith, c .before .before .before .before .before .before .before .fits)), twenty-digits (a .at) (omega (arith, c .before .before .before .before .before .before .before .fits)), c .before .before .before .before .before .before .before .pre)
 
 put-number-requires-2 : tie.Need-put-number-requires-2
 put-number-requires-2 c κs =

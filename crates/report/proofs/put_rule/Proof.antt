@@ -1,25 +1,18 @@
 use borrow.Author.Needs.{needs}
-use Prim.Native.Nat.{ℕ, suc, _+_, _-_, _*_, _<_, _≤_}
-use mathlib.Core.List.{List, _∷_, [], map}
-use mathlib.Core.Path.{_≡_, refl, sym, ap, subst, _∙_}
+use Prim.Native.Nat.{ℕ, _+_, _-_, _*_}
+use mathlib.Core.List.{List, map}
+use mathlib.Core.Path.{_≡_, ap, _∙_}
 use native.Mathlib.Omega.{arith}
 use denote.Ref.{now}
-use lib.ListN.{length, getD, take, drop, length-take}
-use Rattle.base.specs.Bytes.{bytes}
-use Rattle.text.specs.Decimals.{decimal}
-use mathlib.Core.Bool.{Bool, true}
+use lib.ListN.{drop, length-take}
 use lib.Dec.{ltb}
 use Rattle.base.specs.Lists.{allb}
 use Rattle.report.specs.Report.{breakLines}
-use Rattle.report.specs.Pages.{nameIn, rowIn}
+use Rattle.report.specs.Pages.{nameIn}
 use Rattle.report.proofs.Writing.{put-as}
 use Rattle.report.proofs.Parts.{row-lent}
 use Rattle.report.proofs.put_rule.Statement.{statement}
 use Rattle.report.proofs.put_rule.Tie as tie
-use Rattle.report.proofs.put_rule.Reads as reads
-use Rattle.report.proofs.put_rule.Lts as lts
-use Rattle.report.proofs.put_breaks.Reads as put-breaks-reads
-use Rattle.tables.proofs.reads.wide.Reads as wide-reads
 
 mul-first : tie.Need-mul-first
 mul-first c = search needs

@@ -1,13 +1,9 @@
 use borrow.Author.Needs.{needs}
-use Prim.Native.Nat.{ℕ, suc, _+_, _-_, _*_, _<_, _≤_}
-use mathlib.Core.List.{List, _∷_, [], map}
-use mathlib.Core.Path.{_≡_, refl, sym, ap, subst, _∙_}
+use Prim.Native.Nat.{ℕ, _+_}
+use mathlib.Core.Path.{sym, ap, _∙_}
 use native.Mathlib.Omega.{arith}
 use denote.Ref.{now}
-use lib.ListN.{length, getD, take, drop}
-use Rattle.base.specs.Bytes.{bytes}
-use Rattle.text.specs.Decimals.{decimal}
-use mathlib.Core.Bool.{true, _&&_}
+use lib.ListN.{take}
 use lib.Dec.{leb}
 use lib.Seq.{length-take-le}
 use borrow.Author.Tests.{not-true, not-false, le-leb, lt-leb}
@@ -18,12 +14,6 @@ use Rattle.report.specs.Pages.{partOk}
 use Rattle.report.proofs.Answers.{lent, short, malformed, absent, done}
 use Rattle.report.proofs.report_part.Statement.{statement}
 use Rattle.report.proofs.report_part.Tie as tie
-use Rattle.report.proofs.report_part.Reads as reads
-use Rattle.report.proofs.report_part.Lts as lts
-use Rattle.report.proofs.long_enough.Reads as long-enough-reads
-use Rattle.report.proofs.part_ok.Reads as part-ok-reads
-use Rattle.report.proofs.put_part.Reads as put-part-reads
-use Rattle.tables.proofs.reads.rule_count.Reads as rule-count-reads
 
 long-enough-requires : tie.Need-long-enough-requires
 long-enough-requires c κs = search needs

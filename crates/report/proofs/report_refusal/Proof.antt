@@ -1,24 +1,13 @@
 use borrow.Author.Needs.{needs}
-use Prim.Native.Nat.{ℕ, suc, _+_, _-_, _*_, _<_, _≤_}
-use mathlib.Core.List.{List, _∷_, [], map}
-use mathlib.Core.Path.{_≡_, refl, sym, ap, subst, _∙_}
-use native.Mathlib.Omega.{arith}
+use Prim.Native.Nat.{ℕ}
+use mathlib.Core.Path.{_≡_, ap, _∙_}
 use denote.Ref.{now}
-use lib.ListN.{length, getD, take, drop}
-use Rattle.base.specs.Bytes.{bytes}
-use Rattle.text.specs.Decimals.{decimal}
 use Rattle.report.specs.Report.{refusalReport}
-use Rattle.report.specs.Pages.{Put}
 use Rattle.report.proofs.Writing.{put-as}
 use Rattle.model.specs.Refusals.{codeOf, lineOf}
 use Rattle.report.proofs.Answers.{no-room, reported}
 use Rattle.report.proofs.report_refusal.Statement.{statement}
 use Rattle.report.proofs.report_refusal.Tie as tie
-use Rattle.report.proofs.report_refusal.Reads as reads
-use Rattle.report.proofs.report_refusal.Lts as lts
-use Rattle.model.proofs.code.Reads as code-reads
-use Rattle.model.proofs.line.Reads as line-reads
-use Rattle.report.proofs.put_refusal.Reads as put-refusal-reads
 
 returns : tie.Need-returns
 returns c =

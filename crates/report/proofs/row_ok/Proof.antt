@@ -1,24 +1,14 @@
 use borrow.Author.Needs.{needs}
-use Prim.Native.Nat.{ℕ, suc, _+_, _-_, _*_, _<_, _≤_}
-use mathlib.Core.List.{List, _∷_, [], map}
-use mathlib.Core.Path.{_≡_, refl, sym, ap, subst, _∙_}
+use Prim.Native.Nat.{ℕ, _+_, _-_, _*_}
+use mathlib.Core.Path.{sym, ap, _∙_}
 use native.Mathlib.Omega.{arith}
 use denote.Ref.{now}
-use lib.ListN.{length, getD, take, drop}
-use Rattle.base.specs.Bytes.{bytes}
-use Rattle.text.specs.Decimals.{decimal}
-use mathlib.Core.Bool.{Bool}
+use lib.ListN.{getD, take, drop}
 use lib.Dec.{ltb}
 use Rattle.base.specs.Lists.{allb}
-use Rattle.report.specs.Pages.{rowIn}
 use Rattle.report.proofs.Parts.{row-long, row-test, row-lent}
 use Rattle.report.proofs.row_ok.Statement.{statement}
 use Rattle.report.proofs.row_ok.Tie as tie
-use Rattle.report.proofs.row_ok.Reads as reads
-use Rattle.report.proofs.row_ok.Lts as lts
-use Rattle.report.proofs.all_below.Reads as all-below-reads
-use Rattle.tables.proofs.reads.node_count.Reads as node-count-reads
-use Rattle.tables.proofs.reads.wide.Reads as wide-reads
 
 mul-wide : tie.Need-mul-wide
 mul-wide c = search needs

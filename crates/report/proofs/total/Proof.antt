@@ -1,16 +1,12 @@
 use Prim.Native.Nat.{_+_, _-_, _*_, _≤_}
-use mathlib.Core.Path.{_≡_, refl, sym, ap, ap₂, _∙_}
+use mathlib.Core.Path.{_≡_, ap, ap₂, _∙_}
 use native.Mathlib.Omega.{arith}
 use denote.Ref.{now}
-use lib.ListN.{length, getD}
 use borrow.Author.Needs.{needs}
 use Rattle.report.specs.Pages.{foundIn}
 use Rattle.report.proofs.Parts.{found-none, found-more}
 use Rattle.report.proofs.total.Statement.{statement}
 use Rattle.report.proofs.total.Tie as tie
-use Rattle.report.proofs.total.Reads as reads
-use Rattle.report.proofs.total.Lts as lts
-use Rattle.tables.proofs.reads.wide.Reads as wide-reads
 
 abbrev Inv-loop : tie.InvT-loop
 Inv-loop lengths n sum₀ i₀ sum i = (i ≤ n) × (sum ≤ 65535 * i) × (sum ≡ foundIn lengths i)
