@@ -1,0 +1,79 @@
+-- The answers of writing a part, case by case.
+use Prim.Native.Nat.{ℕ, _≤_, _<_}
+use mathlib.Core.List.{List}
+use mathlib.Core.Bool.{Bool, true, false, _&&_}
+use mathlib.Core.Path.{_≡_, ap}
+use lib.Dec.{leb}
+use lib.IntN.{ℤ}
+use lib.ListN.{length}
+use borrow.Author.Tests.{leb-true, le-leb, lt-leb}
+use Rattle.base.proofs.Bools.{and-left, and-right}
+use Rattle.tables.specs.Sizes.{longEnough}
+use Rattle.tables.proofs.Sizes as sizes
+use Rattle.lists.specs.Rows.{listCount, lengthCount}
+use Rattle.report.specs.Report.{refusalReport}
+use Rattle.report.specs.Pages.{pageCount, Put}
+use Rattle.report.specs.Answers.{Answer, refused, wrote, long, right, known, text, partSaid, partAfter, refusalSaid, refusalAfter}
+use Rattle.report.proofs.Writing.{put-front}
+
+-- the slices are as long as the limits
+pub record Lent (ns cs : List ℕ) (vs : List ℤ) (ls ks page : List ℕ) : Type 0 where
+  pub tables : sizes.Long ns cs vs
+  pub lists : listCount ≤ length ls
+  pub lengths : lengthCount ≤ length ks
+  pub space : pageCount ≤ length page
+
+pub long-by : (ns cs : List ℕ) (vs : List ℤ) (ls ks page : List ℕ) {tables : Bool} → tables ≡ longEnough ns cs vs → (tables && (leb listCount (length ls) && (leb lengthCount (length ks) && leb pageCount (length page)))) ≡ long ns cs vs ls ks page
+unfolding long
+long-by ns cs vs ls ks page e = ap (λ (b : Bool). b && (leb listCount (length ls) && (leb lengthCount (length ks) && leb pageCount (length page)))) e
+
+pub lent : (ns cs : List ℕ) (vs : List ℤ) (ls ks page : List ℕ) → long ns cs vs ls ks page ≡ true → Lent ns cs vs ls ks page
+unfolding long
+lent ns cs vs ls ks page e =
+    let tables : Bool = longEnough ns cs vs in
+    let lists : Bool = leb listCount (length ls) in
+    let lengths : Bool = leb lengthCount (length ks) in
+    let last : Bool = leb pageCount (length page) in
+    let more = and-right tables (lists && (lengths && last)) e in
+    let rest = and-right lists (lengths && last) more in
+    record {
+      tables = sizes.long ns cs vs (and-left tables (lists && (lengths && last)) e);
+      lists = leb-true listCount (length ls) (and-left lists (lengths && last) more);
+      lengths = leb-true lengthCount (length ks) (and-left lengths last rest);
+      space = leb-true pageCount (length page) (and-right lengths last rest);
+    }
+
+module _ (ns cs : List ℕ) (vs : List ℤ) (ls ks : List ℕ) (k : ℕ) (page : List ℕ) where
+  abbrev Answered : Answer → List ℕ → Type 0
+  Answered a now = (a ≡ partSaid ns cs vs ls ks k page) × (now ≡ partAfter ns cs vs ls ks k page)
+
+  pub short : long ns cs vs ls ks page ≡ false → Answered (refused 8) page
+  unfolding partSaid partAfter
+  short e = (rw e, rw e)
+
+  module _ (l : long ns cs vs ls ks page ≡ true) where
+    pub malformed : right ns cs vs ls ks k page ≡ false → Answered (refused 9) page
+    unfolding partSaid partAfter
+    malformed e = (rw (l, e), rw (l, e))
+
+    module _ (w : right ns cs vs ls ks k page ≡ true) where
+      pub absent : known ns cs vs ls ks k page ≡ false → Answered (refused 10) page
+      unfolding partSaid partAfter
+      absent e = (rw (l, w, e), rw (l, w, e))
+
+      pub done : known ns cs vs ls ks k page ≡ true → {now : List ℕ} {n : ℕ} → Put page now 0 (text ns cs vs ls ks k page) n → Answered (wrote n) now
+      unfolding partSaid partAfter
+      done e p = (rw (l, w, e) (ap wrote (put-front p .0)), rw (l, w, e) (put-front p .1))
+
+-- ---- the report of a refusal
+module _ (number at : ℕ) (page : List ℕ) where
+  abbrev Reported : Answer → List ℕ → Type 0
+  Reported a now = (a ≡ refusalSaid number at page) × (now ≡ refusalAfter number at page)
+
+  pub no-room : length page < pageCount → Reported (refused 8) page
+  unfolding refusalSaid refusalAfter
+  no-room h = (rw (lt-leb pageCount (length page) h), rw (lt-leb pageCount (length page) h))
+
+  pub reported : pageCount ≤ length page → {now : List ℕ} {n : ℕ} → Put page now 0 (refusalReport number at) n → Reported (wrote n) now
+  unfolding refusalSaid refusalAfter
+  reported h p = (rw (le-leb pageCount (length page) h) (ap wrote (put-front p .0)), rw (le-leb pageCount (length page) h) (put-front p .1))

@@ -1,0 +1,222 @@
+-- The parts that are written from a valid book's tables and lists are the parts of its report.
+use Prim.Native.Nat.{ℕ, zero, suc, _+_, _-_, _*_, _<_, _≤_}
+use mathlib.Core.List.{List, [], _∷_, _++_, map, append-nil}
+use mathlib.Core.Bool.{Bool, true, cond, _&&_, _||_, or-true, and-true, true≢false}
+use mathlib.Core.Path.{_≡_, refl, sym, ap, ap₂, _∙_}
+use native.Mathlib.Nat.{zero-add}
+use native.Mathlib.Omega.{arith}
+use lib.Dec.{eqb, ltb, leb}
+use lib.IntN.{ℤ}
+use lib.ListN.{length, getD, take, drop, replicate, length-drop, length-append, List·getD-append}
+use lib.Seq.{take-at, take-append-add, getD-take, getD-drop, append-snoc, length-take-le, ext-getD}
+use borrow.Author.Tests.{le-leb, ltb-true, eq-eqb, ne-eqb}
+use Rattle.base.specs.Lists.{member, allb}
+use Rattle.base.proofs.Bools.{and-left, and-right, and-both}
+use Rattle.base.proofs.Bounded.{member-members}
+use Rattle.text.specs.Items.{nameByte, isName}
+use Rattle.text.specs.Pool.{padded, allNames}
+use Rattle.text.proofs.Items.{name-short, name-bytes}
+use Rattle.text.proofs.Places.{names-at}
+use Rattle.text.proofs.Pool.{padded-length}
+use Rattle.model.specs.Rules.{Rule, violates, violations}
+use Rattle.model.specs.Books.{Name, Book, nodes, names, rules, graphOf, schema, listOf}
+use Rattle.model.specs.Valid.{capacity, admissible}
+use Rattle.model.proofs.Lines.{names-within}
+use Rattle.grammar.specs.Writing.{nameOf}
+use Rattle.grammar.specs.Valid.{valid}
+use Rattle.grammar.proofs.Books.{valid-admissible}
+use Rattle.tables.specs.Layout.{cellCount, nodeCount, ruleCount}
+use Rattle.tables.specs.WellFormed.{wellFormed}
+use Rattle.encoding.specs.Encode.{encodeNames, encodeCells}
+use Rattle.encoding.proofs.Places.{below-or}
+use Rattle.encoding.proofs.Counts.{cells-length, names-length, names-counted, facts-counted, rules-counted, terms-counted}
+use Rattle.encoding.proofs.Names.{short, name-at, padded-at}
+use Rattle.encoding.proofs.WellFormed.{well-formed}
+use Rattle.stores.proofs.Prefixes.{prefix-valid}
+use Rattle.lists.specs.Rows.{over}
+use Rattle.lists.proofs.Rows.{few}
+use Rattle.report.specs.Report.{headLine, breakLines, foundLine, ruleLines, found, firstLine, lastLine, report, noRule, part, joined}
+use Rattle.report.specs.Pages.{beforeZero, nameIn, rowIn, foundIn, partIn, rowOk, partOk}
+use Rattle.report.specs.Answers.{refused, wrote, long, right, known, text, partSaid, partAfter}
+use Rattle.report.proofs.Report.{rule-part, last-part, next-low, next-rule, next-count, parts-joined}
+use Rattle.report.proofs.Parts.{part-rule, part-last, ok-head, ok-rule, ok-last}
+
+-- ---- a name, and zeros after it
+not-zero : (x : ℕ) → nameByte x ≡ true → x ≡ 0 → ⊥
+unfolding nameByte
+not-zero x e z = true≢false (sym e ∙ ap nameByte z)
+
+before-none : (z : List ℕ) → getD z 0 0 ≡ 0 → beforeZero z ≡ []
+unfolding beforeZero
+before-none [] e = refl
+before-none (x ∷ z) e = rw (eq-eqb x 0 e)
+
+before-name : (w z : List ℕ) → allb nameByte w ≡ true → getD z 0 0 ≡ 0 → beforeZero (w ++ z) ≡ w
+unfolding beforeZero allb
+before-name [] z e h = before-none z h
+before-name (x ∷ w) z e h = rw (ne-eqb x 0 (not-zero x (and-left (nameByte x) (allb nameByte w) e))) (ap (λ (t : List ℕ). x ∷ t) (before-name w z (and-right (nameByte x) (allb nameByte w) e) h))
+
+zeros-first : (n m : ℕ) → _≡_ {A = ℕ} (getD (take n (replicate m 0)) 0 0) 0
+zeros-first zero m = refl
+zeros-first (suc n) zero = refl
+zeros-first (suc n) (suc m) = refl
+
+-- of a name in its 32 bytes the name is left
+before-padded : (w : Name) → isName w ≡ true → beforeZero (take 31 (padded w)) ≡ w
+unfolding padded
+before-padded w e =
+    let n : ℕ = 31 - length w in
+    let z : List ℕ = replicate (32 - length w) 0 in
+    let all : 31 ≡ length w + n = omega (arith, name-short w e) in
+    ap (λ (k : ℕ). beforeZero (take k (w ++ z))) all ∙ (ap beforeZero (take-append-add w z n) ∙ before-name w (take n z) (name-bytes w e) (zeros-first n (32 - length w)))
+
+names-short : (ws : List Name) → allNames ws ≡ true → short ws ≡ true
+unfolding allNames allb
+names-short [] e = refl
+names-short (w ∷ ws) e = and-both (leb (length w) 31) (short ws) (le-leb (length w) 31 (name-short w (and-left (isName w) (allNames ws) e))) (names-short ws (and-right (isName w) (allNames ws) e))
+
+-- ---- lists
+-- what passes for every member passes for every element
+all-members : (q : ℕ → Bool) (l : List ℕ) → ((v : ℕ) → member v l ≡ true → q v ≡ true) → allb q l ≡ true
+unfolding allb member
+all-members q [] h = refl
+all-members q (x ∷ l) h =
+    and-both (q x) (allb q l) (h x (ap (λ (t : Bool). t || member x l) (eq-eqb x x refl)))
+    (all-members q l (λ v m. h v (ap (λ (t : Bool). eqb v x || t) m ∙ or-true (eqb v x))))
+
+map-same : {A : Type 0} (f g : ℕ → A) (p : ℕ → Bool) (l : List ℕ) → ((v : ℕ) → p v ≡ true → f v ≡ g v) → allb p l ≡ true → map f l ≡ map g l
+unfolding allb
+map-same f g p [] h e = refl
+map-same {A} f g p (x ∷ l) h e = ap₂ (λ (y : A) (t : List A). y ∷ t) (h x (and-left (p x) (allb p l) e)) (map-same f g p l h (and-right (p x) (allb p l) e))
+
+joined-same : (f g : ℕ → List ℕ) → ((k : ℕ) → f k ≡ g k) → (n : ℕ) → joined f n ≡ joined g n
+unfolding joined
+joined-same f g e zero = refl
+joined-same f g e (suc n) = ap₂ (λ (x y : List ℕ). x ++ y) (joined-same f g e n) (e n)
+
+-- the rows hold the lists of the book, and the lengths say how long these are
+pub record Holds (b : Book) (ls ks : List ℕ) : Type 0 where
+  pub row : (r : ℕ) → r < length (rules b) → take (getD ks r 0) (drop (1024 * r) ls) ≡ listOf b (getD (rules b) r noRule)
+  pub size : (r : ℕ) → r < length (rules b) → getD ks r 0 ≡ length (listOf b (getD (rules b) r noRule))
+
+module _ (b : Book) (v : valid b ≡ true) where
+  ok : admissible b ≡ true
+  ok = valid-admissible b v
+
+  made : allNames (names nodes b) ≡ true
+  unfolding valid
+  made = prefix-valid b (and-left _ _ v) .names-made nodes
+
+  few-nodes : length (names nodes b) ≤ 1024
+  unfolding capacity
+  few-nodes = names-within nodes b ok
+
+  -- ---- a listed node is one of the book
+  list-within : (r : Rule) → allb (λ n. ltb n (length (names nodes b))) (listOf b r) ≡ true
+  unfolding listOf violations graphOf
+  list-within r =
+      ap (λ (k : ℕ). allb (λ n. ltb n k) (listOf b r)) (sym (terms-counted b))
+      ∙ all-members (λ n. ltb n (graphOf b .nodes)) (listOf b r) (λ n m. and-left (ltb n (graphOf b .nodes)) (violates (graphOf b) (schema b) r n) (sym (member-members (violates (graphOf b) (schema b) r) (graphOf b .nodes) n) ∙ m))
+
+  list-few : (r : Rule) → length (listOf b r) ≤ 1024
+  unfolding listOf violations graphOf
+  list-few r = omega (arith, few (violates (graphOf b) (schema b) r) (graphOf b .nodes), terms-counted b, few-nodes)
+
+  -- ---- its name is stored
+  module _ (t : List ℕ) where
+    abbrev table : List ℕ
+    table = encodeNames b ++ t
+
+    stored : (n : ℕ) → n < length (names nodes b) → take 31 (drop (32 * n) table) ≡ take 31 (padded (getD (names nodes b) n []))
+    unfolding capacity
+    stored n h =
+        let w : Name = getD (names nodes b) n [] in
+        let s : length w ≤ 31 = name-short w (names-at (names nodes b) made n h) in
+        let left : length (take 31 (drop (32 * n) table)) ≡ 31 = length-take-le 31 (drop (32 * n) table) (omega (arith, length-drop (32 * n) table, length-append (encodeNames b) t, names-length b, few-nodes)) in
+        let right : length (take 31 (padded w)) ≡ 31 = length-take-le 31 (padded w) (omega (arith, padded-length w (omega arith))) in
+        ext-getD 0 (take 31 (drop (32 * n) table)) (take 31 (padded w)) (left ∙ sym right) (λ i l.
+        let low : i < 31 = omega (arith, left) in
+        let at : 32 * n + i ≡ 0 + (n * 32 + i) = omega arith in
+        getD-take 31 (drop (32 * n) table) i 0 low ∙ (getD-drop (32 * n) table i 0
+        ∙ (List·getD-append (encodeNames b) t 0 (32 * n + i) (omega (arith, names-length b, few-nodes))
+        ∙ (ap (λ (k : ℕ). getD (encodeNames b) k 0) at
+        ∙ (name-at b nodes (names-short (names nodes b) made) n i (omega (arith, few-nodes)) (omega arith)
+        ∙ (sym (padded-at w i) ∙ sym (getD-take 31 (padded w) i 0 low)))))))
+
+    pub name-read : (n : ℕ) → n < length (names nodes b) → nameIn table n ≡ nameOf b nodes n
+    unfolding nameIn nameOf
+    name-read n h = ap beforeZero (stored n h) ∙ before-padded (getD (names nodes b) n []) (names-at (names nodes b) made n h)
+
+    names-read : (r : Rule) → map (nameIn table) (listOf b r) ≡ map (nameOf b nodes) (listOf b r)
+    names-read r = map-same (nameIn table) (nameOf b nodes) (λ n. ltb n (length (names nodes b))) (listOf b r) (λ n e. name-read n (ltb-true n (length (names nodes b)) e)) (list-within r)
+
+  -- ---- the cells of the book, whatever lies past them
+  cells-read : (t : List ℕ) → take cellCount (encodeCells b ++ t) ≡ encodeCells b
+  cells-read t = take-at (encodeCells b) t cellCount (cells-length b)
+
+  module _ (ls ks : List ℕ) (holds : Holds b ls ks) where
+    -- ---- how many are listed
+    found-read : (above rs : List Rule) → rules b ≡ above ++ rs → foundIn ks (length above) + found b rs ≡ foundIn ks (length (rules b))
+    unfolding found foundIn
+    found-read above [] e = omega (arith, ap (λ (l : List Rule). foundIn ks (length l)) (e ∙ append-nil above))
+    found-read above (r ∷ rs) e =
+        let k : ℕ = length above in
+        let size : getD ks k 0 ≡ length (listOf b r) = holds .size k (next-low b above rs r e) ∙ ap (λ (x : Rule). length (listOf b x)) (next-rule b above rs r e) in
+        omega (arith, ap (foundIn ks) (next-count b above rs r e), size, found-read (above ++ (r ∷ [])) rs (e ∙ sym (append-snoc above r rs)))
+
+    -- ---- the lists have no ground for refusal 9
+    row-ok : (r : ℕ) → r < length (rules b) → rowOk (encodeCells b) ls ks r ≡ true
+    unfolding rowOk rowIn
+    row-ok r low =
+        let rule : Rule = getD (rules b) r noRule in
+        and-both (leb (getD ks r 0) 1024) (allb (λ n. ltb n (nodeCount (encodeCells b))) (take (getD ks r 0) (drop (1024 * r) ls)))
+        (le-leb (getD ks r 0) 1024 (omega (arith, holds .size r low, list-few rule)))
+        (ap₂ (λ (k : ℕ) (l : List ℕ). allb (λ n. ltb n k) l) (names-counted b nodes) (holds .row r low) ∙ list-within rule)
+
+    part-ok : (k : ℕ) → partOk (encodeCells b) ls ks k ≡ true
+    part-ok zero = ok-head (encodeCells b) ls ks 0 refl
+    part-ok (suc r) =
+        below-or (partOk (encodeCells b) ls ks (suc r) ≡ true) r (length (rules b))
+        (λ low. ok-rule (encodeCells b) ls ks (suc r) r refl (omega (arith, rules-counted b)) ∙ row-ok r low)
+        (λ high. ok-last (encodeCells b) ls ks (suc r) (omega (arith, rules-counted b)))
+
+    module _ (t : List ℕ) where
+      -- a part by the tables is the part of the book
+      pub part-read : (k : ℕ) → partIn (encodeNames b ++ t) (encodeCells b) ls ks k ≡ part b k
+      unfolding partIn part firstLine lastLine ruleLines rowIn foundIn
+      part-read zero = λ i. headLine (names-counted b nodes i) (facts-counted b i) (rules-counted b i)
+      part-read (suc k) =
+          let ns : List ℕ = encodeNames b ++ t in
+          let cs : List ℕ = encodeCells b in
+          let rule : Rule = getD (rules b) k noRule in
+          below-or (partIn ns cs ls ks (suc k) ≡ part b (suc k)) k (length (rules b))
+          (λ low. sym (part-rule ns cs ls ks (suc k) k refl (omega (arith, rules-counted b)))
+          ∙ (ap (λ (l : List ℕ). breakLines k (map (nameIn ns) l)) (holds .row k low) ∙ (ap (breakLines k) (names-read t rule) ∙ sym (rule-part b k low))))
+          (λ high. sym (part-last ns cs ls ks (suc k) (omega (arith, rules-counted b)))
+          ∙ (ap foundLine (ap (foundIn ks) (rules-counted b) ∙ (sym (found-read [] (rules b) refl) ∙ zero-add (found b (rules b)))) ∙ sym (last-part b k high)))
+
+      -- the parts, one after the other, are the report
+      pub report-read : joined (partIn (encodeNames b ++ t) (encodeCells b) ls ks) (length (rules b) + 2) ≡ report b
+      report-read = joined-same (partIn (encodeNames b ++ t) (encodeCells b) ls ks) (part b) part-read (length (rules b) + 2) ∙ parts-joined b
+
+      -- ---- what the operation answers: of the ten refusals 8 alone
+      module _ (past : List ℕ) (vs : List ℤ) (k : ℕ) (page : List ℕ) (inside : k ≤ length (rules b) + 1) where
+        abbrev Cs : List ℕ
+        Cs = encodeCells b ++ past
+
+        right-here : right (encodeNames b ++ t) Cs vs ls ks k page ≡ true
+        right-here = ap (λ (cs : List ℕ). wellFormed cs && partOk cs ls ks k) (cells-read past) ∙ and-both (wellFormed (encodeCells b)) (partOk (encodeCells b) ls ks k) (well-formed b ok) (part-ok k)
+
+        known-here : known (encodeNames b ++ t) Cs vs ls ks k page ≡ true
+        known-here = ap (λ (cs : List ℕ). leb k (ruleCount cs + 1)) (cells-read past) ∙ le-leb k (ruleCount (encodeCells b) + 1) (omega (arith, inside, rules-counted b))
+
+        text-here : text (encodeNames b ++ t) Cs vs ls ks k page ≡ part b k
+        text-here = ap (λ (cs : List ℕ). partIn (encodeNames b ++ t) cs ls ks k) (cells-read past) ∙ part-read k
+
+        pub part-said : partSaid (encodeNames b ++ t) Cs vs ls ks k page ≡ cond (long (encodeNames b ++ t) Cs vs ls ks page) (wrote (length (part b k))) (refused 8)
+        unfolding partSaid
+        part-said = rw (right-here, known-here, text-here)
+
+        pub part-page : partAfter (encodeNames b ++ t) Cs vs ls ks k page ≡ cond (long (encodeNames b ++ t) Cs vs ls ks page) (over (part b k) page) page
+        unfolding partAfter
+        part-page = rw (right-here, known-here, text-here, and-true (long (encodeNames b ++ t) Cs vs ls ks page))

@@ -1,0 +1,64 @@
+-- The stored name of a node: found byte by byte.
+use Prim.Native.Nat.{ℕ, zero, suc, _+_, _*_, _<_, _≤_}
+use mathlib.Core.List.{List, [], _∷_, _++_, append-nil}
+use mathlib.Core.Bool.{Bool, cond}
+use mathlib.Core.Path.{_≡_, refl, sym, ap, _∙_}
+use native.Mathlib.Numerals.{add-one}
+use native.Mathlib.Omega.{arith}
+use lib.ListN.{length, getD, take, drop, length-drop, drop-of-length-le}
+use lib.Seq.{take-suc, drop-cons, append-snoc, getD-take, getD-drop, take-take, length-take-le}
+use borrow.Author.Tests.{eq-eqb, ne-eqb}
+use Rattle.report.specs.Pages.{beforeZero, nameIn}
+
+-- no zero among the first j bytes
+module _ (s : List ℕ) where
+  abbrev Clear : ℕ → Type 0
+  Clear j = beforeZero s ≡ take j s ++ beforeZero (drop j s)
+
+  clear-more : (j : ℕ) → j < length s → (getD s j 0 ≡ 0 → ⊥) → Clear j → Clear (suc j)
+  unfolding beforeZero
+  clear-more j h z p =
+      p ∙ (ap (λ (t : List ℕ). take j s ++ beforeZero t) (drop-cons s j 0 h)
+      ∙ (ap (λ (t : Bool). take j s ++ cond t [] (getD s j 0 ∷ beforeZero (drop (suc j) s))) (ne-eqb (getD s j 0) 0 z)
+      ∙ (sym (append-snoc (take j s) (getD s j 0) (beforeZero (drop (suc j) s)))
+      ∙ ap (λ (t : List ℕ). t ++ beforeZero (drop (suc j) s)) (sym (take-suc s j 0 h)))))
+
+  -- a zero at j
+  clear-stop : (j : ℕ) → j < length s → getD s j 0 ≡ 0 → Clear j → beforeZero s ≡ take j s
+  unfolding beforeZero
+  clear-stop j h z p =
+      p ∙ (ap (λ (t : List ℕ). take j s ++ beforeZero t) (drop-cons s j 0 h)
+      ∙ (ap (λ (t : Bool). take j s ++ cond t [] (getD s j 0 ∷ beforeZero (drop (suc j) s))) (eq-eqb (getD s j 0) 0 z)
+      ∙ append-nil (take j s)))
+
+-- the place of node v is in the table
+module _ (ns : List ℕ) (v : ℕ) (room : 32 * v + 31 ≤ length ns) where
+  abbrev pub Named : ℕ → Type 0
+  Named j = nameIn ns v ≡ take j (take 31 (drop (32 * v) ns)) ++ beforeZero (drop j (take 31 (drop (32 * v) ns)))
+
+  at-place : (j : ℕ) → j < 31 → getD (take 31 (drop (32 * v) ns)) j 0 ≡ getD ns (32 * v + j) 0
+  at-place j h = getD-take 31 (drop (32 * v) ns) j 0 h ∙ getD-drop (32 * v) ns j 0
+
+  full : length (take 31 (drop (32 * v) ns)) ≡ 31
+  full = length-take-le 31 (drop (32 * v) ns) (omega (arith, length-drop (32 * v) ns))
+
+  pub named-start : Named 0
+  unfolding nameIn
+  named-start = refl
+
+  pub named-more : (j : ℕ) → j < 31 → (getD ns (32 * v + j) 0 ≡ 0 → ⊥) → Named j → Named (j + 1)
+  unfolding nameIn
+  named-more j h z p =
+      clear-more (take 31 (drop (32 * v) ns)) j (omega (arith, full)) (λ e. z (sym (at-place j h) ∙ e)) p
+      ∙ ap (λ (k : ℕ). take k (take 31 (drop (32 * v) ns)) ++ beforeZero (drop k (take 31 (drop (32 * v) ns)))) (sym (add-one j))
+
+  pub named-stop : (j : ℕ) → j < 31 → getD ns (32 * v + j) 0 ≡ 0 → Named j → take j (drop (32 * v) ns) ≡ nameIn ns v
+  unfolding nameIn
+  named-stop j h z p = sym (clear-stop (take 31 (drop (32 * v) ns)) j (omega (arith, full)) (at-place j h ∙ z) p ∙ take-take j 31 (drop (32 * v) ns) (omega arith))
+
+  pub named-end : (j : ℕ) → j ≡ 31 → Named j → take j (drop (32 * v) ns) ≡ nameIn ns v
+  unfolding nameIn beforeZero
+  named-end j h p =
+      let s : List ℕ = take 31 (drop (32 * v) ns) in
+      sym (p ∙ (ap (λ (t : List ℕ). take j s ++ beforeZero t) (drop-of-length-le s {i = j} (omega (arith, full)))
+      ∙ (append-nil (take j s) ∙ take-take j 31 (drop (32 * v) ns) (omega arith))))

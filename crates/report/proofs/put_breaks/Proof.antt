@@ -1,0 +1,84 @@
+use borrow.Author.Needs.{needs}
+use Prim.Native.Nat.{ℕ, _-_, _*_, _≤_}
+use mathlib.Core.List.{List, map}
+use mathlib.Core.Path.{_≡_, refl, ap, _∙_}
+use native.Mathlib.Omega.{arith}
+use denote.Ref.{now}
+use lib.ListN.{length, getD, take}
+use lib.Dec.{ltb}
+use lib.Seq.{take-all}
+use borrow.Author.Tests.{ltb-true}
+use Rattle.base.proofs.Lists.{allb-at}
+use Rattle.report.specs.Report.{breakLine, breakLines}
+use Rattle.report.specs.Pages.{nameIn, Put}
+use Rattle.report.proofs.Writing.{put-none, put-then, put-as, put-length}
+use Rattle.report.proofs.Parts.{lines-none, lines-more}
+use Rattle.report.proofs.put_breaks.Statement.{statement}
+use Rattle.report.proofs.put_breaks.Tie as tie
+
+abbrev Inv-loop : tie.InvT-loop
+Inv-loop page₀ names list r at₀ i₀ page at i = (i ≤ length list) × (at ≤ 45 * i) × (length page ≡ length page₀) × Put page₀ page 0 (breakLines r (map (nameIn names) (take i list))) at
+
+abbrev μ-loop : tie.MeasureT-loop
+μ-loop page₀ names list r at₀ i₀ page at i = length list - i
+
+loop-holds : tie.Need-loop-holds Inv-loop μ-loop
+loop-holds c = let a = c .before .before .before .args in (omega arith, omega arith, refl, put-as (lines-none (a .r)) (put-none (now (a .page)) 0 (omega arith)))
+
+mul-wide : tie.Need-mul-wide Inv-loop μ-loop
+mul-wide c = search needs
+
+shared-slice-read-wide : tie.Need-shared-slice-read-wide Inv-loop μ-loop
+shared-slice-read-wide c = search needs
+
+wide-requires : tie.Need-wide-requires Inv-loop μ-loop
+wide-requires c κs = search needs
+
+put-break-requires : tie.Need-put-break-requires Inv-loop μ-loop
+put-break-requires c κs =
+    let a = c .before .before .before .before .before .before .before .before .args in
+    let q = c .before .before .before .before .before .before .before .before .pre in
+    let l = c .before .before .before .before .loop in
+    let low = ltb-true (getD (now (a .list)) (l .i) 0) 1024 (allb-at (λ v. ltb v 1024) (now (a .list)) 0 (q .3) (l .i) (c .before .before .before .loop-test .taken)) in
+    (omega (arith, l .inv .0, l .inv .1, l .inv .2, q .0, q .2, c .before .before .before .loop-test .taken), q .4, omega (arith, low, c .wide .ensures), q .1)
+
+add-i : tie.Need-add-i Inv-loop μ-loop
+add-i c = search needs
+
+loop-less : tie.Need-loop-less Inv-loop μ-loop
+loop-less c = search needs
+
+loop-again : tie.Need-loop-again Inv-loop μ-loop
+loop-again c =
+    let a = c .before .before .before .before .before .before .before .before .before .before .before .args in
+    let l = c .before .before .before .before .before .before .before .loop in
+    let p = c .before .before .put-break .ensures in
+    let v = c .before .before .before .wide in
+    let line : breakLine (a .r) (nameIn (now (a .names)) (v .result)) ≡ breakLine (a .r) (nameIn (now (a .names)) (getD (now (a .list)) (l .i) 0)) = ap (λ (x : ℕ). breakLine (a .r) (nameIn (now (a .names)) x)) (v .ensures) in
+    (omega (arith, c .before .before .before .before .before .before .loop-test .taken), omega (arith, l .inv .1, p .1), put-length (p .0) ∙ l .inv .2, put-as (lines-more (a .r) (nameIn (now (a .names))) (now (a .list)) (l .i) (c .before .before .before .before .before .before .loop-test .taken)) (put-then (l .inv .3) (put-as line (p .0))))
+
+same-length : tie.Need-same-length Inv-loop μ-loop
+same-length c = search needs
+
+returns : tie.Need-returns Inv-loop μ-loop
+returns c =
+    let a = c .before .before .before .before .before .args in
+    let l = c .before .loop in
+    put-as (ap (λ (t : List ℕ). breakLines (a .r) (map (nameIn (now (a .names))) t)) (take-all (l .i) (now (a .list)) (c .loop-test .left))) (l .inv .3)
+
+pub put-breaks-spec : {M : Type 1} → statement M
+put-breaks-spec =
+    tie.close
+    (tie.spec
+    Inv-loop
+    μ-loop
+    loop-holds
+    mul-wide
+    shared-slice-read-wide
+    wide-requires
+    put-break-requires
+    add-i
+    loop-less
+    loop-again
+    same-length
+    returns)

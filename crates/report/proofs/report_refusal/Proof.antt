@@ -1,0 +1,38 @@
+use borrow.Author.Needs.{needs}
+use Prim.Native.Nat.{ℕ}
+use mathlib.Core.Path.{_≡_, ap, _∙_}
+use denote.Ref.{now}
+use Rattle.report.specs.Report.{refusalReport}
+use Rattle.report.proofs.Writing.{put-as}
+use Rattle.model.specs.Refusals.{codeOf, lineOf}
+use Rattle.report.proofs.Answers.{no-room, reported}
+use Rattle.report.proofs.report_refusal.Statement.{statement}
+use Rattle.report.proofs.report_refusal.Tie as tie
+
+returns : tie.Need-returns
+returns c =
+    let a = c .before .before .args in
+    no-room (codeOf (a .refusal)) (lineOf (a .refusal)) (now (a .page)) (c .if1 .taken)
+
+code-requires : tie.Need-code-requires
+code-requires c κs = search needs
+
+line-requires : tie.Need-line-requires
+line-requires c κs = search needs
+
+put-refusal-requires : tie.Need-put-refusal-requires
+put-refusal-requires c κs = search needs
+
+same-length : tie.Need-same-length
+same-length c = search needs
+
+returns-2 : tie.Need-returns-2
+returns-2 c =
+    let a = c .before .before .before .before .before .before .before .before .args in
+    let same : refusalReport (c .before .before .before .before .code .result) (c .before .before .before .line .result) ≡ refusalReport (codeOf (a .refusal)) (lineOf (a .refusal)) = ap (λ (n : ℕ). refusalReport n (c .before .before .before .line .result)) (c .before .before .before .before .code .ensures) ∙ ap (refusalReport (codeOf (a .refusal))) (c .before .before .before .line .ensures) in
+    reported (codeOf (a .refusal)) (lineOf (a .refusal)) (now (a .page)) (c .before .before .before .before .before .before .if1 .left) (put-as same (c .before .before .put-refusal .ensures))
+
+pub report-refusal-spec : {M : Type 1} → statement M
+report-refusal-spec =
+    tie.close
+    (tie.spec returns code-requires line-requires put-refusal-requires same-length returns-2)

@@ -1,0 +1,57 @@
+-- The parts of the report by tables and lists, and what writing a text leaves on a page.
+use Prim.Native.Nat.{ℕ, zero, suc, _+_, _*_, _≤_}
+use mathlib.Core.Path.{_≡_}
+use mathlib.Core.List.{List, [], _∷_, map}
+use mathlib.Core.Bool.{Bool, true, cond, _&&_}
+use lib.Dec.{eqb, ltb, leb}
+use lib.ListN.{length, getD, take, drop}
+use lib.Seq.{sets}
+use Rattle.base.specs.Bounded.{_⇒_}
+use Rattle.base.specs.Lists.{allb}
+use Rattle.model.specs.Limits.{maxNodes, maxName}
+use Rattle.model.specs.Books.{Name}
+use Rattle.tables.specs.Layout.{nodeCount, factCount, ruleCount}
+use Rattle.report.specs.Report.{headLine, breakLines, foundLine}
+
+-- a page holds 1,024 lines of the longest names
+abbrev pub pageCount : ℕ
+pageCount = 46080
+
+-- ---- what the tables say; ns: the names, cs: the cells, ls: the rows of the lists, ks: their lengths
+-- what stands before the first zero
+unfoldable pub beforeZero : List ℕ → List ℕ
+beforeZero [] = []
+beforeZero (x ∷ s) = cond (eqb x 0) [] (x ∷ beforeZero s)
+
+-- the stored name of node v
+unfoldable pub nameIn : List ℕ → ℕ → Name
+nameIn ns v = beforeZero (take maxName (drop (32 * v) ns))
+
+-- the list of rule r
+unfoldable pub rowIn : (ls ks : List ℕ) → ℕ → List ℕ
+rowIn ls ks r = take (getD ks r 0) (drop (maxNodes * r) ls)
+
+-- how many nodes the first n rules list
+unfoldable pub foundIn : List ℕ → ℕ → ℕ
+foundIn ks zero = 0
+foundIn ks (suc n) = foundIn ks n + getD ks n 0
+
+-- part k of the report
+unfoldable pub partIn : (ns cs ls ks : List ℕ) → ℕ → List ℕ
+partIn ns cs ls ks zero = headLine (nodeCount cs) (factCount cs) (ruleCount cs)
+partIn ns cs ls ks (suc k) = cond (ltb k (ruleCount cs)) (breakLines k (map (nameIn ns) (rowIn ls ks k))) (foundLine (foundIn ks (ruleCount cs)))
+
+-- a row is in its limit and lists nodes of the tables
+unfoldable pub rowOk : (cs ls ks : List ℕ) → ℕ → Bool
+rowOk cs ls ks r = leb (getD ks r 0) maxNodes && allb (λ v. ltb v (nodeCount cs)) (rowIn ls ks r)
+
+-- of the lists, part k looks at its rule's only
+unfoldable pub partOk : (cs ls ks : List ℕ) → ℕ → Bool
+partOk cs ls ks zero = true
+partOk cs ls ks (suc k) = ltb k (ruleCount cs) ⇒ rowOk cs ls ks k
+
+-- ---- writing: the text stands on the page from `at` to `end`, and nothing else changed
+pub record Put (before after : List ℕ) (at : ℕ) (text : List ℕ) (end : ℕ) : Type 0 where
+  pub written : after ≡ sets before at text
+  pub ends : end ≡ at + length text
+  pub inside : end ≤ length before
