@@ -1,0 +1,70 @@
+// The printing program: a book on standard input, its report on standard output.
+use model::Refusal;
+use report::PAGE_BYTES;
+use report::Page;
+use report::report_part;
+use report::report_refusal;
+use tables::reads::rule_count;
+use validation::Validated;
+use validation::validate;
+
+// What stands on the page; nothing where writing it was refused.
+fn print(page: &[u8], written: Page) {
+    match written {
+        Page::Bytes(n) => {
+            if n <= page.len() {
+                io::write_all(1, &page[..n]);
+            }
+        }
+        Page::Refused(_) => {}
+    }
+}
+
+// The parts of the report, one after the other: the head, each rule's breaks, the count.
+fn print_report(
+    names: &[u8],
+    cells: &[u16],
+    values: &[i64],
+    lists: &[u16],
+    lengths: &[u16],
+    page: &mut [u8],
+) {
+    let parts = rule_count(cells) + 2;
+    for k in 0..parts {
+        let written = report_part(names, cells, values, lists, lengths, k, page);
+        print(&page[..], written);
+    }
+}
+
+fn print_refusal(refusal: Refusal, page: &mut [u8]) {
+    let written = report_refusal(refusal, page);
+    print(&page[..], written);
+}
+
+// One byte more than a book may have, so that a longer one is seen to be too long.
+fn main() {
+    let mut book = [0u8; 65537];
+    let mut names = [0u8; 45056];
+    let mut cells = [0u16; 16602];
+    let mut values = [0i64; 1136];
+    let mut plan = [0u16; 2593];
+    let mut work = [0u64; 8192];
+    let mut lists = [0u16; 32768];
+    let mut lengths = [0u16; 32];
+    let mut page = [0u8; PAGE_BYTES];
+    let n = io::read_full(0, &mut book);
+    let answer = validate(
+        &book[..n],
+        &mut names,
+        &mut cells,
+        &mut values,
+        &mut plan,
+        &mut work,
+        &mut lists,
+        &mut lengths,
+    );
+    match answer {
+        Validated::Refused(r) => print_refusal(r, &mut page),
+        Validated::Steps(_) => print_report(&names, &cells, &values, &lists, &lengths, &mut page),
+    }
+}
