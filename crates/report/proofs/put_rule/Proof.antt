@@ -46,7 +46,7 @@ put-breaks-requires c κs =
     let q = c .before .before .before .before .before .before .before .before .pre in
     let n = c .before .before .wide in
     let same : 1024 * c .before .before .before .before .before .before .before .before .args .r + n .result - 1024 * c .before .before .before .before .before .before .before .before .args .r ≡ n .result = omega arith in
-    (q .0, q .1, omega (arith, length-take (1024 * c .before .before .before .before .before .before .before .before .args .r + n .result - 1024 * c .before .before .before .before .before .before .before .before .args .r) (drop (1024 * c .before .before .before .before .before .before .before .before .args .r) (now (c .before .before .before .before .before .before .before .before .args .lists))), same, n .ensures, q .5), ap (allb (λ v. ltb v 1024)) (row-lent (now (c .before .before .before .before .before .before .before .before .args .lists)) (now (c .before .before .before .before .before .before .before .before .args .lengths)) (c .before .before .before .before .before .before .before .before .args .r) (c .before .before .wide .result) (c .before .before .wide .ensures)) ∙ q .6, q .4)
+    (q .0, q .1, omega (arith, length-take (1024 * c .before .before .before .before .before .before .before .before .args .r + n .result - 1024 * c .before .before .before .before .before .before .before .before .args .r) (drop (1024 * c .before .before .before .before .before .before .before .before .args .r) (now (c .before .before .before .before .before .before .before .before .args .lists))), same, n .ensures, q .5), ap (allb (λ v. ltb v 1024)) (row-lent (now (c .before .before .before .before .before .before .before .before .args .lists)) (now (c .before .before .before .before .before .before .before .before .args .lengths)) (c .before .before .before .before .before .before .before .before .args .r) (c .before .before .wide .result) (c .before .before .wide .ensures)) ∙ q .6, omega (arith, q .4))
 
 same-length : tie.Need-same-length
 same-length c = search needs
