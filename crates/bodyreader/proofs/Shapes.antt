@@ -1,16 +1,16 @@
 -- A shape line: what has ended above it, and what is stored for it.
 use Prim.Native.Nat.{ℕ, _+_, _*_, _-_, _≤_, _<_}
-use mathlib.Core.Path.{_≡_, refl, sym, ap, ap₂, _∙_, subst}
-use mathlib.Core.List.{List, [], _∷_}
+use mathlib.Core.Path.{_≡_, refl, sym, ap, _∙_, subst}
+use mathlib.Core.List.{List}
 use native.Mathlib.Nat.{add-zero}
 use native.Mathlib.Omega.{arith}
 use lib.IntN.{ℤ}
-use lib.ListN.{length, drop, set}
+use lib.ListN.{drop, set}
 use Rattle.model.specs.Shapes.{Shape}
-use Rattle.model.specs.Books.{Name, Line, shape, Book, shapes, names, newNames, joins, newTriples, newShapes, newRules}
-use Rattle.model.specs.Sizes.{formEntries, shapePaths, listItems, sumOver}
+use Rattle.model.specs.Books.{Name, Line, shape, Book, shapes, newNames, joins, newTriples, newShapes, newRules}
+use Rattle.model.specs.Sizes.{sumOver}
 use Rattle.model.specs.Valid.{capacity}
-use Rattle.tables.specs.Layout.{roots, nameCount, cellCount, valueCount}
+use Rattle.tables.specs.Layout.{roots, cellCount, valueCount}
 use Rattle.grammar.specs.Syntax.{new, form}
 use Rattle.grammar.specs.Reading.{Read, refused, Begun, after, begunAbove}
 use Rattle.stores.specs.Entries.{shapeCells, shapeValues}

@@ -27,7 +27,7 @@ use Rattle.stores.specs.Lines.{poolBase, putName, putNode, putFact, putRule, li
 use Rattle.itemreader.specs.Answers.{Reads, valueOf, Inside, restAt}
 use Rattle.itemreader.specs.declared.Value.{Value}
 use Rattle.itemreader.proofs.Items.{item-within, named-short, item-got, item-refused}
-use Rattle.itemreader.proofs.Heads.{rest-none, rest-got, rest-refused, close-not, close-full, close-got}
+use Rattle.itemreader.proofs.Heads.{rest-got, rest-refused, close-not, close-full, close-got}
 use Rattle.itemreader.specs.declared.Counts.{Counts}
 use Rattle.itemreader.specs.declared.Item.{Item}
 use Rattle.linereader.specs.declared.LineAnswer.{LineAnswer}

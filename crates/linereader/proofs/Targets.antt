@@ -2,16 +2,15 @@
 use Prim.Native.Nat.{ℕ, zero, suc, _+_, _≤_, _<_}
 use mathlib.Core.Path.{_≡_, refl, sym, ap, _∙_, subst}
 use mathlib.Core.List.{List, [], _∷_}
-use mathlib.Core.Bool.{Bool, true, false}
+use mathlib.Core.Bool.{true, false}
 use native.Mathlib.Omega.{arith}
-use lib.Dec.{eqb}
-use lib.ListN.{length, getD}
+use lib.ListN.{getD}
 use borrow.Author.Tests.{eq-eqb, ne-eqb}
 use Rattle.model.specs.Books.{Book, Pool, nodes, links}
 use Rattle.model.specs.Rules.{Target}
 use Rattle.encoding.specs.Rows.{targetCode, targetOperand}
 use Rattle.grammar.specs.Syntax.{Args, used, target, TargetCode, nodeC, subjectsC, objectsC, classC, targetFamily}
-use Rattle.grammar.specs.Reading.{Read, got, refused, andThen, Readers, Begun, after, argAt, closeAt, bodyAt, bracketAt, within, readersAt}
+use Rattle.grammar.specs.Reading.{Read, got, refused, Readers, Begun, after, argAt, bodyAt, bracketAt, within, readersAt}
 use Rattle.itemreader.specs.declared.Head.{Head}
 use Rattle.itemreader.specs.Answers.{headAt, Headed, wordsOf, restAt}
 use Rattle.itemreader.proofs.Heads.{rest-none, rest-got, rest-refused, close-not, close-got, bracket-bare, bracket-refused, bracket-word}

@@ -1,11 +1,11 @@
 -- The answer and the tables of a call: by whether the tables are long enough, and by the reading.
-use Prim.Native.Nat.{ℕ, _≤_}
-use mathlib.Core.Path.{_≡_, sym, _∙_}
+use Prim.Native.Nat.{ℕ}
+use mathlib.Core.Path.{_≡_}
 use mathlib.Core.List.{List}
 use mathlib.Core.Bool.{true, false}
 use lib.IntN.{ℤ}
 use Rattle.tables.specs.Sizes.{longEnough}
-use Rattle.grammar.specs.Reading.{Outcome, reading}
+use Rattle.grammar.specs.Reading.{reading}
 use Rattle.reader.specs.Answers.{Answer, refused, answered, namesLeft, cellsLeft, valuesLeft, readAnswer, namesOf, cellsOf, valuesOf}
 
 module _ (s ns cs : List ℕ) (vs : List ℤ) where

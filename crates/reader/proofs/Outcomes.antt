@@ -3,7 +3,7 @@ use Prim.Native.Nat.{ℕ, _≤_, _<_}
 use mathlib.Core.Path.{_≡_, refl, sym, ap, _∙_, subst}
 use mathlib.Core.List.{List, []}
 use mathlib.Core.Bool.{Bool, true, cond}
-use mathlib.Core.Logic.{_⊎_, inl, inr, ⊎-elim}
+use mathlib.Core.Logic.{⊎-elim}
 use native.Mathlib.Omega.{arith}
 use lib.IntN.{ℤ, pos}
 use lib.ListN.{length, drop}
@@ -16,7 +16,6 @@ use Rattle.model.proofs.Lines.{names-within, facts-within, rules-within, forms-
 use Rattle.tables.specs.Layout.{nameCount, cellCount, valueCount}
 use Rattle.encoding.specs.Encode.{entriesOf, countsOf}
 use Rattle.encoding.proofs.Counts.{entries-size}
-use Rattle.grammar.specs.Valid.{valid}
 use Rattle.grammar.specs.Reading.{Outcome, accepted, turnedDown, linesFrom, reading}
 use Rattle.grammar.proofs.Books.{valid-admissible, reading-sound}
 use Rattle.grammar.proofs.Grounds.{ground-numbered}

@@ -2,7 +2,7 @@
 use Prim.Native.Nat.{ℕ, zero, suc, _+_, _-_, _≤_, _<_}
 use mathlib.Core.Path.{_≡_, refl, sym, ap, _∙_, subst}
 use mathlib.Core.List.{List, [], _∷_, _++_}
-use mathlib.Core.Bool.{Bool, true, cond}
+use mathlib.Core.Bool.{Bool, cond}
 use native.Mathlib.Nat.{sub-zero}
 use native.Mathlib.Omega.{arith}
 use lib.Dec.{ltb, leb}
@@ -14,18 +14,17 @@ use Rattle.base.specs.Columns.{flat}
 use Rattle.base.proofs.Bools.{bool-cases, and-left}
 use Rattle.base.proofs.Columns.{length-flat}
 use Rattle.text.specs.Items.{isName}
-use Rattle.text.specs.Pool.{find, indexOf}
-use Rattle.model.specs.Books.{Name, Line, Book, Pool, nodes, links, types, langs, shapes, builtIn, newNames, newTriples, newShapes, newRules, collect, names, rules}
+use Rattle.model.specs.Books.{Line, Book, Pool, nodes, links, types, langs, shapes, builtIn, newNames, newTriples, newShapes, newRules, collect, names, rules}
 use Rattle.model.specs.Sizes.{sumOver, formEntries, shapePaths, listItems, formsIn, pathsIn, itemsIn}
 use Rattle.model.proofs.Lines.{collect-snoc, names-snoc, sum-append}
 use Rattle.tables.specs.Layout.{nameCount, cellCount, valueCount, nodeKinds}
 use Rattle.encoding.specs.Encode.{nameColumns, cellColumns, valueColumns, encodeNames}
 use Rattle.grammar.specs.Writing.{writeLine}
-use Rattle.grammar.specs.Valid.{wellNamed, reserved, validLine, validFrom}
+use Rattle.grammar.specs.Valid.{wellNamed}
 use Rattle.grammar.specs.Reading.{Read, got, refused, lineAt, Outcome, accepted, turnedDown, follow, linesFrom}
 use Rattle.grammar.proofs.Lines.{line-sound}
 use Rattle.grammar.proofs.Books.{Sane, sane-start, sane-more, pools-of, fit-of, longer}
-use Rattle.stores.specs.Lines.{poolBase, lineNames, lineCells, lineValues, linesNames, linesCells, linesValues, cleared}
+use Rattle.stores.specs.Lines.{lineNames, lineCells, lineValues, linesNames, linesCells, linesValues, cleared}
 use Rattle.stores.proofs.Prefixes.{Prefix, prefix-start, prefix-valid}
 use Rattle.stores.proofs.Entries.{cellTable, valueTable}
 use Rattle.stores.proofs.Lines.{soFar, line-cells, line-values}

@@ -6,7 +6,7 @@ use Rattle.model.specs.Books.{shape, shapes}
 use Rattle.itemreader.specs.declared.Counts.{Counts}
 use Rattle.linereader.specs.declared.LineAnswer.{LineAnswer}
 use Rattle.linereader.specs.Storing.{lineEnd}
-use Rattle.linereader.proofs.Bodies.{new-place, done-yes, ended-no, ended-yes}
+use Rattle.linereader.proofs.Bodies.{done-yes, ended-no, ended-yes}
 use Rattle.bodyreader.proofs.Shapes.{shape-counted, shape-names, shape-roots, shape-values, done-past, shape-place}
 use borrow.Author.Needs.{needs}
 use Rattle.bodyreader.proofs.shape_end.Statement.{statement}

@@ -1,5 +1,5 @@
 use Prim.Native.Nat.{_+_}
-use mathlib.Core.Path.{_≡_, refl, sym, ap, _∙_, subst}
+use mathlib.Core.Path.{refl, sym, ap, _∙_}
 use mathlib.Core.List.{[], _∷_}
 use mathlib.Core.Bool.{true}
 use native.Mathlib.Nat.{add-zero}
@@ -15,8 +15,7 @@ use Rattle.leafreader.specs.Forms.{begunOf, FormRead}
 use Rattle.leafreader.proofs.Forms.{form-got, form-refused, within-is}
 use Rattle.linereader.specs.Storing.{lineEnd, lineBody}
 use Rattle.linereader.proofs.Bodies.{item-stop, new-got, new-facts, done-no, done-same, body-is, stop₁, stop₂, all₂}
-use Rattle.bodyreader.specs.Storing.{FormHeld}
-use Rattle.bodyreader.proofs.Shapes.{endedNow, ended-above, begun-after, form-held, done-past, shape-room}
+use Rattle.bodyreader.proofs.Shapes.{endedNow, begun-after, form-held, done-past, shape-room}
 use borrow.Author.Needs.{needs}
 use Rattle.bodyreader.proofs.shape_line.Statement.{statement}
 use Rattle.bodyreader.proofs.shape_line.Tie as tie

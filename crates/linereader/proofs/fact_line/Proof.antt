@@ -1,9 +1,7 @@
-use Prim.Native.Nat.{ℕ, _+_}
-use mathlib.Core.Path.{_≡_, refl, sym, ap, _∙_}
+use mathlib.Core.Path.{refl, ap, _∙_}
 use mathlib.Core.List.{[], _∷_}
 use native.Mathlib.Omega.{arith}
-use lib.Dec.{ltb}
-use Rattle.model.specs.Books.{Book, Line, fact, nodes, links}
+use Rattle.model.specs.Books.{fact, nodes, links}
 use Rattle.grammar.specs.Syntax.{subject, used, factL, lineFamily}
 use Rattle.grammar.specs.Reading.{argAt, after, readersAt, lineRoom, begunAbove}
 use Rattle.itemreader.specs.declared.Counts.{Counts}

@@ -1,9 +1,9 @@
 use Prim.Native.Nat.{_+_}
-use mathlib.Core.Path.{refl, sym, ap, _∙_}
+use mathlib.Core.Path.{refl, ap, _∙_}
 use mathlib.Core.Bool.{true}
 use lib.ListN.{length}
 use lib.Seq.{slice}
-use Rattle.itemreader.specs.Answers.{poolOf, same}
+use Rattle.itemreader.specs.Answers.{poolOf}
 use Rattle.itemreader.specs.Held.{countOf}
 use Rattle.itemreader.proofs.Items.{below-is}
 use Rattle.grammar.specs.Syntax.{new}

@@ -1,16 +1,13 @@
-use Prim.Native.Nat.{_+_, _<_, _≤_}
-use mathlib.Core.Path.{_≡_, refl, sym, ap, _∙_}
-use mathlib.Core.Bool.{false}
+use mathlib.Core.Path.{sym, ap, _∙_}
 use native.Mathlib.Omega.{arith}
-use lib.ListN.{length, getD}
+use lib.ListN.{length}
 use Rattle.text.proofs.Parts.{inside}
 use Rattle.model.specs.Books.{Pool}
-use Rattle.grammar.specs.Syntax.{used, targetFamily}
+use Rattle.grammar.specs.Syntax.{used}
 use Rattle.grammar.specs.Reading.{argAt, readersAt}
 use Rattle.itemreader.specs.Answers.{poolOf, same}
-use Rattle.itemreader.specs.Held.{countOf}
 use Rattle.itemreader.proofs.Items.{below-is, number-got, count-limit}
-use Rattle.linereader.specs.Storing.{operandPool, targetAnswer}
+use Rattle.linereader.specs.Storing.{targetAnswer}
 use Rattle.linereader.proofs.Bodies.{item-no}
 use Rattle.linereader.proofs.Targets.{headed-is, target-bare, target-closed, target-unknown, target-word, target-stop, target-open, target-got}
 use borrow.Author.Needs.{needs}

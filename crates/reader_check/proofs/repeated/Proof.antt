@@ -1,4 +1,4 @@
-use Prim.Native.Nat.{_≤_, _<_, _-_}
+use Prim.Native.Nat.{_≤_, _-_}
 use borrow.Author.Needs.{needs}
 use Rattle.reader_check.proofs.repeated.Statement.{statement}
 use Rattle.reader_check.proofs.repeated.Tie as tie
