@@ -3,6 +3,7 @@ use Prim.Native.Nat.{ℕ, _≤_, _<_}
 use mathlib.Core.List.{List}
 use mathlib.Core.Bool.{Bool, true, false, _&&_}
 use mathlib.Core.Path.{_≡_, ap}
+use native.Mathlib.Omega.{arith}
 use lib.Dec.{leb}
 use lib.IntN.{ℤ}
 use lib.ListN.{length}
@@ -45,35 +46,35 @@ lent ns cs vs ls ks page e =
 
 module _ (ns cs : List ℕ) (vs : List ℤ) (ls ks : List ℕ) (k : ℕ) (page : List ℕ) where
   abbrev Answered : Answer → List ℕ → Type 0
-  Answered a now = (a ≡ partSaid ns cs vs ls ks k page) × (now ≡ partAfter ns cs vs ls ks k page)
+  Answered a now = (a ≡ partSaid ns cs vs ls ks k page) × ((now ≡ partAfter ns cs vs ls ks k page) × (a .bytes ≤ length page))
 
   pub short : long ns cs vs ls ks page ≡ false → Answered (refused 8) page
   unfolding partSaid partAfter
-  short e = (rw e, rw e)
+  short e = (rw e, (rw e, omega arith))
 
   module _ (l : long ns cs vs ls ks page ≡ true) where
     pub malformed : right ns cs vs ls ks k page ≡ false → Answered (refused 9) page
     unfolding partSaid partAfter
-    malformed e = (rw (l, e), rw (l, e))
+    malformed e = (rw (l, e), (rw (l, e), omega arith))
 
     module _ (w : right ns cs vs ls ks k page ≡ true) where
       pub absent : known ns cs vs ls ks k page ≡ false → Answered (refused 10) page
       unfolding partSaid partAfter
-      absent e = (rw (l, w, e), rw (l, w, e))
+      absent e = (rw (l, w, e), (rw (l, w, e), omega arith))
 
       pub done : known ns cs vs ls ks k page ≡ true → {now : List ℕ} {n : ℕ} → Put page now 0 (text ns cs vs ls ks k page) n → Answered (wrote n) now
       unfolding partSaid partAfter
-      done e p = (rw (l, w, e) (ap wrote (put-front p .0)), rw (l, w, e) (put-front p .1))
+      done e p = (rw (l, w, e) (ap wrote (put-front p .0)), (rw (l, w, e) (put-front p .1), p .inside))
 
 -- ---- the report of a refusal
 module _ (number at : ℕ) (page : List ℕ) where
   abbrev Reported : Answer → List ℕ → Type 0
-  Reported a now = (a ≡ refusalSaid number at page) × (now ≡ refusalAfter number at page)
+  Reported a now = (a ≡ refusalSaid number at page) × ((now ≡ refusalAfter number at page) × (a .bytes ≤ length page))
 
   pub no-room : length page < pageCount → Reported (refused 8) page
   unfolding refusalSaid refusalAfter
-  no-room h = (rw (lt-leb pageCount (length page) h), rw (lt-leb pageCount (length page) h))
+  no-room h = (rw (lt-leb pageCount (length page) h), (rw (lt-leb pageCount (length page) h), omega arith))
 
   pub reported : pageCount ≤ length page → {now : List ℕ} {n : ℕ} → Put page now 0 (refusalReport number at) n → Reported (wrote n) now
   unfolding refusalSaid refusalAfter
-  reported h p = (rw (le-leb pageCount (length page) h) (ap wrote (put-front p .0)), rw (le-leb pageCount (length page) h) (put-front p .1))
+  reported h p = (rw (le-leb pageCount (length page) h) (ap wrote (put-front p .0)), (rw (le-leb pageCount (length page) h) (put-front p .1), p .inside))

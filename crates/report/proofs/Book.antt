@@ -33,7 +33,8 @@ use Rattle.encoding.proofs.Counts.{cells-length, names-length, names-counted, f
 use Rattle.encoding.proofs.Names.{short, name-at, padded-at}
 use Rattle.encoding.proofs.WellFormed.{well-formed}
 use Rattle.stores.proofs.Prefixes.{prefix-valid}
-use Rattle.lists.specs.Rows.{over}
+use Rattle.lists.specs.Rows.{over, withRows, withLengths}
+use Rattle.lists.proofs.ReadOff.{length-read, nodes-read}
 use Rattle.lists.proofs.Rows.{few}
 use Rattle.report.specs.Report.{headLine, breakLines, foundLine, ruleLines, found, firstLine, lastLine, report, noRule, part, joined}
 use Rattle.report.specs.Pages.{beforeZero, nameIn, rowIn, foundIn, partIn, rowOk, partOk}
@@ -121,6 +122,17 @@ module _ (b : Book) (v : valid b ≡ true) where
   list-few : (r : Rule) → length (listOf b r) ≤ 1024
   unfolding listOf violations graphOf
   list-few r = omega (arith, few (violates (graphOf b) (schema b) r) (graphOf b .nodes), terms-counted b, few-nodes)
+
+  -- ---- lists that stand at the front of their rows
+  pub holds-rows : (ls ks : List ℕ) → 1024 * length (rules b) ≤ length ls → length (rules b) ≤ length ks → Holds b (withRows (λ r. listOf b (getD (rules b) r noRule)) (length (rules b)) ls) (withLengths (λ r. listOf b (getD (rules b) r noRule)) (length (rules b)) ks)
+  holds-rows ls ks room more =
+      let list : ℕ → List ℕ = λ r. listOf b (getD (rules b) r noRule) in
+      let short : (r : ℕ) → length (listOf b (getD (rules b) r noRule)) ≤ 1024 = λ r. list-few (getD (rules b) r noRule) in
+      let size = length-read list short (length (rules b)) ks more in
+      record {
+        row = λ r low. ap (λ (k : ℕ). take k (drop (1024 * r) (withRows list (length (rules b)) ls))) (size r low) ∙ nodes-read list short (length (rules b)) ls room r low;
+        size = size;
+      }
 
   -- ---- its name is stored
   module _ (t : List ℕ) where

@@ -1,5 +1,7 @@
 // The report of a whole run, written to a lent page part by part.
 // Operations: report_part, a part of the report of a book; report_refusal, the report of a refusal.
+use lists::LENGTH_PLACES;
+use lists::LIST_PLACES;
 use model::MAX_NAME;
 use model::MAX_NODES;
 use model::Refusal;
@@ -28,11 +30,7 @@ ghost use Rattle.report.specs.Report.{headLine, breakLine, breakLines, f
 ghost use Rattle.report.specs.Pages.{pageCount, nameIn, rowIn, foundIn, partIn, rowOk, partOk, Put};
 ghost use Rattle.report.specs.Answers.{saidOf, long, partSaid, partAfter, refusalSaid, refusalAfter};
 
-// 32 rows of 1,024 places, a length for each, and a page for 1,024 lines of the longest names.
-pub const LIST_CELLS: usize = 32768;
-
-pub const LENGTH_CELLS: usize = 32;
-
+// A page for 1,024 lines of the longest names.
 pub const PAGE_BYTES: usize = 46080;
 
 // How many bytes stand on the page; or why there are none.
@@ -266,8 +264,8 @@ fn long_enough(
     ensures { λ r. ⌜ r ≡ long (now (names .entry)) (now (cells .entry)) (now (values .entry)) (now (lists .entry)) (now (lengths .entry)) (now (page .entry)) ⌝ }
 {
     enough(names, cells, values)
-        & ((LIST_CELLS <= lists.len())
-            & ((LENGTH_CELLS <= lengths.len()) & (PAGE_BYTES <= page.len())))
+        & ((LIST_PLACES <= lists.len())
+            & ((LENGTH_PLACES <= lengths.len()) & (PAGE_BYTES <= page.len())))
 }
 
 // The operation: part k of the report at the front of a lent page; what lies past it stays. Part 0 is the first line, parts 1
@@ -284,6 +282,7 @@ pub fn report_part(
 ) -> Page
     ensures { λ r. ⌜ saidOf r ≡ partSaid (now (names .entry)) (now (cells .entry)) (now (values .entry)) (now (lists .entry)) (now (lengths .entry)) k (now (page .entry)) ⌝ }
     ensures { λ _. ⌜ now (page .exit) ≡ partAfter (now (names .entry)) (now (cells .entry)) (now (values .entry)) (now (lists .entry)) (now (lengths .entry)) k (now (page .entry)) ⌝ }
+    ensures { λ r. ⌜ saidOf r .bytes ≤ length (now (page .entry)) ⌝ }
 {
     if !long_enough(names, cells, values, lists, lengths, &page[..]) {
         return Page::Refused(Refusal::Short);
@@ -303,6 +302,7 @@ pub fn report_part(
 pub fn report_refusal(refusal: Refusal, page: &mut [u8]) -> Page
     ensures { λ r. ⌜ saidOf r ≡ refusalSaid (codeOf refusal) (lineOf refusal) (now (page .entry)) ⌝ }
     ensures { λ _. ⌜ now (page .exit) ≡ refusalAfter (codeOf refusal) (lineOf refusal) (now (page .entry)) ⌝ }
+    ensures { λ r. ⌜ saidOf r .bytes ≤ length (now (page .entry)) ⌝ }
 {
     if page.len() < PAGE_BYTES {
         return Page::Refused(Refusal::Short);

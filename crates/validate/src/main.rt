@@ -7,14 +7,17 @@ use report::report_refusal;
 use tables::reads::rule_count;
 use validation::Validated;
 use validation::validate;
+ghost use Prim.Native.Nat.{_≤_};
+ghost use lib.ListN.{length};
+ghost use Rattle.report.specs.Answers.{saidOf};
 
-// What stands on the page; nothing where writing it was refused.
-fn print(page: &[u8], written: Page) {
+// What was written to the page; nothing where that was refused.
+fn print(page: &[u8], written: Page)
+    requires { ⌜ saidOf written .bytes ≤ length (now page) ⌝ }
+{
     match written {
         Page::Bytes(n) => {
-            if n <= page.len() {
-                io::write_all(1, &page[..n]);
-            }
+            io::write_all(1, &page[..n]);
         }
         Page::Refused(_) => {}
     }
