@@ -1,8 +1,12 @@
-//! A second implementation of document 01, written from the document alone: simple, unproved, for comparison.
+//! A second implementation of document 01, written from the document alone: simple, unproved, for comparison. Where cells stand
+//! in lent tables and plans is taken from docs/LAYOUT.md; nothing is taken from the project's code.
 
 pub mod plan;
 pub mod reader;
+pub mod set;
+pub mod tables;
 
+use set::Set;
 use std::collections::BTreeSet;
 
 #[derive(Clone, Debug, PartialEq)]
@@ -14,28 +18,31 @@ pub enum Term {
     Words(usize),
 }
 
-#[derive(Clone, Debug)]
+/// A path entry; parts are numbers of entries before it.
+#[derive(Clone, Debug, PartialEq)]
 pub enum Path {
     Link(usize),
-    Inv(Box<Path>),
-    Seq(Box<Path>, Box<Path>),
-    Alt(Box<Path>, Box<Path>),
+    Inv(usize),
+    Seq(usize, usize),
+    Alt(usize, usize),
 }
 
-#[derive(Clone, Debug)]
+/// END: the node itself or a path entry.
+#[derive(Clone, Copy, Debug, PartialEq)]
 pub enum End {
     Id,
-    Along(Path),
+    Along(usize),
 }
 
-#[derive(Clone, Debug)]
+/// A form entry; parts are numbers of form entries before it, paths are numbers of path entries.
+#[derive(Clone, Debug, PartialEq)]
 pub enum Form {
     True,
     Is(usize),
     Shape(usize),
-    And(Box<Form>, Box<Form>),
-    Or(Box<Form>, Box<Form>),
-    Not(Box<Form>),
+    And(usize, usize),
+    Or(usize, usize),
+    Not(usize),
     Kind(usize),
     Datatype(usize),
     Lang(Vec<usize>),
@@ -43,17 +50,17 @@ pub enum Form {
     Above(i64),
     To(i64),
     Below(i64),
-    Count(usize, Option<usize>, Path, Box<Form>),
-    All(Path, Box<Form>),
+    Count { path: usize, form: usize, lo: usize, hi: Option<usize> },
+    All(usize, usize),
     Equal(End, usize),
     Apart(End, usize),
     Closed(Vec<usize>),
-    Less(Path, usize),
-    Lesseq(Path, usize),
-    Onelang(Path),
+    Less(usize, usize),
+    Lesseq(usize, usize),
+    Onelang(usize),
 }
 
-#[derive(Clone, Debug)]
+#[derive(Clone, Debug, PartialEq)]
 pub enum Target {
     Node(usize),
     Subjects(usize),
@@ -61,54 +68,79 @@ pub enum Target {
     Class(usize),
 }
 
-#[derive(Clone, Debug, Default)]
+/// What a book says, or what tables say.
+#[derive(Clone, Debug, Default, PartialEq)]
 pub struct Book {
-    /// nodes, links, types, langs, shapes
-    pub pools: [Vec<String>; 5],
+    /// the names of nodes, links, types, langs, shapes
+    pub pools: [Vec<Vec<u8>>; 5],
     pub terms: Vec<Term>,
     /// every fact line, repeats included
     pub facts: Vec<(usize, usize, usize)>,
-    pub shapes: Vec<Form>,
+    /// entries in the order in which they end
+    pub paths: Vec<Path>,
+    pub forms: Vec<Form>,
+    /// the form entry of each shape
+    pub shapes: Vec<usize>,
     pub rules: Vec<(usize, Target)>,
 }
 
-type Set = BTreeSet<usize>;
+/// For each node, the nodes that it leads to.
+pub type Ends = Vec<Set>;
+
+/// Every pair of a first and a second end has numbers in the order asked.
+fn every_pair(book: &Book, first: &Set, second: &Set, order: impl Fn(i64, i64) -> bool) -> bool {
+    first.iter().all(|x| {
+        second.iter().all(|y| match (book.number(x), book.number(y)) {
+            (Some(s), Some(t)) => order(s, t),
+            _ => false,
+        })
+    })
+}
 
 impl Book {
-    pub fn ends(&self, path: &Path, v: usize) -> Set {
-        match path {
-            Path::Link(p) => self.facts.iter().filter(|f| f.0 == v && f.1 == *p).map(|f| f.2).collect(),
-            Path::Inv(e) => self.starts(e, v),
-            Path::Seq(d, e) => self.ends(d, v).into_iter().flat_map(|u| self.ends(e, u)).collect(),
-            Path::Alt(d, e) => self.ends(d, v).union(&self.ends(e, v)).copied().collect(),
-        }
+    pub fn nodes(&self) -> usize {
+        self.terms.len()
     }
 
-    /// the nodes from which the path leads to w
-    fn starts(&self, path: &Path, w: usize) -> Set {
-        match path {
-            Path::Link(p) => self.facts.iter().filter(|f| f.2 == w && f.1 == *p).map(|f| f.0).collect(),
-            Path::Inv(e) => self.ends(e, w),
-            Path::Seq(d, e) => self.starts(e, w).into_iter().flat_map(|u| self.starts(d, u)).collect(),
-            Path::Alt(d, e) => self.starts(d, w).union(&self.starts(e, w)).copied().collect(),
-        }
+    /// the ends of the facts by link p, from each node
+    pub fn link_ends(&self, p: usize) -> Ends {
+        let mut ends = vec![Set::default(); self.nodes()];
+        self.facts.iter().filter(|f| f.1 == p).for_each(|f| ends[f.0].insert(f.2));
+        ends
     }
 
-    fn end_set(&self, end: &End, v: usize) -> Set {
-        match end {
-            End::Id => Set::from([v]),
-            End::Along(e) => self.ends(e, v),
+    /// the ends of each path entry, from each node
+    pub fn ends(&self) -> Vec<Ends> {
+        let mut all: Vec<Ends> = Vec::new();
+        for path in &self.paths {
+            let ends = match *path {
+                Path::Link(p) => self.link_ends(p),
+                Path::Inv(d) => {
+                    let mut back = vec![Set::default(); self.nodes()];
+                    for (v, set) in all[d].iter().enumerate() {
+                        set.iter().for_each(|w| back[w].insert(v));
+                    }
+                    back
+                }
+                Path::Seq(d, e) => {
+                    let through = |set: &Set| set.iter().fold(Set::default(), |sum, u| sum.or(&all[e][u]));
+                    all[d].iter().map(through).collect()
+                }
+                Path::Alt(d, e) => all[d].iter().zip(&all[e]).map(|(x, y)| x.or(y)).collect(),
+            };
+            all.push(ends);
         }
+        all
     }
 
-    fn value(&self, v: usize) -> Option<i64> {
+    pub fn number(&self, v: usize) -> Option<i64> {
         match self.terms[v] {
             Term::Number(_, x) => Some(x),
             _ => None,
         }
     }
 
-    fn language(&self, v: usize) -> Option<usize> {
+    pub fn language(&self, v: usize) -> Option<usize> {
         match self.terms[v] {
             Term::Words(l) => Some(l),
             _ => None,
@@ -123,24 +155,9 @@ impl Book {
         }
     }
 
-    fn pairs(&self, a: &Set, b: &Set, ok: impl Fn(i64, i64) -> bool) -> bool {
-        a.iter().all(|&x| {
-            b.iter().all(|&y| match (self.value(x), self.value(y)) {
-                (Some(s), Some(t)) => ok(s, t),
-                _ => false,
-            })
-        })
-    }
-
-    /// Table 1; memo: what is known of (shape, node)
-    pub fn meets(&self, form: &Form, v: usize, memo: &mut Vec<Vec<Option<bool>>>) -> bool {
+    /// the conditions that look at the node alone
+    pub fn test(&self, form: &Form, v: usize) -> bool {
         match form {
-            Form::True => true,
-            Form::Is(c) => v == *c,
-            Form::Shape(s) => self.conforms(*s, v, memo),
-            Form::And(f, g) => self.meets(f, v, memo) && self.meets(g, v, memo),
-            Form::Or(f, g) => self.meets(f, v, memo) || self.meets(g, v, memo),
-            Form::Not(f) => !self.meets(f, v, memo),
             Form::Kind(k) => {
                 *k == match self.terms[v] {
                     Term::Thing => 0,
@@ -149,39 +166,72 @@ impl Book {
                 }
             }
             Form::Datatype(t) => self.datatype(v) == Some(*t),
-            Form::Lang(ls) => self.language(v).is_some_and(|l| ls.contains(&l)),
-            Form::From(x) => self.value(v).is_some_and(|y| y >= *x),
-            Form::Above(x) => self.value(v).is_some_and(|y| y > *x),
-            Form::To(x) => self.value(v).is_some_and(|y| y <= *x),
-            Form::Below(x) => self.value(v).is_some_and(|y| y < *x),
-            Form::Count(lo, hi, e, f) => {
-                let n = self.ends(e, v).into_iter().filter(|&w| self.meets(f, w, memo)).count();
-                *lo <= n && hi.map_or(true, |h| n <= h)
-            }
-            Form::All(e, f) => self.ends(e, v).into_iter().all(|w| self.meets(f, w, memo)),
-            Form::Equal(e, p) => self.end_set(e, v) == self.ends(&Path::Link(*p), v),
-            Form::Apart(e, p) => self.end_set(e, v).is_disjoint(&self.ends(&Path::Link(*p), v)),
-            Form::Closed(ps) => self.facts.iter().filter(|f| f.0 == v).all(|f| ps.contains(&f.1)),
-            Form::Less(e, p) => self.pairs(&self.ends(e, v), &self.ends(&Path::Link(*p), v), |s, t| s < t),
-            Form::Lesseq(e, p) => self.pairs(&self.ends(e, v), &self.ends(&Path::Link(*p), v), |s, t| s <= t),
-            Form::Onelang(e) => {
-                let mut seen = BTreeSet::new();
-                self.ends(e, v).into_iter().filter_map(|w| self.language(w)).all(|l| seen.insert(l))
-            }
+            Form::Lang(langs) => self.language(v).is_some_and(|l| langs.contains(&l)),
+            Form::From(x) => self.number(v).is_some_and(|y| y >= *x),
+            Form::Above(x) => self.number(v).is_some_and(|y| y > *x),
+            Form::To(x) => self.number(v).is_some_and(|y| y <= *x),
+            Form::Below(x) => self.number(v).is_some_and(|y| y < *x),
+            _ => unreachable!("not a test"),
         }
     }
 
-    pub fn conforms(&self, s: usize, v: usize, memo: &mut Vec<Vec<Option<bool>>>) -> bool {
-        if let Some(known) = memo[s][v] {
-            return known;
-        }
-        let answer = self.meets(&self.shapes[s], v, memo);
-        memo[s][v] = Some(answer);
-        answer
+    pub fn closed(&self, links: &[usize], v: usize) -> bool {
+        self.facts.iter().filter(|f| f.0 == v).all(|f| links.contains(&f.1))
     }
 
-    pub fn memo(&self) -> Vec<Vec<Option<bool>>> {
-        vec![vec![None; self.terms.len()]; self.shapes.len()]
+    pub fn less(&self, first: &Set, second: &Set) -> bool {
+        every_pair(self, first, second, |s, t| s < t)
+    }
+
+    pub fn lesseq(&self, first: &Set, second: &Set) -> bool {
+        every_pair(self, first, second, |s, t| s <= t)
+    }
+
+    pub fn onelang(&self, ends: &Set) -> bool {
+        let mut seen = BTreeSet::new();
+        ends.iter().filter_map(|w| self.language(w)).all(|l| seen.insert(l))
+    }
+
+    pub fn end_set(&self, ends: &[Ends], end: End, v: usize) -> Set {
+        match end {
+            End::Id => Set::of(self.nodes(), |w| w == v),
+            End::Along(e) => ends[e][v],
+        }
+    }
+
+    /// Table 1: for each form entry, the nodes that meet it
+    pub fn met(&self) -> Vec<Set> {
+        let ends = self.ends();
+        let mut met: Vec<Set> = Vec::new();
+        for form in &self.forms {
+            let link = match form {
+                Form::Equal(_, p) | Form::Apart(_, p) | Form::Less(_, p) | Form::Lesseq(_, p) => self.link_ends(*p),
+                _ => Vec::new(),
+            };
+            let meets = |v: usize| match form {
+                Form::True => true,
+                Form::Is(c) => v == *c,
+                Form::Shape(s) => met[self.shapes[*s]].has(v),
+                Form::And(f, g) => met[*f].has(v) && met[*g].has(v),
+                Form::Or(f, g) => met[*f].has(v) || met[*g].has(v),
+                Form::Not(f) => !met[*f].has(v),
+                Form::Count { path, form, lo, hi } => {
+                    let n = ends[*path][v].iter().filter(|&w| met[*form].has(w)).count();
+                    *lo <= n && hi.map_or(true, |h| n <= h)
+                }
+                Form::All(e, f) => ends[*e][v].iter().all(|w| met[*f].has(w)),
+                Form::Equal(e, _) => self.end_set(&ends, *e, v) == link[v],
+                Form::Apart(e, _) => self.end_set(&ends, *e, v).and(&link[v]).is_empty(),
+                Form::Closed(links) => self.closed(links, v),
+                Form::Less(e, _) => self.less(&ends[*e][v], &link[v]),
+                Form::Lesseq(e, _) => self.lesseq(&ends[*e][v], &link[v]),
+                Form::Onelang(e) => self.onelang(&ends[*e][v]),
+                test => self.test(test, v),
+            };
+            let set = Set::of(self.nodes(), meets);
+            met.push(set);
+        }
+        met
     }
 
     pub fn selects(&self, target: &Target, v: usize) -> bool {
@@ -193,29 +243,39 @@ impl Book {
         }
     }
 
-    pub fn lists(&self) -> Vec<Vec<usize>> {
-        let mut memo = self.memo();
-        self.rules
-            .iter()
-            .map(|(s, t)| (0..self.terms.len()).filter(|&v| self.selects(t, v) && !self.conforms(*s, v, &mut memo)).collect())
-            .collect()
+    /// the list of each rule: the nodes that it selects and that do not meet its shape
+    pub fn lists(&self, met: &[Set]) -> Vec<Vec<usize>> {
+        let broken = |(s, target): &(usize, Target), v: usize| self.selects(target, v) && !met[self.shapes[*s]].has(v);
+        self.rules.iter().map(|rule| (0..self.nodes()).filter(|&v| broken(rule, v)).collect()).collect()
+    }
+
+    pub fn head_line(&self) -> String {
+        format!("(book {} {} {})\n", self.nodes(), self.facts.len(), self.rules.len())
+    }
+
+    /// the lines of rule r for a list of nodes
+    pub fn break_lines(&self, r: usize, list: &[usize]) -> Vec<u8> {
+        let line = |&v: &usize| [format!("(breaks {r} ").as_bytes(), self.pools[0][v].as_slice(), b")\n"].concat();
+        list.iter().flat_map(line).collect()
     }
 }
 
+pub fn found_line(count: usize) -> String {
+    format!("(found {count})\n")
+}
+
 /// What the printing program writes for a book's bytes.
-pub fn report(bytes: &[u8]) -> String {
-    let book = match reader::read(bytes) {
-        Err((number, line)) => return format!("(refused {number} {line})\n"),
-        Ok(book) => book,
-    };
-    let mut out = format!("(book {} {} {})\n", book.terms.len(), book.facts.len(), book.rules.len());
-    let mut found = 0;
-    for (r, list) in book.lists().iter().enumerate() {
-        for &v in list {
-            out.push_str(&format!("(breaks {r} {})\n", book.pools[0][v]));
-            found += 1;
-        }
+pub fn report(text: &[u8]) -> Vec<u8> {
+    match reader::read(text) {
+        Err((number, line)) => format!("(refused {number} {line})\n").into_bytes(),
+        Ok(book) => report_of(&book, &book.lists(&book.met())),
     }
-    out.push_str(&format!("(found {found})\n"));
+}
+
+/// The report of an accepted book with these lists.
+pub fn report_of(book: &Book, lists: &[Vec<usize>]) -> Vec<u8> {
+    let mut out = book.head_line().into_bytes();
+    lists.iter().enumerate().for_each(|(r, list)| out.extend(book.break_lines(r, list)));
+    out.extend(found_line(lists.iter().map(Vec::len).sum()).bytes());
     out
 }

@@ -9,7 +9,7 @@ pub const LINKS: usize = 1;
 pub const TYPES: usize = 2;
 pub const LANGS: usize = 3;
 pub const SHAPES: usize = 4;
-const ROOM: [usize; 5] = [1024, 256, 32, 32, 64];
+pub const ROOM: [usize; 5] = [1024, 256, 32, 32, 64];
 
 struct Cursor<'a> {
     text: &'a [u8],
@@ -25,8 +25,8 @@ pub fn read(text: &[u8]) -> Result<Book, (u8, usize)> {
         return Err((1, 0));
     }
     let mut book = Book::default();
-    book.pools[LINKS].push("a".into());
-    book.pools[TYPES].push("langstring".into());
+    book.pools[LINKS].push(b"a".to_vec());
+    book.pools[TYPES].push(b"langstring".to_vec());
     let mut c = Cursor { text, at: 0, open: 0, forms: 0, paths: 0, items: 0 };
     let mut line = 0;
     while c.at < text.len() {
@@ -77,18 +77,18 @@ impl<'a> Cursor<'a> {
 
     fn used(&mut self, book: &Book, pool: usize) -> Read<usize> {
         let word = self.name(pool)?;
-        book.pools[pool].iter().position(|n| n.as_bytes() == word).ok_or(5)
+        book.pools[pool].iter().position(|n| n == word).ok_or(5)
     }
 
-    fn new_name(&mut self, book: &Book, pool: usize) -> Read<String> {
+    fn new_name(&mut self, book: &Book, pool: usize) -> Read<Vec<u8>> {
         let word = self.name(pool)?;
-        if book.pools[pool].iter().any(|n| n.as_bytes() == word) {
+        if book.pools[pool].iter().any(|n| n == word) {
             return Err(6);
         }
         if book.pools[pool].len() >= ROOM[pool] {
             return Err(7);
         }
-        Ok(String::from_utf8(word.to_vec()).unwrap())
+        Ok(word.to_vec())
     }
 
     fn value(&mut self) -> Read<i64> {
@@ -100,7 +100,8 @@ impl<'a> Cursor<'a> {
         std::str::from_utf8(word).unwrap().parse().map_err(|_| 3)
     }
 
-    fn bound(&mut self, word: &[u8]) -> Read<usize> {
+    fn low(&mut self) -> Read<usize> {
+        let word = self.word();
         if !decimal(word) {
             return Err(2);
         }
@@ -108,6 +109,15 @@ impl<'a> Cursor<'a> {
             Ok(n) if n <= 1024 => Ok(n),
             _ => Err(3),
         }
+    }
+
+    fn high(&mut self) -> Read<Option<usize>> {
+        let from = self.at;
+        if self.word() == b"*" {
+            return Ok(None);
+        }
+        self.at = from;
+        self.low().map(Some)
     }
 
     /// the word of a bracket that opens here: its place among those known
@@ -228,34 +238,44 @@ impl<'a> Cursor<'a> {
         Ok(target)
     }
 
-    fn path(&mut self, book: &Book) -> Read<Path> {
-        if self.peek() != b'(' {
-            let p = self.used(book, LINKS)?;
-            if self.paths >= 128 {
-                return Err(7);
-            }
-            self.paths += 1;
-            return Ok(Path::Link(p));
-        }
-        let k = self.head(&["inv", "seq", "alt"])?;
-        if self.paths >= 128 {
-            return Err(7);
-        }
+    /// counts a path entry as it begins
+    fn begin_path(&mut self) -> Read<()> {
         self.paths += 1;
-        self.expect(b' ')?;
-        let d = Box::new(self.path(book)?);
-        let path = if k == 0 {
-            Path::Inv(d)
-        } else {
-            self.expect(b' ')?;
-            let e = Box::new(self.path(book)?);
-            if k == 1 { Path::Seq(d, e) } else { Path::Alt(d, e) }
-        };
-        self.close()?;
-        Ok(path)
+        if self.paths > 128 { Err(7) } else { Ok(()) }
     }
 
-    fn end(&mut self, book: &Book) -> Read<End> {
+    /// counts a form entry as it begins
+    fn begin_form(&mut self) -> Read<()> {
+        self.forms += 1;
+        if self.forms > 112 { Err(7) } else { Ok(()) }
+    }
+
+    /// reads a path and stores its entry as it ends; the entry's number
+    fn path(&mut self, book: &mut Book) -> Read<usize> {
+        let path = if self.peek() != b'(' {
+            let p = self.used(book, LINKS)?;
+            self.begin_path()?;
+            Path::Link(p)
+        } else {
+            let k = self.head(&["inv", "seq", "alt"])?;
+            self.begin_path()?;
+            self.expect(b' ')?;
+            let d = self.path(book)?;
+            let path = if k == 0 {
+                Path::Inv(d)
+            } else {
+                self.expect(b' ')?;
+                let e = self.path(book)?;
+                if k == 1 { Path::Seq(d, e) } else { Path::Alt(d, e) }
+            };
+            self.close()?;
+            path
+        };
+        book.paths.push(path);
+        Ok(book.paths.len() - 1)
+    }
+
+    fn end(&mut self, book: &mut Book) -> Read<End> {
         let from = self.at;
         if self.word() == b"id" {
             return Ok(End::Id);
@@ -266,7 +286,7 @@ impl<'a> Cursor<'a> {
 
     fn list(&mut self, book: &Book, pool: usize) -> Read<Vec<usize>> {
         let mut list = Vec::new();
-        while self.peek() == b' ' && self.at < self.text.len() {
+        while self.peek() == b' ' {
             self.at += 1;
             let k = self.used(book, pool)?;
             if self.items >= 128 {
@@ -278,41 +298,39 @@ impl<'a> Cursor<'a> {
         Ok(list)
     }
 
-    fn form(&mut self, book: &Book) -> Read<Form> {
+    /// reads a form and stores its entry as it ends; the entry's number
+    fn form(&mut self, book: &mut Book) -> Read<usize> {
         const WORDS: [&str; 20] = [
             "is", "shape", "and", "or", "not", "kind", "datatype", "lang", "from", "above", "to", "below", "count", "all", "equal",
             "apart", "closed", "less", "lesseq", "onelang",
         ];
-        if self.peek() != b'(' {
+        let form = if self.peek() != b'(' {
             if self.word() != b"true" {
                 return Err(2);
             }
-            if self.forms >= 112 {
-                return Err(7);
-            }
-            self.forms += 1;
-            return Ok(Form::True);
-        }
-        let k = self.head(&WORDS)?;
-        if self.forms >= 112 {
-            return Err(7);
-        }
-        self.forms += 1;
-        let form = match WORDS[k] {
-            "lang" => Form::Lang(self.list(book, LANGS)?),
-            "closed" => Form::Closed(self.list(book, LINKS)?),
-            _ => {
-                self.expect(b' ')?;
-                self.rest(book, WORDS[k])?
-            }
+            self.begin_form()?;
+            Form::True
+        } else {
+            let k = self.head(&WORDS)?;
+            self.begin_form()?;
+            let form = match WORDS[k] {
+                "lang" => Form::Lang(self.list(book, LANGS)?),
+                "closed" => Form::Closed(self.list(book, LINKS)?),
+                word => {
+                    self.expect(b' ')?;
+                    self.rest(book, word)?
+                }
+            };
+            self.close()?;
+            form
         };
-        self.close()?;
-        Ok(form)
+        book.forms.push(form);
+        Ok(book.forms.len() - 1)
     }
 
-    fn next_form(&mut self, book: &Book) -> Read<Box<Form>> {
+    fn next_form(&mut self, book: &mut Book) -> Read<usize> {
         self.expect(b' ')?;
-        Ok(Box::new(self.form(book)?))
+        self.form(book)
     }
 
     fn next_link(&mut self, book: &Book) -> Read<usize> {
@@ -320,13 +338,14 @@ impl<'a> Cursor<'a> {
         self.used(book, LINKS)
     }
 
-    fn rest(&mut self, book: &Book, word: &str) -> Read<Form> {
+    /// what stands after the word of a form and one space
+    fn rest(&mut self, book: &mut Book, word: &str) -> Read<Form> {
         Ok(match word {
             "is" => Form::Is(self.used(book, NODES)?),
             "shape" => Form::Shape(self.used(book, SHAPES)?),
-            "and" => Form::And(Box::new(self.form(book)?), self.next_form(book)?),
-            "or" => Form::Or(Box::new(self.form(book)?), self.next_form(book)?),
-            "not" => Form::Not(Box::new(self.form(book)?)),
+            "and" => Form::And(self.form(book)?, self.next_form(book)?),
+            "or" => Form::Or(self.form(book)?, self.next_form(book)?),
+            "not" => Form::Not(self.form(book)?),
             "kind" => match self.word() {
                 b"thing" => Form::Kind(0),
                 b"blank" => Form::Kind(1),
@@ -339,14 +358,12 @@ impl<'a> Cursor<'a> {
             "to" => Form::To(self.value()?),
             "below" => Form::Below(self.value()?),
             "count" => {
-                let word = self.word();
-                let lo = self.bound(word)?;
+                let lo = self.low()?;
                 self.expect(b' ')?;
-                let word = self.word();
-                let hi = if word == b"*" { None } else { Some(self.bound(word)?) };
+                let hi = self.high()?;
                 self.expect(b' ')?;
                 let path = self.path(book)?;
-                Form::Count(lo, hi, path, self.next_form(book)?)
+                Form::Count { path, form: self.next_form(book)?, lo, hi }
             }
             "all" => Form::All(self.path(book)?, self.next_form(book)?),
             "equal" => Form::Equal(self.end(book)?, self.next_link(book)?),

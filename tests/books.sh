@@ -1,0 +1,20 @@
+#!/usr/bin/env bash
+# Every book of tests/vectors and tests/w3c through a program that reads a book and writes its report: what it writes must be the
+# book's .out file, byte for byte. Usage: bash tests/books.sh [PROGRAM]
+set -uo pipefail
+cd "$(dirname "$0")/.."
+program=${1:-target/bin/validate}
+[ -x "$program" ] || { echo "no program $program"; exit 1; }
+passed=0
+failed=0
+while IFS= read -r book; do
+  if "$program" < "$book" | cmp -s - "${book%.book}.out"; then
+    passed=$((passed + 1))
+  else
+    failed=$((failed + 1))
+    echo "FAILED $book"
+    diff <("$program" < "$book") "${book%.book}.out" | head -5
+  fi
+done < <(find tests/vectors tests/w3c -name '*.book' | LC_ALL=C sort)
+echo "$passed passed, $failed failed"
+[ "$failed" = 0 ] && [ "$passed" != 0 ]
