@@ -1,5 +1,5 @@
 #!/usr/bin/env bash
-# Every book of tests/vectors and tests/w3c through a program that reads a book and writes its report: what it writes must be the
+# Every book of tests/vectors, tests/w3c and examples through a program that reads a book and writes its report: what it writes must be the
 # book's .out file, byte for byte. Usage: bash tests/books.sh [PROGRAM]
 set -uo pipefail
 cd "$(dirname "$0")/.."
@@ -15,6 +15,6 @@ while IFS= read -r book; do
     echo "FAILED $book"
     diff <("$program" < "$book") "${book%.book}.out" | head -5
   fi
-done < <(find tests/vectors tests/w3c -name '*.book' | LC_ALL=C sort)
+done < <(find tests/vectors tests/w3c examples -name '*.book' | LC_ALL=C sort)
 echo "$passed passed, $failed failed"
 [ "$failed" = 0 ] && [ "$passed" != 0 ]
