@@ -1,0 +1,158 @@
+//! The parts of bench/run.sh:
+//!   bench books DIR                 writes the books
+//!   bench time SYSTEM FILE REPORT   times proved, reference or sqlite on a book: nanoseconds for read, compile, run, whole
+//!   bench say SYSTEM FILE           the report of proved, reference, sqlite or direct (the reference by its direct verdicts)
+//!   bench turtle FILE DIR           the book as data.ttl and shapes.ttl
+//!   bench breaks FILE LINES REPORT  a report from Jena's breaks
+//!   bench table FIGURES             the table of all figures
+
+mod books;
+mod sql;
+mod sqlite;
+mod table;
+mod turtle;
+
+use melivanoup::{Plan, Tables, Validator, Work};
+use reference::Book;
+use std::fs;
+use std::time::{Duration, Instant};
+
+/// read, compile, run, whole
+type Times = [Duration; 4];
+
+/// The best of several rounds, of each time by itself: rounds for so many seconds, at least five unless they take a minute.
+fn best(seconds: u64, mut round: impl FnMut() -> Times) -> Times {
+    let start = Instant::now();
+    let mut best = round();
+    let mut rounds = 1;
+    while start.elapsed().as_secs() < seconds || (seconds > 0 && rounds < 5 && start.elapsed().as_secs() < 60) {
+        let times = round();
+        (0..4).for_each(|k| best[k] = best[k].min(times[k]));
+        rounds += 1;
+    }
+    best
+}
+
+/// Runs something, and says how long it took.
+fn timed<T>(run: impl FnOnce() -> T) -> (T, Duration) {
+    let start = Instant::now();
+    let value = run();
+    (value, start.elapsed())
+}
+
+fn report(book: &Book, lists: &[Vec<usize>]) -> String {
+    let mut text = format!("(book {} {} {})\n", book.terms.len(), book.facts.len(), book.rules.len());
+    for (r, list) in lists.iter().enumerate() {
+        list.iter().for_each(|&v| text += &format!("(breaks {r} {})\n", book.pools[0][v]));
+    }
+    text + &format!("(found {})\n", lists.iter().map(Vec::len).sum::<usize>())
+}
+
+fn parsed(bytes: &[u8]) -> Book {
+    reference::reader::read(bytes).unwrap_or_else(|fault| panic!("refused: {fault:?}"))
+}
+
+/// Buffers are used again and never cleared between rounds; what the library itself clears is in its times.
+fn proved(book: &[u8], seconds: u64) -> (String, Times) {
+    let (mut tables, mut plan, mut work) = (Tables::new(), Plan::new(), Work::new());
+    let mut validator = Validator::new();
+    let text = validator.validate(book).expect("accepted").to_string();
+    let times = best(seconds, || {
+        let (counts, read) = timed(|| tables.read(book).unwrap());
+        let (_, compile) = timed(|| tables.compile(&mut plan).unwrap());
+        let (_, run) = timed(|| {
+            tables.run(&plan, &mut work).unwrap();
+            (0..counts.rules).for_each(|r| drop(tables.list(&plan, &work, r).unwrap()));
+        });
+        let (_, whole) = timed(|| validator.validate(book).unwrap());
+        [read, compile, run, whole]
+    });
+    (text, times)
+}
+
+fn reference(bytes: &[u8], seconds: u64) -> (String, Times) {
+    let mut text = String::new();
+    let times = best(seconds, || {
+        let (book, read) = timed(|| parsed(bytes));
+        let (plan, compile) = timed(|| reference::plan::compile(&book));
+        let (lists, run) = timed(|| {
+            let sets = reference::plan::run(&book, &plan);
+            plan.rules.iter().map(|&step| sets[step].iter().copied().collect()).collect::<Vec<Vec<usize>>>()
+        });
+        let (said, print) = timed(|| report(&book, &lists));
+        text = said;
+        [read, compile, run, read + compile + run + print]
+    });
+    (text, times)
+}
+
+/// Reading is filling the tables: the time to read the book and to write its SQL is not counted.
+fn sqlite(bytes: &[u8], seconds: u64) -> (String, Times) {
+    let library = sqlite::Sqlite::load().expect("libsqlite3.so.0 is not on this machine");
+    let book = parsed(bytes);
+    let (rows, queries) = (sql::rows(&book), sql::queries(&book));
+    let mut text = String::new();
+    let times = best(seconds, || {
+        let (memory, read) = timed(|| {
+            let memory = library.memory();
+            memory.exec(sql::SCHEMA);
+            memory.exec("BEGIN");
+            for (insert, rows) in &rows {
+                let insert = memory.prepare(insert);
+                rows.iter().for_each(|row| insert.insert(row));
+            }
+            memory.exec("COMMIT");
+            memory
+        });
+        let (statements, compile) = timed(|| queries.iter().map(|q| memory.prepare(q)).collect::<Vec<_>>());
+        let (lists, run) = timed(|| statements.iter().map(|s| s.numbers()).collect::<Vec<_>>());
+        let (said, print) = timed(|| report(&book, &lists));
+        text = said;
+        [read, compile, run, read + compile + run + print]
+    });
+    (text, times)
+}
+
+fn time(system: &str, bytes: &[u8], seconds: u64) -> (String, Times) {
+    match system {
+        "proved" => proved(bytes, seconds),
+        "reference" => reference(bytes, seconds),
+        "sqlite" => sqlite(bytes, seconds),
+        _ => panic!("no system {system}"),
+    }
+}
+
+fn main() {
+    let words: Vec<String> = std::env::args().skip(1).collect();
+    let words: Vec<&str> = words.iter().map(String::as_str).collect();
+    match words[..] {
+        ["books", folder] => {
+            for (name, text) in books::all() {
+                fs::write(format!("{folder}/{name}.book"), text).unwrap();
+                println!("{name}");
+            }
+        }
+        ["time", system, file, out] => {
+            let (text, times) = time(system, &fs::read(file).unwrap(), 2);
+            fs::write(out, text).unwrap();
+            println!("{}", times.map(|t| t.as_nanos().to_string()).join(" "));
+        }
+        ["say", "direct", file] => print!("{}", reference::report(&fs::read(file).unwrap())),
+        ["say", system, file] => print!("{}", time(system, &fs::read(file).unwrap(), 0).0),
+        ["turtle", file, folder] => {
+            let book = parsed(&fs::read(file).unwrap());
+            fs::write(format!("{folder}/data.ttl"), turtle::data(&book)).unwrap();
+            fs::write(format!("{folder}/shapes.ttl"), turtle::shapes(&book)).unwrap();
+        }
+        ["breaks", file, lines, out] => {
+            let book = parsed(&fs::read(file).unwrap());
+            fs::write(out, report(&book, &turtle::lists(&book, &fs::read_to_string(lines).unwrap()))).unwrap();
+        }
+        ["sqlite-version"] => match sqlite::Sqlite::load() {
+            Some(library) => println!("{}", library.version()),
+            None => std::process::exit(1),
+        },
+        ["table", figures] => print!("{}", table::table(&fs::read_to_string(figures).unwrap())),
+        _ => panic!("see bench/src/main.rs"),
+    }
+}

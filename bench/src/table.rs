@@ -1,0 +1,1 @@
+pub fn table(_figures: &str) -> String { String::new() }

@@ -1,0 +1,115 @@
+/* Melivanoup: the check of rig books, proved. Link libmelivanoup.a (rt staticlib melivanoup); it needs no other library.
+ *
+ * How things are lent
+ *   A slice is a pointer and a length in elements. The pointer is never NULL and is aligned, even where the length is 0.
+ *   A slice that is shorter than its size below is refused (8). A longer one counts up to its size: past it nothing is read
+ *   or written. What is written overlaps nothing else that is lent in the call. No content is wrong: buffers need no
+ *   clearing, tables and plans may hold anything, and every call ends.
+ *   A number behind a pointer is written on every call, a refusal included; the pointer is never NULL.
+ *
+ * What comes back
+ *   0, or the number of a refusal. Order: 8, then 1, 9, 10; in a book the leftmost fault of the first faulty line.
+ *   A refused book (1 to 7) leaves its three tables filled with zeros and changes nothing else; every other refusal changes
+ *   nothing that is lent as a slice.
+ *
+ * Stack: the functions keep no state and use no heap; lend from the heap or static memory. See MELIVANOUP_STACK.
+ */
+#ifndef MELIVANOUP_H
+#define MELIVANOUP_H
+
+#include <stddef.h>
+#include <stdint.h>
+
+#ifdef __cplusplus
+extern "C" {
+#endif
+
+/* The sizes to lend, in elements. */
+#define MELIVANOUP_NAMES 45056   /* uint8_t:  a book's names                                  */
+#define MELIVANOUP_CELLS 16602   /* uint16_t: its counts, nodes, facts, entries, rules        */
+#define MELIVANOUP_VALUES 1136   /* int64_t:  its numbers                                     */
+#define MELIVANOUP_PLAN 2593     /* uint16_t: a plan                                          */
+#define MELIVANOUP_WORK 8192     /* uint64_t: the sets of a run, sixteen words for each step  */
+#define MELIVANOUP_ROW 1024      /* uint16_t: the list of one rule                            */
+#define MELIVANOUP_LISTS 32768   /* uint16_t: the lists of all rules, a row for each          */
+#define MELIVANOUP_LENGTHS 32    /* uint16_t: how many nodes each rule lists                  */
+#define MELIVANOUP_PAGE 46080    /* uint8_t:  a part of the report                            */
+
+/* The longest book, in bytes: one byte more is refused (1). */
+#define MELIVANOUP_BOOK 65536
+
+/* The first cells are counts; docs/LAYOUT.md has the other columns. */
+#define MELIVANOUP_CELL_NODES 0
+#define MELIVANOUP_CELL_SHAPES 4
+#define MELIVANOUP_CELL_FACTS 5 /* fact lines, repeats included */
+#define MELIVANOUP_CELL_RULES 9
+
+/* The name of node n stands at names + 32 * n, that of shape s at names + MELIVANOUP_SHAPE_NAMES + 32 * s: at most 31 bytes,
+ * then zeros. */
+#define MELIVANOUP_NAME 32
+#define MELIVANOUP_SHAPE_NAMES 43008
+
+/* Why a call was refused. 1 to 7 are the book writer's: 2 to 7 come with a line, counted from 1. 8 to 10 are the caller's. */
+enum melivanoup_refusal {
+  MELIVANOUP_NONE = 0,
+  MELIVANOUP_TOO_LONG = 1,  /* the book has more than 65,536 bytes */
+  MELIVANOUP_GRAMMAR = 2,   /* not the grammar; also a last line without its line feed */
+  MELIVANOUP_RANGE = 3,     /* a number out of its range */
+  MELIVANOUP_NESTING = 4,   /* more than 32 brackets open together */
+  MELIVANOUP_UNDEFINED = 5, /* a name that is not defined on a line above */
+  MELIVANOUP_TAKEN = 6,     /* a new name that is in its pool already */
+  MELIVANOUP_LIMIT = 7,     /* another limit is passed */
+  MELIVANOUP_SHORT = 8,     /* a lent slice is shorter than its size */
+  MELIVANOUP_MALFORMED = 9, /* tables, plan or lists that are not well formed; those of an accepted book always are */
+  MELIVANOUP_ABSENT = 10    /* a node, shape, rule or part of the report that the book does not have */
+};
+
+/* The tables of a book. Accepted exactly when the bytes are a book of document 01; the tables then hold what it says, in its
+ * order, and zeros elsewhere. *line: where it was refused, else 0. *nodes, *facts (fact lines), *rules: 0 on a refusal. */
+uint32_t melivanoup_read(const uint8_t *book, size_t book_len, uint8_t *names, size_t names_len, uint16_t *cells,
+                         size_t cells_len, int64_t *values, size_t values_len, size_t *line, size_t *nodes, size_t *facts,
+                         size_t *rules);
+
+/* Whether a node meets a shape, by Table 1 of "Compiling SHACL Into SQL". *conforms: 1 yes, 0 no or refused. *tally counts
+ * the verdicts given: one more on an answer, at most 4,294,967,295; a refusal (8, 9, 10) leaves it. */
+uint32_t melivanoup_verdict(const uint8_t *names, size_t names_len, const uint16_t *cells, size_t cells_len,
+                            const int64_t *values, size_t values_len, size_t node, size_t shape, uint32_t *conforms,
+                            uint32_t *tally);
+
+/* The plan of the tables, by document 01's table of steps. *steps: how many it has, at most four for each form entry and two
+ * for each rule; 0 on a refusal (8, 9). */
+uint32_t melivanoup_compile(const uint8_t *names, size_t names_len, const uint16_t *cells, size_t cells_len,
+                            const int64_t *values, size_t values_len, uint16_t *plan, size_t plan_len, size_t *steps);
+
+/* The set of each step, node n at bit n mod 64 of word 16 * step + n div 64; words past the last step stay. Refused: 8, 9. */
+uint32_t melivanoup_run(const uint8_t *names, size_t names_len, const uint16_t *cells, size_t cells_len,
+                        const int64_t *values, size_t values_len, const uint16_t *plan, size_t plan_len, uint64_t *work,
+                        size_t work_len);
+
+/* The nodes in the set of a rule's step, lowest first, at the front of the row; the rest of the row stays. After read, compile
+ * and run of the same book these are the nodes that break the rule. *nodes: how many; 0 on a refusal (8, 9, 10). */
+uint32_t melivanoup_list(const uint8_t *names, size_t names_len, const uint16_t *cells, size_t cells_len,
+                         const int64_t *values, size_t values_len, const uint16_t *plan, size_t plan_len,
+                         const uint64_t *work, size_t work_len, size_t rule, uint16_t *row, size_t row_len, size_t *nodes);
+
+/* All of it at once, from the bytes to the lists of all rules. Row r of lists, from MELIVANOUP_ROW * r on, begins with the
+ * lengths[r] nodes that break rule r: a node stands there exactly when the rule selects it and it does not meet the rule's
+ * shape, once, in book order. What lies past them stays. *line as for read, *steps as for compile. Refused: 8, 1 to 7. */
+uint32_t melivanoup_validate(const uint8_t *book, size_t book_len, uint8_t *names, size_t names_len, uint16_t *cells,
+                             size_t cells_len, int64_t *values, size_t values_len, uint16_t *plan, size_t plan_len,
+                             uint64_t *work, size_t work_len, uint16_t *lists, size_t lists_len, uint16_t *lengths,
+                             size_t lengths_len, size_t *line, size_t *steps);
+
+/* A part of the report at the front of the page: part 0 is its first line, parts 1 to the number of rules the lines of each
+ * rule, the part after these the last line. One after the other they are document 01's report. *bytes: how many were written;
+ * the rest of the page stays; 0 on a refusal (8, 9, 10). */
+uint32_t melivanoup_report(const uint8_t *names, size_t names_len, const uint16_t *cells, size_t cells_len,
+                           const int64_t *values, size_t values_len, const uint16_t *lists, size_t lists_len,
+                           const uint16_t *lengths, size_t lengths_len, size_t part, uint8_t *page, size_t page_len,
+                           size_t *bytes);
+
+#ifdef __cplusplus
+}
+#endif
+
+#endif

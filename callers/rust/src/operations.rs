@@ -1,0 +1,191 @@
+//! The single operations, on owned buffers.
+
+use crate::{raw, sizes, Refusal};
+
+/// The tables of a book; docs/LAYOUT.md says what stands where. Any content may be lent: what is not well formed is refused.
+#[derive(Clone, Debug, PartialEq, Eq)]
+pub struct Tables {
+    pub names: Vec<u8>,
+    pub cells: Vec<u16>,
+    pub values: Vec<i64>,
+}
+
+/// A plan: the number of steps, each rule's step, and the steps in columns.
+#[derive(Clone, Debug, PartialEq, Eq)]
+pub struct Plan {
+    pub cells: Vec<u16>,
+}
+
+/// The sets of a run: sixteen words for each step, node n at bit n mod 64 of word n div 64.
+#[derive(Clone, Debug, PartialEq, Eq)]
+pub struct Work {
+    pub words: Vec<u64>,
+}
+
+/// How much a book has.
+#[derive(Clone, Copy, Debug, PartialEq, Eq)]
+pub struct Counts {
+    pub nodes: usize,
+    /// fact lines, repeats included
+    pub facts: usize,
+    pub rules: usize,
+}
+
+const NAME: usize = 32;
+const SHAPE_NAMES: usize = 43_008;
+const RULE_SHAPES: usize = 16_506;
+
+impl Tables {
+    /// Zeros: the tables of no book.
+    pub fn new() -> Tables {
+        Tables { names: vec![0; sizes::NAMES], cells: vec![0; sizes::CELLS], values: vec![0; sizes::VALUES] }
+    }
+
+    /// Reads a book into the tables. It is accepted exactly when it follows document 01, and the tables then hold what it says;
+    /// on a refusal of the book they are zeros.
+    pub fn read(&mut self, book: &[u8]) -> Result<Counts, Refusal> {
+        let (mut line, mut nodes, mut facts, mut rules) = (0, 0, 0, 0);
+        // SAFETY: every slice is passed with its own length, and the borrows keep them apart.
+        let number = unsafe {
+            raw::melivanoup_read(
+                book.as_ptr(), book.len(), self.names.as_mut_ptr(), self.names.len(), self.cells.as_mut_ptr(), self.cells.len(),
+                self.values.as_mut_ptr(), self.values.len(), &mut line, &mut nodes, &mut facts, &mut rules,
+            )
+        };
+        Refusal::check(number, line)?;
+        Ok(Counts { nodes, facts, rules })
+    }
+
+    /// Whether a node meets a shape. The tally goes up by one on an answer, and stays at its greatest; a refusal leaves it.
+    pub fn verdict(&self, node: usize, shape: usize, tally: &mut u32) -> Result<bool, Refusal> {
+        let mut conforms = 0;
+        // SAFETY: as in `read`.
+        let number = unsafe {
+            raw::melivanoup_verdict(
+                self.names.as_ptr(), self.names.len(), self.cells.as_ptr(), self.cells.len(), self.values.as_ptr(),
+                self.values.len(), node, shape, &mut conforms, tally,
+            )
+        };
+        Refusal::check(number, 0)?;
+        Ok(conforms == 1)
+    }
+
+    /// Compiles the rules of the tables into a plan, and gives its number of steps.
+    pub fn compile(&self, plan: &mut Plan) -> Result<usize, Refusal> {
+        let mut steps = 0;
+        // SAFETY: as in `read`.
+        let number = unsafe {
+            raw::melivanoup_compile(
+                self.names.as_ptr(), self.names.len(), self.cells.as_ptr(), self.cells.len(), self.values.as_ptr(),
+                self.values.len(), plan.cells.as_mut_ptr(), plan.cells.len(), &mut steps,
+            )
+        };
+        Refusal::check(number, 0)?;
+        Ok(steps)
+    }
+
+    /// Fills the set of each step of a plan.
+    pub fn run(&self, plan: &Plan, work: &mut Work) -> Result<(), Refusal> {
+        // SAFETY: as in `read`.
+        let number = unsafe {
+            raw::melivanoup_run(
+                self.names.as_ptr(), self.names.len(), self.cells.as_ptr(), self.cells.len(), self.values.as_ptr(),
+                self.values.len(), plan.cells.as_ptr(), plan.cells.len(), work.words.as_mut_ptr(), work.words.len(),
+            )
+        };
+        Refusal::check(number, 0)
+    }
+
+    /// The nodes in the set of a rule's step, lowest first: those that break the rule, where plan and sets are these tables' own.
+    pub fn list(&self, plan: &Plan, work: &Work, rule: usize) -> Result<Vec<u16>, Refusal> {
+        let (mut row, mut nodes) = (vec![0; sizes::ROW], 0);
+        // SAFETY: as in `read`.
+        let number = unsafe {
+            raw::melivanoup_list(
+                self.names.as_ptr(), self.names.len(), self.cells.as_ptr(), self.cells.len(), self.values.as_ptr(),
+                self.values.len(), plan.cells.as_ptr(), plan.cells.len(), work.words.as_ptr(), work.words.len(), rule,
+                row.as_mut_ptr(), row.len(), &mut nodes,
+            )
+        };
+        Refusal::check(number, 0)?;
+        row.truncate(nodes);
+        Ok(row)
+    }
+
+    /// The counts that stand in the tables.
+    pub fn counts(&self) -> Counts {
+        Counts { nodes: self.cell(0), facts: self.cell(5), rules: self.cell(9) }
+    }
+
+    /// The name of a node; none where the tables have no such node.
+    pub fn node_name(&self, node: usize) -> Option<&str> {
+        (node < self.cell(0)).then(|| self.name(NAME * node))?
+    }
+
+    /// The name of a shape; none where the tables have no such shape.
+    pub fn shape_name(&self, shape: usize) -> Option<&str> {
+        (shape < self.cell(4)).then(|| self.name(SHAPE_NAMES + NAME * shape))?
+    }
+
+    /// The number of the node of that name.
+    pub fn node(&self, name: &str) -> Option<usize> {
+        (0..self.cell(0)).find(|&k| self.node_name(k) == Some(name))
+    }
+
+    /// The number of the shape of that name.
+    pub fn shape(&self, name: &str) -> Option<usize> {
+        (0..self.cell(4)).find(|&k| self.shape_name(k) == Some(name))
+    }
+
+    /// The number of a rule's shape; none where the tables have no such rule.
+    pub fn rule_shape(&self, rule: usize) -> Option<usize> {
+        (rule < self.cell(9)).then(|| self.cell(RULE_SHAPES + rule))
+    }
+
+    fn cell(&self, at: usize) -> usize {
+        self.cells.get(at).map_or(0, |&x| x.into())
+    }
+
+    /// what stands before the first zero, 31 bytes at most
+    fn name(&self, at: usize) -> Option<&str> {
+        let place = self.names.get(at..at + NAME - 1)?;
+        std::str::from_utf8(place.split(|&b| b == 0).next()?).ok()
+    }
+}
+
+impl Plan {
+    /// Zeros: a plan without steps.
+    pub fn new() -> Plan {
+        Plan { cells: vec![0; sizes::PLAN] }
+    }
+
+    /// How many steps it has.
+    pub fn steps(&self) -> usize {
+        self.cells.first().map_or(0, |&x| x.into())
+    }
+}
+
+impl Work {
+    /// Zeros: every set empty.
+    pub fn new() -> Work {
+        Work { words: vec![0; sizes::WORK] }
+    }
+}
+
+impl Default for Tables {
+    fn default() -> Tables {
+        Tables::new()
+    }
+}
+
+impl Default for Plan {
+    fn default() -> Plan {
+        Plan::new()
+    }
+}
+
+impl Default for Work {
+    fn default() -> Work {
+        Work::new()
+    }
+}

@@ -1,0 +1,75 @@
+//! The ten refusals.
+
+use std::fmt;
+
+/// Why something was turned down. The numbers are document 01's.
+#[derive(Clone, Copy, Debug, PartialEq, Eq, Hash)]
+pub enum Ground {
+    TooLong = 1,
+    Grammar,
+    Range,
+    Nesting,
+    Undefined,
+    Taken,
+    Limit,
+    Short,
+    Malformed,
+    Absent,
+}
+
+/// A refusal: its ground, and the line of the book, from 1; 0 where it is no line's.
+#[derive(Clone, Copy, Debug, PartialEq, Eq, Hash)]
+pub struct Refusal {
+    pub ground: Ground,
+    pub line: usize,
+}
+
+impl Ground {
+    pub fn number(self) -> u32 {
+        self as u32
+    }
+
+    fn by_number(number: u32) -> Ground {
+        use Ground::*;
+        let all = [TooLong, Grammar, Range, Nesting, Undefined, Taken, Limit, Short, Malformed, Absent];
+        all[number as usize - 1]
+    }
+}
+
+impl fmt::Display for Ground {
+    fn fmt(&self, f: &mut fmt::Formatter) -> fmt::Result {
+        f.write_str(match self {
+            Ground::TooLong => "the book has more than 65,536 bytes",
+            Ground::Grammar => "not the grammar of a book",
+            Ground::Range => "a number is out of its range",
+            Ground::Nesting => "more than 32 brackets are open together",
+            Ground::Undefined => "a name is not defined on a line above",
+            Ground::Taken => "a new name is in its pool already",
+            Ground::Limit => "more names, facts, rules, conditions, paths or list items than a book may have",
+            Ground::Short => "a lent buffer is too short",
+            Ground::Malformed => "the tables, the plan or the lists are not well formed",
+            Ground::Absent => "the book has no such node, shape or rule",
+        })
+    }
+}
+
+impl Refusal {
+    /// `Ok` for 0, else the refusal of that number.
+    pub(crate) fn check(number: u32, line: usize) -> Result<(), Refusal> {
+        match number {
+            0 => Ok(()),
+            n => Err(Refusal { ground: Ground::by_number(n), line }),
+        }
+    }
+}
+
+impl fmt::Display for Refusal {
+    fn fmt(&self, f: &mut fmt::Formatter) -> fmt::Result {
+        if self.line > 0 {
+            write!(f, "line {}: ", self.line)?;
+        }
+        write!(f, "{} (refusal {})", self.ground, self.ground.number())
+    }
+}
+
+impl std::error::Error for Refusal {}

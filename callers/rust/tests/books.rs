@@ -1,0 +1,144 @@
+//! The example books against their reports, the single operations against the whole run, and the refusals.
+
+use melivanoup::{sizes, Ground, Plan, Refusal, Tables, Validator, Work};
+use std::path::PathBuf;
+
+const B: &[u8] = include_bytes!("../../../examples/book-b.book");
+
+/// every example: its name, its bytes, its report
+fn examples() -> Vec<(String, Vec<u8>, String)> {
+    let folder = PathBuf::from(env!("CARGO_MANIFEST_DIR")).join("../../examples");
+    let files = std::fs::read_dir(folder).unwrap().map(|entry| entry.unwrap().path());
+    let books: Vec<_> = files
+        .filter(|file| file.extension().is_some_and(|e| e == "book"))
+        .map(|file| {
+            let report = std::fs::read_to_string(file.with_extension("out")).unwrap();
+            (file.display().to_string(), std::fs::read(&file).unwrap(), report)
+        })
+        .collect();
+    assert!(books.len() >= 5);
+    books
+}
+
+fn refused(ground: Ground, line: usize) -> Refusal {
+    Refusal { ground, line }
+}
+
+#[test]
+fn examples_print_their_reports() {
+    let mut validator = Validator::new();
+    for (file, book, report) in examples() {
+        assert_eq!(validator.validate(&book).unwrap().to_string(), report, "{file}");
+    }
+}
+
+#[test]
+fn a_report_has_what_it_prints() {
+    let mut validator = Validator::new();
+    for (file, book, _) in examples() {
+        let report = validator.validate(&book).unwrap();
+        let mut text = format!("(book {} {} {})\n", report.nodes(), report.facts(), report.rules().len());
+        for (r, rule) in report.rules().iter().enumerate() {
+            rule.breaks.iter().for_each(|name| text += &format!("(breaks {r} {name})\n"));
+        }
+        text += &format!("(found {})\n", report.found());
+        assert_eq!(text, report.to_string(), "{file}");
+    }
+}
+
+#[test]
+fn the_single_operations_give_the_same_lists() {
+    let (mut tables, mut plan, mut work) = (Tables::new(), Plan::new(), Work::new());
+    for (file, book, _) in examples() {
+        let report = Validator::new().validate(&book).unwrap();
+        let counts = tables.read(&book).unwrap();
+        assert_eq!(counts, tables.counts());
+        let steps = tables.compile(&mut plan).unwrap();
+        assert_eq!(steps, plan.steps());
+        tables.run(&plan, &mut work).unwrap();
+        for (r, rule) in report.rules().iter().enumerate() {
+            let list = tables.list(&plan, &work, r).unwrap();
+            let names: Vec<_> = list.iter().map(|&v| tables.node_name(v.into()).unwrap()).collect();
+            assert_eq!(names, rule.breaks, "{file}, rule {r}");
+            let shape = tables.rule_shape(r).unwrap();
+            assert_eq!(tables.shape_name(shape), Some(&rule.shape[..]));
+            let mut tally = 0;
+            assert!(list.iter().all(|&v| !tables.verdict(v.into(), shape, &mut tally).unwrap()));
+            assert_eq!(tally as usize, list.len());
+        }
+    }
+}
+
+#[test]
+fn verdicts_on_book_b() {
+    let mut tables = Tables::new();
+    tables.read(B).unwrap();
+    let level = tables.shape("level").unwrap();
+    let mut tally = u32::MAX - 2;
+    let mut verdict = |name| tables.verdict(tables.node(name).unwrap(), level, &mut tally);
+    assert_eq!([verdict("left"), verdict("right"), verdict("h240")], [Ok(false), Ok(false), Ok(true)]);
+    assert_eq!(tally, u32::MAX);
+    assert_eq!(tables.verdict(4, level, &mut tally), Err(refused(Ground::Absent, 0)));
+    assert_eq!(tables.verdict(0, 1, &mut tally), Err(refused(Ground::Absent, 0)));
+}
+
+#[test]
+fn each_refusal_of_a_book_has_its_ground_and_line() {
+    let deep = format!("(shape s {}true{})\n", "(not ".repeat(32), ")".repeat(32));
+    let full: String = (0..1025).map(|k| format!("(thing n{k})\n")).collect();
+    let books: [(&[u8], Ground, usize); 7] = [
+        (&[b'('; sizes::BOOK + 1], Ground::TooLong, 0),
+        (b"(thing a)\n(thing A)\n", Ground::Grammar, 2),
+        (b"(type mm)\n(number h mm 9223372036854775808)\n", Ground::Range, 2),
+        (deep.as_bytes(), Ground::Nesting, 1),
+        (b"(link p)\n(thing a)\n(fact a p b)\n", Ground::Undefined, 3),
+        (b"(link a)\n", Ground::Taken, 1),
+        (full.as_bytes(), Ground::Limit, 1025),
+    ];
+    let mut validator = Validator::new();
+    for (k, (book, ground, line)) in books.into_iter().enumerate() {
+        validator.validate(B).unwrap();
+        assert_eq!(validator.validate(book), Err(refused(ground, line)));
+        assert_eq!(validator.tables(), &Tables::new(), "the tables of a refused book are zeros");
+        assert_eq!(ground.number() as usize, k + 1);
+        assert!(refused(ground, line).to_string().ends_with(&format!("{ground} (refusal {})", k + 1)));
+    }
+}
+
+#[test]
+fn short_buffers_and_strange_tables_are_refused() {
+    let short = Err(refused(Ground::Short, 0));
+    let strange = Err(refused(Ground::Malformed, 0));
+    let empty = Tables { names: vec![], cells: vec![], values: vec![] };
+    assert_eq!(empty.clone().read(B).map(|_| ()), short);
+    assert_eq!(empty.verdict(0, 0, &mut 0).map(|_| ()), short);
+    let mut tables = Tables::new();
+    tables.read(B).unwrap();
+    assert_eq!(tables.compile(&mut Plan { cells: vec![] }).map(|_| ()), short);
+    let (mut plan, mut work) = (Plan::new(), Work::new());
+    tables.compile(&mut plan).unwrap();
+    assert_eq!(tables.run(&plan, &mut Work { words: vec![] }), short);
+    plan.cells[1] = 512;
+    assert_eq!(tables.run(&plan, &mut work), strange);
+    assert_eq!(work, Work::new(), "a refusal changes nothing");
+    tables.cells[0] = 1025;
+    assert_eq!(tables.compile(&mut plan).map(|_| ()), strange);
+    tables.cells[0] = 4;
+    tables.compile(&mut plan).unwrap();
+    tables.run(&plan, &mut work).unwrap();
+    assert_eq!(tables.list(&plan, &work, 0), Ok(vec![0]));
+    assert_eq!(tables.list(&plan, &work, 1), Err(refused(Ground::Absent, 0)));
+}
+
+#[test]
+fn what_buffers_held_and_what_lies_past_them_plays_no_part() {
+    let mut tables = Tables { names: vec![7; 50_000], cells: vec![7; 20_000], values: vec![-7; 2_000] };
+    let mut clean = Tables::new();
+    assert_eq!(tables.read(B), clean.read(B));
+    assert_eq!(tables.names[..sizes::NAMES], clean.names);
+    assert_eq!(tables.cells[..sizes::CELLS], clean.cells);
+    assert_eq!(tables.values[..sizes::VALUES], clean.values);
+    assert!(tables.names[sizes::NAMES..].iter().all(|&x| x == 7));
+    assert!(tables.cells[sizes::CELLS..].iter().all(|&x| x == 7));
+    assert!(tables.values[sizes::VALUES..].iter().all(|&x| x == -7));
+}
