@@ -20,7 +20,7 @@ use validation::validate;
 use verdict::Answer;
 use verdict::verdict;
 ghost use mathlib.Core.Path.{_≡_};
-ghost use Rattle.model.specs.Refusals.{codeOf};
+ghost use Rattle.model.specs.Refusals.{codeOf, lineOf};
 ghost use Rattle.reader.specs.Answers.{readAnswer, namesOf, cellsOf, valuesOf};
 ghost use Rattle.verdict.specs.Answers.{judged, tallied};
 ghost use Rattle.compiler.specs.Answers.{compileAnswer, planAfter};
@@ -36,6 +36,17 @@ fn number(r: Refusal) -> u32
     ensures { λ n. ⌜ n ≡ codeOf r ⌝ }
 {
     code(r) as u32
+}
+
+// The number of a refusal; its line through line.
+fn with_line(line: &mut usize, r: Refusal) -> u32
+    ensures { λ n. ⌜ n ≡ codeOf r ⌝ }
+    ensures { λ _. ⌜ now (line .exit) ≡ lineOf r ⌝ }
+{
+    let k = code(r);
+    let at = model::line(r);
+    *line = at;
+    k as u32
 }
 
 // A book to its tables: the line of a refusal, and the counts of an accepted book.
@@ -68,11 +79,10 @@ pub extern "C" fn melivanoup_read(
             0
         }
         ReadAnswer::Refused(r) => {
-            *line = model::line(r);
             *nodes = 0;
             *facts = 0;
             *rules = 0;
-            number(r)
+            with_line(line, r)
         }
     }
 }
@@ -209,9 +219,8 @@ pub extern "C" fn melivanoup_validate(
             0
         }
         Validated::Refused(r) => {
-            *line = model::line(r);
             *steps = 0;
-            number(r)
+            with_line(line, r)
         }
     }
 }

@@ -13,11 +13,8 @@ enum-known-n c = search needs
 enum-known-r : tie.Need-enum-known-r
 enum-known-r c = search needs
 
-line-requires : tie.Need-line-requires
-line-requires c κs = search needs
-
-number-requires : tie.Need-number-requires
-number-requires c κs = search needs
+with-line-requires : tie.Need-with-line-requires
+with-line-requires c κs = search needs
 
 same-length : tie.Need-same-length
 same-length c = search needs
@@ -47,7 +44,7 @@ returns-2 : tie.Need-returns-2
 returns-2 c =
     let x = c .before .before .before .before .before .before .before .before .before .before .read in
     let q = ap answerOf (sym (c .before .before .before .r .given .1)) ∙ x .ensures .0 in
-    (c .number .ensures ∙ ap (λ (a : Answer). a .refusal) q, (c .before .line .ensures ∙ ap (λ (a : Answer). a .line) q, (ap (λ (a : Answer). a .counts .nodes) q, (ap (λ (a : Answer). a .counts .facts) q, (ap (λ (a : Answer). a .counts .rules) q, x .ensures .1)))))
+    (c .with-line .ensures .0 ∙ ap (λ (a : Answer). a .refusal) q, (c .with-line .ensures .1 ∙ ap (λ (a : Answer). a .line) q, (ap (λ (a : Answer). a .counts .nodes) q, (ap (λ (a : Answer). a .counts .facts) q, (ap (λ (a : Answer). a .counts .rules) q, x .ensures .1)))))
 
 pub melivanoup-read-spec : {M : Type 1} → statement M
 melivanoup-read-spec =
@@ -56,8 +53,7 @@ melivanoup-read-spec =
     read-requires
     enum-known-n
     enum-known-r
-    line-requires
-    number-requires
+    with-line-requires
     same-length
     same-length-2
     same-length-3

@@ -16,11 +16,8 @@ enum-known-n c = search needs
 enum-known-r : tie.Need-enum-known-r
 enum-known-r c = search needs
 
-line-requires : tie.Need-line-requires
-line-requires c κs = search needs
-
-number-requires : tie.Need-number-requires
-number-requires c κs = search needs
+with-line-requires : tie.Need-with-line-requires
+with-line-requires c κs = search needs
 
 same-length : tie.Need-same-length
 same-length c = search needs
@@ -77,8 +74,8 @@ returns-2 c =
     let x = c .before .before .before .before .before .before .before .before .before .before .before .before .before .before .before .before .before .before .validate in
     let e = c .before .before .before .r .given .1 in
     let q = ap saidOf (sym e) ∙ x .ensures .1 .0 in
-    let demand3 = by-refusal (now (c .before .before .before .before .before .before .before .before .before .before .before .before .before .before .before .before .before .before .before .before .before .before .before .before .before .before .before .before .before .before .before .before .before .args .book)) (x .last .1 .1 .1 .1 .0) (x .last .1 .1 .1 .1 .1 .1 .0) (x .last .1 .1 .1 .1 .1 .1 .1 .0) (x .result) (x .ensures .0) (c .before .before .before .r .given .0 .0) (c .number .result) (c .before .line .result) e (c .number .ensures) (c .before .line .ensures) in
-    (demand3, (c .number .ensures ∙ ap wholeNumber q, (c .before .line .ensures ∙ ap wholeLine q, (ap wholeSteps q, x .ensures .1 .1))))
+    let demand3 = by-refusal (now (c .before .before .before .before .before .before .before .before .before .before .before .before .before .before .before .before .before .before .before .before .before .before .before .before .before .before .before .before .before .before .before .before .before .args .book)) (x .last .1 .1 .1 .1 .0) (x .last .1 .1 .1 .1 .1 .1 .0) (x .last .1 .1 .1 .1 .1 .1 .1 .0) (x .result) (x .ensures .0) (c .before .before .before .r .given .0 .0) (c .with-line .result) (c .with-line .last .0) e (c .with-line .ensures .0) (c .with-line .ensures .1) in
+    (demand3, (c .with-line .ensures .0 ∙ ap wholeNumber q, (c .with-line .ensures .1 ∙ ap wholeLine q, (ap wholeSteps q, x .ensures .1 .1))))
 
 pub melivanoup-validate-spec : {M : Type 1} → statement M
 melivanoup-validate-spec =
@@ -87,8 +84,7 @@ melivanoup-validate-spec =
     validate-requires
     enum-known-n
     enum-known-r
-    line-requires
-    number-requires
+    with-line-requires
     same-length
     same-length-2
     same-length-3
