@@ -33,20 +33,22 @@ struct Sizes {
 
 /// A book's text and what kind of book it is.
 pub fn generate(r: &Random) -> (Vec<u8>, &'static str) {
-    let (mut text, kind) = match r.below(100) {
+    let (sizes, kind): (fn(&Random) -> Sizes, _) = match r.below(100) {
         0..=3 => return (tokens(r), "tokens"),
-        4..=63 => (write(r, small), "small"),
-        64..=81 => (write(r, middling), "middling"),
-        82..=98 => (write(r, at_a_limit), "at a limit"),
-        _ => (write(r, large), "large"),
+        4..=63 => (small, "small"),
+        64..=81 => (middling, "middling"),
+        82..=98 => (at_a_limit, "at a limit"),
+        _ => (large, "large"),
     };
-    if r.below(100) < 40 {
-        for _ in 0..*r.pick(&[1, 1, 1, 2, 3]) {
-            damage(r, &mut text);
+    match r.below(100) {
+        0..=24 => {
+            let mut text = write(r, sizes(r), 0);
+            (0..*r.pick(&[1, 1, 1, 2, 3])).for_each(|_| damage(r, &mut text));
+            (text, "damaged")
         }
-        return (text, "damaged");
+        25..=39 => (write(r, sizes(r), *r.pick(&[10, 40, 100, 400])), "with slips"),
+        _ => (write(r, sizes(r), 0), kind),
     }
-    (text, kind)
 }
 
 fn small(r: &Random) -> Sizes {
@@ -125,12 +127,13 @@ fn large(r: &Random) -> Sizes {
     }
 }
 
-fn write(r: &Random, sizes: fn(&Random) -> Sizes) -> Vec<u8> {
-    let s = sizes(r);
+/// The text of a book; where slips are asked for, one word in so many is wrong.
+fn write(r: &Random, s: Sizes, slips: usize) -> Vec<u8> {
     // many facts have room in a text only with short names
     let style = if s.facts > 1000 { SHORT } else { r.below(8) };
     let (pools, taken) = Default::default();
-    let mut w = Writer { r, text: Vec::new(), pools, taken, subjects: Vec::new(), facts: 0, style, skew: *r.pick(&[1, 2, 2, 6]) };
+    let (skew, hub) = (*r.pick(&[1, 2, 2, 6]), r.once_in(4));
+    let mut w = Writer { r, text: Vec::new(), pools, taken, subjects: Vec::new(), facts: 0, style, skew, hub, slips };
     w.pools[LINKS].push("a".into());
     w.pools[TYPES].push("langstring".into());
     w.book(s);
@@ -150,6 +153,10 @@ struct Writer<'a> {
     style: usize,
     /// how much oftener the first of a pool are used
     skew: usize,
+    /// one subject has half of the facts
+    hub: bool,
+    /// one word in so many is wrong; 0 for none
+    slips: usize,
 }
 
 /// What may still be used of what the entries share.
@@ -182,8 +189,15 @@ impl Writer<'_> {
         self.say(")\n");
     }
 
+    fn slip(&self) -> bool {
+        self.slips > 0 && self.r.once_in(self.slips)
+    }
+
     /// a new name of the pool, from the next line on
     fn fresh(&mut self, pool: usize) -> String {
+        if self.slip() {
+            return self.wrong();
+        }
         const ODD: [&str; 14] =
             ["true", "id", "node", "a", "-", "_", "0", "-1", "langstring", "fact", "shape", "count", "1024", "9223372036854775808"];
         let k = self.pools[pool].len();
@@ -204,7 +218,16 @@ impl Writer<'_> {
         self.pools[pool].push(name);
     }
 
-    fn number(&mut self) -> String {
+    /// a word that is hardly the right one: any name of the book, or none
+    fn wrong(&self) -> String {
+        let pool = &self.pools[self.r.below(5)];
+        if pool.is_empty() || self.r.once_in(3) { self.r.pick(&WORDS).to_string() } else { self.r.pick(pool).clone() }
+    }
+
+    fn number(&self) -> String {
+        if self.slip() {
+            return self.r.pick(&NUMBERS).to_string();
+        }
         match self.r.below(12) {
             0 => "9223372036854775807".into(),
             1 => "-9223372036854775808".into(),
@@ -219,6 +242,9 @@ impl Writer<'_> {
     }
 
     fn used(&self, pool: usize) -> String {
+        if self.slip() {
+            return self.wrong();
+        }
         self.pools[pool][self.early(self.pools[pool].len())].clone()
     }
 
@@ -268,7 +294,7 @@ impl Writer<'_> {
         let name = self.fresh(NODES);
         let kind = self.r.below(10);
         if kind >= 4 && kind < 8 && self.pools[TYPES].len() > 1 {
-            let k = self.r.between(1, self.pools[TYPES].len() - 1);
+            let k = if self.slip() { 0 } else { self.r.between(1, self.pools[TYPES].len() - 1) };
             let datatype = self.pools[TYPES][k].clone();
             let value = self.number();
             if kind == 4 { self.line(&["text", &name, &datatype]) } else { self.line(&["number", &name, &datatype, &value]) }
@@ -286,9 +312,13 @@ impl Writer<'_> {
         if self.subjects.is_empty() || self.text.len() > 62_000 {
             return;
         }
-        let k = self.early(self.subjects.len());
-        let (subject, link) = (self.pools[NODES][self.subjects[k]].clone(), self.used(LINKS));
-        let object = self.used(NODES);
+        let k = match self.hub && self.r.once_in(2) {
+            true => self.subjects[0],
+            false => self.subjects[self.early(self.subjects.len())],
+        };
+        let subject = if self.slip() { self.used(NODES) } else { self.pools[NODES][k].clone() };
+        let link = self.used(LINKS);
+        let object = if self.hub { self.r.pick(&self.pools[NODES]).clone() } else { self.used(NODES) };
         self.line(&["fact", &subject, &link, &object]);
         self.facts += 1;
     }
@@ -347,7 +377,10 @@ impl Writer<'_> {
         self.say(")");
     }
 
-    fn bound(&mut self) -> String {
+    fn bound(&self) -> String {
+        if self.slip() {
+            return self.r.pick(&NUMBERS).to_string();
+        }
         match self.r.below(12) {
             0 => "1024".into(),
             1 => self.r.below(1024).to_string(),
@@ -503,6 +536,11 @@ const WORDS: [&str; 64] = [
     "abcdefghijklmnopqrstuvwxyz012345",
 ];
 
+const NUMBERS: [&str; 14] = [
+    "0", "1", "-1", "00", "01", "-0", "+1", "-", "1024", "1025", "9223372036854775807", "9223372036854775808", "-9223372036854775808",
+    "-9223372036854775809",
+];
+
 /// Lines of any words.
 fn tokens(r: &Random) -> Vec<u8> {
     let mut text = String::new();
@@ -569,10 +607,6 @@ fn damage(r: &Random, text: &mut Vec<u8>) {
 
 /// A number in the place of another.
 fn number(r: &Random, text: &mut Vec<u8>) {
-    const NUMBERS: [&str; 14] = [
-        "0", "1", "-1", "00", "01", "-0", "+1", "-", "1024", "1025", "9223372036854775807", "9223372036854775808", "-9223372036854775808",
-        "-9223372036854775809",
-    ];
     let is_number = |&(a, b): &(usize, usize)| text[a..b].iter().all(|c| matches!(c, b'0'..=b'9' | b'-' | b'*'));
     let numbers: Vec<(usize, usize)> = items(text).into_iter().filter(is_number).collect();
     if !numbers.is_empty() {

@@ -304,7 +304,9 @@ impl Case<'_> {
         } else if nodes * shapes <= 100 {
             asked.extend((0..nodes).flat_map(|v| (0..shapes).map(move |s| (v, s))));
         } else {
-            asked.extend((0..40).map(|_| (self.r.below(nodes), self.r.below(shapes))));
+            // the first nodes oftener: they have more facts
+            let node = || if self.r.once_in(2) { self.r.below(nodes.min(8)) } else { self.r.below(nodes) };
+            asked.extend((0..40).map(|_| (node(), self.r.below(shapes))));
         }
         let far = *self.r.pick(&[1, 1024, usize::MAX]);
         asked.extend([(nodes, 0), (0, shapes), (nodes.saturating_add(far), shapes), (self.r.below(1024), self.r.below(64))]);

@@ -163,6 +163,9 @@ pub fn tables(r: &Random) -> Tables {
     t
 }
 
+/// LO and HI at and about their limits.
+const BOUNDS: [u16; 8] = [0, 1, 1023, 1024, 1025, 1026, NO_NUMBER - 1, NO_NUMBER];
+
 /// A number that a cell may get: small ones, those about the counts and limits, any.
 fn number(r: &Random, counts: &[u16]) -> u16 {
     match r.below(8) {
@@ -179,12 +182,14 @@ pub fn change_tables(r: &Random, t: &mut Tables) {
     for _ in 0..*r.pick(&[1, 2, 5, 20]) {
         let counts: Vec<u16> = t.cells[..10].to_vec();
         let (column, count) = *r.pick(&COLUMNS);
-        let at = match r.below(12) {
-            0 => r.below(CELLS),
-            1 => r.below(10),
-            _ => column + some(r, LIMITS[count].min(counts[count] as usize)),
+        let k = some(r, LIMITS[count].min(counts[count] as usize));
+        let (at, new) = match r.below(12) {
+            0 => (r.below(CELLS), number(r, &counts)),
+            1 => (r.below(10), number(r, &counts)),
+            _ if matches!(column, tables::FORM_THIRDS | tables::FORM_FOURTHS) => (column + k, *r.pick(&BOUNDS)),
+            _ => (column + k, number(r, &counts)),
         };
-        let before = std::mem::replace(&mut t.cells[at], number(r, &counts));
+        let before = std::mem::replace(&mut t.cells[at], new);
         let back = match tables::decode(t) {
             Some(book) => !quick(&book),
             None => r.below(10) > 0,
@@ -272,7 +277,9 @@ pub fn change_plan(r: &Random, b: &Book, cells: &mut [u16]) {
             2 => plan::RULE_STEPS + r.below(32),
             _ => plan::STEP_CODES + plan::STEPS * r.below(5) + some(r, cells[0].min(512) as usize),
         };
-        let before = std::mem::replace(&mut cells[at], number(r, &counts));
+        let is_bound = at >= plan::STEP_CODES + plan::STEPS * 3 && r.below(4) > 0;
+        let new = if is_bound { *r.pick(&BOUNDS) } else { number(r, &counts) };
+        let before = std::mem::replace(&mut cells[at], new);
         if plan::decode(b, cells).is_none() && r.below(10) > 0 {
             cells[at] = before;
         }
