@@ -16,5 +16,10 @@ while IFS= read -r book; do
     diff <("$program" < "$book") "${book%.book}.out" | head -5
   fi
 done < <(find tests/vectors tests/w3c examples -name '*.book' | LC_ALL=C sort)
+# docs/W3C.md names every W3C book and no other
+if ! diff <(grep -o 'core/[^`]*\.book' docs/W3C.md | LC_ALL=C sort) <(cd tests/w3c && find core -name '*.book' | LC_ALL=C sort); then
+  failed=$((failed + 1))
+  echo "FAILED docs/W3C.md"
+fi
 echo "$passed passed, $failed failed"
 [ "$failed" = 0 ] && [ "$passed" != 0 ]

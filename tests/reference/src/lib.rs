@@ -175,8 +175,11 @@ impl Book {
         }
     }
 
-    pub fn closed(&self, links: &[usize], v: usize) -> bool {
-        self.facts.iter().filter(|f| f.0 == v).all(|f| links.contains(&f.1))
+    /// the links of the facts out of each node
+    pub fn links_out(&self) -> Vec<Vec<usize>> {
+        let mut links = vec![Vec::new(); self.nodes()];
+        self.facts.iter().for_each(|f| links[f.0].push(f.1));
+        links
     }
 
     pub fn less(&self, first: &Set, second: &Set) -> bool {
@@ -194,14 +197,14 @@ impl Book {
 
     pub fn end_set(&self, ends: &[Ends], end: End, v: usize) -> Set {
         match end {
-            End::Id => Set::of(self.nodes(), |w| w == v),
+            End::Id => Set::only(v),
             End::Along(e) => ends[e][v],
         }
     }
 
     /// Table 1: for each form entry, the nodes that meet it
     pub fn met(&self) -> Vec<Set> {
-        let ends = self.ends();
+        let (ends, out) = (self.ends(), self.links_out());
         let mut met: Vec<Set> = Vec::new();
         for form in &self.forms {
             let link = match form {
@@ -222,7 +225,7 @@ impl Book {
                 Form::All(e, f) => ends[*e][v].iter().all(|w| met[*f].has(w)),
                 Form::Equal(e, _) => self.end_set(&ends, *e, v) == link[v],
                 Form::Apart(e, _) => self.end_set(&ends, *e, v).and(&link[v]).is_empty(),
-                Form::Closed(links) => self.closed(links, v),
+                Form::Closed(links) => out[v].iter().all(|p| links.contains(p)),
                 Form::Less(e, _) => self.less(&ends[*e][v], &link[v]),
                 Form::Lesseq(e, _) => self.lesseq(&ends[*e][v], &link[v]),
                 Form::Onelang(e) => self.onelang(&ends[*e][v]),
@@ -234,19 +237,37 @@ impl Book {
         met
     }
 
-    pub fn selects(&self, target: &Target, v: usize) -> bool {
-        match target {
-            Target::Node(c) => v == *c,
-            Target::Subjects(p) => self.facts.iter().any(|f| f.0 == v && f.1 == *p),
-            Target::Objects(p) => self.facts.iter().any(|f| f.2 == v && f.1 == *p),
-            Target::Class(c) => self.facts.iter().any(|f| f.0 == v && f.1 == 0 && f.2 == *c),
+    /// the nodes with a fact by link p out of them
+    pub fn subjects(&self, p: usize) -> Set {
+        self.facts.iter().filter(|f| f.1 == p).map(|f| f.0).collect()
+    }
+
+    /// the nodes with a fact by link p into them
+    pub fn objects(&self, p: usize) -> Set {
+        self.facts.iter().filter(|f| f.1 == p).map(|f| f.2).collect()
+    }
+
+    /// the nodes with a fact by `a` straight to c
+    pub fn instances(&self, c: usize) -> Set {
+        self.facts.iter().filter(|f| f.1 == 0 && f.2 == c).map(|f| f.0).collect()
+    }
+
+    pub fn selected(&self, target: &Target) -> Set {
+        match *target {
+            Target::Node(c) => Set::only(c),
+            Target::Subjects(p) => self.subjects(p),
+            Target::Objects(p) => self.objects(p),
+            Target::Class(c) => self.instances(c),
         }
     }
 
     /// the list of each rule: the nodes that it selects and that do not meet its shape
     pub fn lists(&self, met: &[Set]) -> Vec<Vec<usize>> {
-        let broken = |(s, target): &(usize, Target), v: usize| self.selects(target, v) && !met[self.shapes[*s]].has(v);
-        self.rules.iter().map(|rule| (0..self.nodes()).filter(|&v| broken(rule, v)).collect()).collect()
+        let list = |(s, target): &(usize, Target)| {
+            let kept = &met[self.shapes[*s]];
+            self.selected(target).iter().filter(|&v| !kept.has(v)).collect()
+        };
+        self.rules.iter().map(list).collect()
     }
 
     pub fn head_line(&self) -> String {

@@ -117,7 +117,7 @@ pub fn compile(book: &Book) -> Plan {
 
 /// The set of each step, as its name says: each condition that breaks is asked for itself.
 pub fn run(book: &Book, plan: &Plan) -> Vec<Set> {
-    let ends = book.ends();
+    let (ends, out) = (book.ends(), book.links_out());
     let mut sets: Vec<Set> = Vec::new();
     for step in &plan.steps {
         let link = match *step {
@@ -150,11 +150,14 @@ pub fn run(book: &Book, plan: &Plan) -> Vec<Set> {
             }
             Step::Every(e, m) => ends[e][v].iter().all(|w| sets[m].has(w)),
             Step::Equal(e, _) => start(e, v) == link[v],
-            Step::Unequal(e, _) => (0..book.nodes()).any(|w| start(e, v).has(w) != link[v].has(w)),
+            Step::Unequal(e, _) => {
+                let first = start(e, v);
+                (0..book.nodes()).any(|w| first.has(w) != link[v].has(w))
+            }
             Step::Apart(e, _) => start(e, v).and(&link[v]).is_empty(),
             Step::Meet(e, _) => start(e, v).iter().any(|w| link[v].has(w)),
-            Step::Closed(k) => book.facts.iter().filter(|f| f.0 == v).all(|f| listed(k, f.1)),
-            Step::Open(k) => book.facts.iter().any(|f| f.0 == v && !listed(k, f.1)),
+            Step::Closed(k) => out[v].iter().all(|&p| listed(k, p)),
+            Step::Open(k) => out[v].iter().any(|&p| !listed(k, p)),
             Step::Less(e, _) => book.less(&ends[e][v], &link[v]),
             Step::Notless(e, _) => fails(e, v, |s, t| s < t),
             Step::Lesseq(e, _) => book.lesseq(&ends[e][v], &link[v]),
@@ -165,11 +168,14 @@ pub fn run(book: &Book, plan: &Plan) -> Vec<Set> {
                 let again = |l: usize| std::mem::replace(&mut seen[l], true);
                 ends[e][v].iter().filter_map(|w| book.language(w)).any(again)
             }
-            Step::From(p) => book.facts.iter().any(|f| f.0 == v && f.1 == p),
-            Step::Into(p) => book.facts.iter().any(|f| f.2 == v && f.1 == p),
-            Step::Typed(c) => book.facts.iter().any(|f| f.0 == v && f.1 == 0 && f.2 == c),
+            Step::From(_) | Step::Into(_) | Step::Typed(_) => unreachable!("found by facts"),
         };
-        let set = Set::of(book.nodes(), holds);
+        let set = match *step {
+            Step::From(p) => book.subjects(p),
+            Step::Into(p) => book.objects(p),
+            Step::Typed(c) => book.instances(c),
+            _ => Set::of(book.nodes(), holds),
+        };
         sets.push(set);
     }
     sets

@@ -6,9 +6,11 @@ pub struct Set(pub [u64; 16]);
 impl Set {
     /// the nodes below n of which the test is true
     pub fn of(n: usize, test: impl Fn(usize) -> bool) -> Set {
-        let mut set = Set::default();
-        (0..n).filter(|&v| test(v)).for_each(|v| set.insert(v));
-        set
+        (0..n).filter(|&v| test(v)).collect()
+    }
+
+    pub fn only(v: usize) -> Set {
+        std::iter::once(v).collect()
     }
 
     pub fn has(&self, v: usize) -> bool {
@@ -27,6 +29,7 @@ impl Set {
         Set(std::array::from_fn(|i| self.0[i] & other.0[i]))
     }
 
+    /// how many members there are
     pub fn len(&self) -> usize {
         self.0.iter().map(|w| w.count_ones() as usize).sum()
     }
@@ -37,6 +40,22 @@ impl Set {
 
     /// the members, lowest first
     pub fn iter(&self) -> impl Iterator<Item = usize> + '_ {
-        (0..16).flat_map(move |i| (0..64).filter(move |b| self.0[i] >> b & 1 == 1).map(move |b| 64 * i + b))
+        let members = |i: usize| {
+            let mut rest = self.0[i];
+            std::iter::from_fn(move || {
+                let b = rest.trailing_zeros() as usize;
+                rest &= rest.wrapping_sub(1);
+                (b < 64).then_some(64 * i + b)
+            })
+        };
+        (0..16).flat_map(members)
+    }
+}
+
+impl FromIterator<usize> for Set {
+    fn from_iter<I: IntoIterator<Item = usize>>(members: I) -> Set {
+        let mut set = Set::default();
+        members.into_iter().for_each(|v| set.insert(v));
+        set
     }
 }

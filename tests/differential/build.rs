@@ -1,0 +1,7 @@
+//! Links the static library that `rt staticlib melivanoup` makes.
+fn main() {
+    let folder = format!("{}/../../target/staticlib", std::env::var("CARGO_MANIFEST_DIR").unwrap());
+    println!("cargo:rustc-link-search=native={folder}");
+    println!("cargo:rustc-link-lib=static=melivanoup");
+    println!("cargo:rerun-if-changed={folder}/libmelivanoup.a");
+}

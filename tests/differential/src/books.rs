@@ -1,0 +1,633 @@
+//! Generated books: small ones, larger ones, books at the limits of document 01, and damaged ones.
+
+use crate::random::Random;
+use std::collections::HashSet;
+
+const NODES: usize = 0;
+const LINKS: usize = 1;
+const TYPES: usize = 2;
+const LANGS: usize = 3;
+const SHAPES: usize = 4;
+
+/// a style of names
+const SHORT: usize = 3;
+
+/// How many of each a book gets, if its text has room for them.
+#[derive(Default)]
+struct Sizes {
+    nodes: usize,
+    links: usize,
+    types: usize,
+    langs: usize,
+    shapes: usize,
+    facts: usize,
+    rules: usize,
+    forms: usize,
+    paths: usize,
+    items: usize,
+    /// brackets open together in one more shape; 0 for no such shape
+    open: usize,
+    /// how long the text shall be; 0 for as it comes
+    bytes: usize,
+}
+
+/// A book's text and what kind of book it is.
+pub fn generate(r: &Random) -> (Vec<u8>, &'static str) {
+    let (sizes, kind): (fn(&Random) -> Sizes, _) = match r.below(100) {
+        0..=3 => return (tokens(r), "tokens"),
+        4..=63 => (small, "small"),
+        64..=81 => (middling, "middling"),
+        82..=98 => (at_a_limit, "at a limit"),
+        _ => (large, "large"),
+    };
+    match r.below(100) {
+        0..=24 => {
+            let mut text = write(r, sizes(r), 0);
+            (0..*r.pick(&[1, 1, 1, 2, 3])).for_each(|_| damage(r, &mut text));
+            (text, "damaged")
+        }
+        25..=39 => (write(r, sizes(r), *r.pick(&[10, 40, 100, 400])), "with slips"),
+        _ => (write(r, sizes(r), 0), kind),
+    }
+}
+
+fn small(r: &Random) -> Sizes {
+    let few = *r.pick(&[2, 4, 12]);
+    Sizes {
+        nodes: r.between(0, few),
+        links: r.below(4),
+        types: r.below(3),
+        langs: r.below(3),
+        shapes: r.between(0, 5),
+        facts: r.below(3 * few),
+        rules: r.between(0, 5),
+        forms: r.between(0, 25),
+        paths: r.between(0, 30),
+        items: r.between(0, 8),
+        ..Sizes::default()
+    }
+}
+
+fn middling(r: &Random) -> Sizes {
+    let nodes = *r.pick(&[30, 63, 64, 65, 100, 127, 128, 129, 191, 193, 320]);
+    Sizes {
+        nodes,
+        links: r.between(1, 6),
+        types: r.between(0, 4),
+        langs: r.between(0, 4),
+        shapes: r.between(1, 8),
+        facts: r.below(4 * nodes),
+        rules: r.between(1, 8),
+        forms: r.between(1, 50),
+        paths: r.between(0, 60),
+        items: r.between(0, 20),
+        ..Sizes::default()
+    }
+}
+
+/// One or two numbers just below, at or just past their limits.
+fn at_a_limit(r: &Random) -> Sizes {
+    let mut s = if r.once_in(2) { small(r) } else { middling(r) };
+    for _ in 0..r.between(1, 2) {
+        let near = r.below(3);
+        match r.below(13) {
+            0 => s.nodes = 1023 + near,
+            // `a` and `langstring` are there already
+            1 => s.links = 254 + near,
+            2 => s.types = 30 + near,
+            3 => s.langs = 31 + near,
+            4 => s.shapes = 63 + near,
+            5 => {
+                (s.facts, s.nodes, s.links) = (4095 + near, s.nodes.clamp(2, 38), s.links.min(30));
+            }
+            6 => s.rules = 31 + near,
+            7 => s.forms = 111 + near,
+            8 => s.paths = 127 + near,
+            9 => s.items = 127 + near,
+            10 | 11 => s.open = 31 + near,
+            _ => s.bytes = 65535 + near,
+        }
+    }
+    s
+}
+
+fn large(r: &Random) -> Sizes {
+    Sizes {
+        nodes: r.between(900, 1024),
+        links: r.between(1, 40),
+        types: r.between(0, 31),
+        langs: r.between(0, 32),
+        shapes: r.between(10, 60),
+        facts: r.between(1000, 4096),
+        rules: r.between(10, 32),
+        forms: r.between(80, 110),
+        paths: r.between(30, 128),
+        items: r.between(0, 128),
+        ..Sizes::default()
+    }
+}
+
+/// The text of a book; where slips are asked for, one word in so many is wrong.
+fn write(r: &Random, s: Sizes, slips: usize) -> Vec<u8> {
+    // many facts have room in a text only with short names
+    let style = if s.facts > 1000 { SHORT } else { r.below(8) };
+    let (pools, taken) = Default::default();
+    let (skew, hub) = (*r.pick(&[1, 2, 2, 6]), r.once_in(4));
+    let mut w = Writer { r, text: Vec::new(), pools, taken, subjects: Vec::new(), facts: 0, style, skew, hub, slips };
+    w.pools[LINKS].push("a".into());
+    w.pools[TYPES].push("langstring".into());
+    w.book(s);
+    w.text
+}
+
+struct Writer<'a> {
+    r: &'a Random,
+    text: Vec<u8>,
+    pools: [Vec<String>; 5],
+    taken: [HashSet<String>; 5],
+    /// things and blanks
+    subjects: Vec<usize>,
+    /// fact lines so far
+    facts: usize,
+    /// how names are made
+    style: usize,
+    /// how much oftener the first of a pool are used
+    skew: usize,
+    /// one subject has half of the facts
+    hub: bool,
+    /// one word in so many is wrong; 0 for none
+    slips: usize,
+}
+
+/// What may still be used of what the entries share.
+struct Left {
+    paths: usize,
+    items: usize,
+}
+
+/// a short name for a number
+fn code(mut k: usize) -> String {
+    const LETTERS: &[u8] = b"bcdefghijklmnopqrstuvwxyz0123456789_-a";
+    let mut name = String::new();
+    loop {
+        name.push(LETTERS[k % 38] as char);
+        if k < 38 {
+            return name;
+        }
+        k = k / 38 - 1;
+    }
+}
+
+impl Writer<'_> {
+    fn say(&mut self, s: &str) {
+        self.text.extend(s.bytes());
+    }
+
+    fn line(&mut self, words: &[&str]) {
+        self.say("(");
+        self.say(&words.join(" "));
+        self.say(")\n");
+    }
+
+    fn slip(&self) -> bool {
+        self.slips > 0 && self.r.once_in(self.slips)
+    }
+
+    /// a new name of the pool, from the next line on
+    fn fresh(&mut self, pool: usize) -> String {
+        if self.slip() {
+            return self.wrong();
+        }
+        const ODD: [&str; 14] =
+            ["true", "id", "node", "a", "-", "_", "0", "-1", "langstring", "fact", "shape", "count", "1024", "9223372036854775808"];
+        let k = self.pools[pool].len();
+        let mut name = match self.style {
+            0 => format!("{}{}", ["n", "p", "t", "l", "s"][pool], k),
+            1 if k < ODD.len() => ODD[k].into(),
+            2 => format!("{:-<31}", code(k)),
+            _ => code(k),
+        };
+        while self.taken[pool].contains(&name) || (pool == LINKS && (name == "id" || name == "a")) || (pool == TYPES && name == "langstring") {
+            name = format!("{}_{}", code(self.r.below(2000)), code(k));
+        }
+        self.taken[pool].insert(name.clone());
+        name
+    }
+
+    fn define(&mut self, pool: usize, name: String) {
+        self.pools[pool].push(name);
+    }
+
+    /// a word that is hardly the right one: any name of the book, or none
+    fn wrong(&self) -> String {
+        let pool = &self.pools[self.r.below(5)];
+        if pool.is_empty() || self.r.once_in(3) { self.r.pick(&WORDS).to_string() } else { self.r.pick(pool).clone() }
+    }
+
+    fn number(&self) -> String {
+        if self.slip() {
+            return self.r.pick(&NUMBERS).to_string();
+        }
+        match self.r.below(12) {
+            0 => "9223372036854775807".into(),
+            1 => "-9223372036854775808".into(),
+            2 => (self.r.next() as i64).to_string(),
+            _ => (self.r.below(7) as i64 - 3).to_string(),
+        }
+    }
+
+    /// a number below n, oftener one of the first
+    fn early(&self, n: usize) -> usize {
+        (0..self.skew).map(|_| self.r.below(n)).min().unwrap()
+    }
+
+    fn used(&self, pool: usize) -> String {
+        if self.slip() {
+            return self.wrong();
+        }
+        self.pools[pool][self.early(self.pools[pool].len())].clone()
+    }
+
+    fn book(&mut self, s: Sizes) {
+        // a place for each line: definitions rather early, rules rather late
+        let mut lines: Vec<(usize, u8)> = Vec::new();
+        for (n, from, kind) in [
+            (s.links, 0, b'p'), (s.types, 0, b't'), (s.langs, 0, b'l'), (s.nodes, 20, b'n'), (s.facts, 50, b'f'), (s.shapes, 50, b's'),
+            (s.rules, 80, b'r'),
+        ] {
+            (0..n).for_each(|_| lines.push((from + self.r.below(60), kind)));
+        }
+        lines.sort();
+        let mut forms = s.forms.max(s.shapes);
+        let mut shapes = s.shapes;
+        let mut left = Left { paths: s.paths, items: s.items };
+        for (_, kind) in lines {
+            match kind {
+                b'p' => self.pool_line("link", LINKS),
+                b't' => self.pool_line("type", TYPES),
+                b'l' => self.pool_line("lang", LANGS),
+                b'n' => self.node_line(),
+                b'f' => self.fact_line(),
+                b's' => {
+                    shapes -= 1;
+                    let most = forms - shapes;
+                    let size = if shapes == 0 { most } else { self.r.between(1, most.min(2 * most / (shapes + 1) + 1)) };
+                    forms -= size;
+                    self.shape_line(size, &mut left);
+                }
+                _ => self.rule_line(),
+            }
+        }
+        self.use_up(&s, left);
+        if s.bytes > 0 {
+            self.pad(s.bytes);
+        }
+    }
+
+    fn pool_line(&mut self, word: &str, pool: usize) {
+        let name = self.fresh(pool);
+        self.line(&[word, &name]);
+        self.define(pool, name);
+    }
+
+    fn node_line(&mut self) {
+        let name = self.fresh(NODES);
+        let kind = self.r.below(10);
+        if kind >= 4 && kind < 8 && self.pools[TYPES].len() > 1 {
+            let k = if self.slip() { 0 } else { self.r.between(1, self.pools[TYPES].len() - 1) };
+            let datatype = self.pools[TYPES][k].clone();
+            let value = self.number();
+            if kind == 4 { self.line(&["text", &name, &datatype]) } else { self.line(&["number", &name, &datatype, &value]) }
+        } else if kind >= 8 && !self.pools[LANGS].is_empty() {
+            let lang = self.used(LANGS);
+            self.line(&["words", &name, &lang]);
+        } else {
+            self.subjects.push(self.pools[NODES].len());
+            self.line(&[if kind == 0 { "blank" } else { "thing" }, &name]);
+        }
+        self.define(NODES, name);
+    }
+
+    fn fact_line(&mut self) {
+        if self.subjects.is_empty() || self.text.len() > 62_000 {
+            return;
+        }
+        let k = match self.hub && self.r.once_in(2) {
+            true => self.subjects[0],
+            false => self.subjects[self.early(self.subjects.len())],
+        };
+        let subject = if self.slip() { self.used(NODES) } else { self.pools[NODES][k].clone() };
+        let link = self.used(LINKS);
+        let object = if self.hub { self.r.pick(&self.pools[NODES]).clone() } else { self.used(NODES) };
+        self.line(&["fact", &subject, &link, &object]);
+        self.facts += 1;
+    }
+
+    fn rule_line(&mut self) {
+        if self.pools[SHAPES].is_empty() {
+            return;
+        }
+        let shape = self.used(SHAPES);
+        let target = match self.r.below(6) {
+            0 if !self.pools[NODES].is_empty() => format!("(node {})", self.used(NODES)),
+            1 if !self.pools[NODES].is_empty() => format!("(class {})", self.used(NODES)),
+            2 | 3 => format!("(objects {})", self.used(LINKS)),
+            _ => format!("(subjects {})", self.used(LINKS)),
+        };
+        self.line(&["rule", &shape, &target]);
+    }
+
+    fn shape_line(&mut self, size: usize, left: &mut Left) {
+        let name = self.fresh(SHAPES);
+        self.say(&format!("(shape {name} "));
+        self.form(size, 31, left);
+        self.say(")\n");
+        self.define(SHAPES, name);
+    }
+
+    /// a form of this many entries, if so many brackets may still be opened
+    fn form(&mut self, size: usize, open: usize, left: &mut Left) {
+        if size == 1 || open < 3 {
+            return self.leaf(open, left);
+        }
+        if size == 2 || self.r.once_in(2) && size < (1 << (open - 2).min(20)) {
+            self.say(match self.r.below(4) {
+                0 => "(not ",
+                _ if left.paths == 0 => "(not ",
+                1 => "(all ",
+                _ => "(count ",
+            });
+            if self.text.ends_with(b"(count ") {
+                let (lo, hi) = (self.bound(), self.bound());
+                let hi = if self.r.once_in(2) { "*".into() } else { hi };
+                self.say(&format!("{lo} {hi} "));
+            }
+            if !self.text.ends_with(b"(not ") {
+                self.short_path(open - 1, left);
+                self.say(" ");
+            }
+            self.form(size - 1, open - 1, left);
+        } else {
+            let first = self.r.between(1, size - 2);
+            self.say(if self.r.once_in(2) { "(and " } else { "(or " });
+            self.form(first, open - 1, left);
+            self.say(" ");
+            self.form(size - 1 - first, open - 1, left);
+        }
+        self.say(")");
+    }
+
+    fn bound(&self) -> String {
+        if self.slip() {
+            return self.r.pick(&NUMBERS).to_string();
+        }
+        match self.r.below(12) {
+            0 => "1024".into(),
+            1 => self.r.below(1024).to_string(),
+            _ => self.r.below(4).to_string(),
+        }
+    }
+
+    fn leaf(&mut self, open: usize, left: &mut Left) {
+        if open == 0 {
+            return self.say("true");
+        }
+        loop {
+            match self.r.below(18) {
+                0 => return self.say("true"),
+                1 if !self.pools[NODES].is_empty() => {
+                    let name = self.used(NODES);
+                    return self.say(&format!("(is {name})"));
+                }
+                2 | 3 if !self.pools[SHAPES].is_empty() => {
+                    let k = self.r.below(self.pools[SHAPES].len());
+                    let name = self.pools[SHAPES][k].clone();
+                    return self.say(&format!("(shape {name})"));
+                }
+                4 => {
+                    let kind = *self.r.pick(&["thing", "blank", "literal"]);
+                    return self.say(&format!("(kind {kind})"));
+                }
+                5 => {
+                    let name = self.used(TYPES);
+                    return self.say(&format!("(datatype {name})"));
+                }
+                6 | 7 => {
+                    let (word, value) = (*self.r.pick(&["from", "above", "to", "below"]), self.number());
+                    return self.say(&format!("({word} {value})"));
+                }
+                8 => return self.list("lang", LANGS, left),
+                9 => return self.list("closed", LINKS, left),
+                10 | 11 => {
+                    self.say(*self.r.pick(&["(equal ", "(apart "]));
+                    if left.paths == 0 || self.r.once_in(4) { self.say("id") } else { self.short_path(open - 1, left) }
+                    return self.last_link();
+                }
+                12..=15 if left.paths > 0 => {
+                    self.say(*self.r.pick(&["(less ", "(lesseq "]));
+                    self.short_path(open - 1, left);
+                    return self.last_link();
+                }
+                16 if left.paths > 0 => {
+                    self.say("(onelang ");
+                    self.short_path(open - 1, left);
+                    return self.say(")");
+                }
+                _ => {}
+            }
+        }
+    }
+
+    fn last_link(&mut self) {
+        let link = self.used(LINKS);
+        self.say(&format!(" {link})"));
+    }
+
+    fn list(&mut self, word: &str, pool: usize, left: &mut Left) {
+        self.say(&format!("({word}"));
+        let most = if self.pools[pool].is_empty() { 0 } else { left.items.min(4) };
+        for _ in 0..self.r.between(0, most) {
+            let name = self.used(pool);
+            self.say(&format!(" {name}"));
+            left.items -= 1;
+        }
+        self.say(")");
+    }
+
+    fn short_path(&mut self, open: usize, left: &mut Left) {
+        let size = (*self.r.pick(&[1, 1, 1, 2, 3, 5, 9])).min(left.paths);
+        left.paths -= size;
+        self.path(size, open);
+    }
+
+    /// a path of this many entries, if so many brackets may still be opened
+    fn path(&mut self, size: usize, open: usize) {
+        if size == 1 || open == 0 {
+            let link = self.used(LINKS);
+            return self.say(&link);
+        }
+        if size == 2 || self.r.once_in(3) && size < (1 << (open - 1).min(20)) {
+            self.say("(inv ");
+            self.path(size - 1, open - 1);
+        } else {
+            // where brackets are short, both parts alike
+            let first = if size > 4 * open { (size - 1) / 2 } else { self.r.between(1, size - 2) };
+            self.say(if self.r.once_in(2) { "(seq " } else { "(alt " });
+            self.path(first, open - 1);
+            self.say(" ");
+            self.path(size - 1 - first, open - 1);
+        }
+        self.say(")");
+    }
+
+    /// one shape more for each of paths, items and brackets that shall come near their limits
+    fn use_up(&mut self, s: &Sizes, left: Left) {
+        if s.paths > 120 && left.paths > 0 {
+            let name = self.fresh(SHAPES);
+            self.say(&format!("(shape {name} (onelang "));
+            self.path(left.paths, 30);
+            self.say("))\n");
+            self.define(SHAPES, name);
+        }
+        if s.items > 120 && left.items > 0 {
+            let name = self.fresh(SHAPES);
+            self.say(&format!("(shape {name} (closed"));
+            (0..left.items).for_each(|_| self.list_item());
+            self.say("))\n");
+            self.define(SHAPES, name);
+        }
+        if s.open > 0 {
+            let name = self.fresh(SHAPES);
+            let (first, each) = if self.r.once_in(2) { ("(not ", "(not ") } else { ("(onelang ", "(inv ") };
+            let last = if first == each { "true" } else { "a" };
+            let inner = each.repeat(s.open - 2);
+            self.say(&format!("(shape {name} {first}{inner}{last}{}\n", ")".repeat(s.open)));
+            self.define(SHAPES, name);
+        }
+        (0..2).for_each(|_| self.rule_line());
+    }
+
+    fn list_item(&mut self) {
+        let name = self.used(LINKS);
+        self.say(&format!(" {name}"));
+    }
+
+    /// facts and things until the text has so many bytes
+    fn pad(&mut self, bytes: usize) {
+        while self.text.len() < 62_000 && self.facts < 4090 && !self.subjects.is_empty() {
+            self.fact_line();
+        }
+        while self.text.len() + 10 <= bytes {
+            // a line takes 10 to 40 bytes; what is left after it is nothing or enough for another
+            let rest = bytes - self.text.len();
+            let length = if rest <= 40 { rest - 9 } else { self.r.between(7, 31).min(rest - 19) };
+            let name = if rest <= 40 { "z".repeat(length) } else { format!("{:z<length$}", self.text.len()) };
+            self.line(&["thing", &name]);
+        }
+    }
+}
+
+const WORDS: [&str; 64] = [
+    "(link", "(type", "(lang", "(thing", "(blank", "(number", "(text", "(words", "(fact", "(shape", "(rule", "(is", "(and", "(or",
+    "(not", "(kind", "(datatype", "(from", "(above", "(to", "(below", "(count", "(all", "(equal", "(apart", "(closed", "(less",
+    "(lesseq", "(onelang", "(inv", "(seq", "(alt", "(node", "(subjects", "(objects", "(class", "(", ")", "true", "id", "a", "langstring",
+    "thing", "literal", "*", "0", "1", "00", "1024", "1025", "-0", "+1", "-1", "9223372036854775807", "9223372036854775808",
+    "-9223372036854775808", "-9223372036854775809", "99999999999999999999999", "b", "c", "d", "n0", "abcdefghijklmnopqrstuvwxyz01234",
+    "abcdefghijklmnopqrstuvwxyz012345",
+];
+
+const NUMBERS: [&str; 14] = [
+    "0", "1", "-1", "00", "01", "-0", "+1", "-", "1024", "1025", "9223372036854775807", "9223372036854775808", "-9223372036854775808",
+    "-9223372036854775809",
+];
+
+/// Lines of any words.
+fn tokens(r: &Random) -> Vec<u8> {
+    let mut text = String::new();
+    for _ in 0..r.between(0, 12) {
+        let start = *r.pick(&["(link b", "(type c", "(thing d", "(thing b", "(blank n0", "(shape b true", "(shape c (", "(rule b (", ""]);
+        text.push_str(start);
+        for _ in 0..r.below(6) {
+            text.push_str(*r.pick(&[" ", " ", " ", "", ")", "  "]));
+            text.push_str(*r.pick(&WORDS));
+        }
+        text.push_str(*r.pick(&[")", ")", "))", ")))", ""]));
+        text.push_str(*r.pick(&["\n", "\n", "\n", "\n", "", "\r\n", " \n"]));
+    }
+    text.into_bytes()
+}
+
+/// Where the items of a text begin and end.
+fn items(text: &[u8]) -> Vec<(usize, usize)> {
+    let mut found = Vec::new();
+    let mut at = 0;
+    while at < text.len() {
+        let from = at;
+        at += 1;
+        if !matches!(text[from], b' ' | b'\n' | b')') {
+            while at < text.len() && !matches!(text[at], b' ' | b'\n' | b'(' | b')') {
+                at += 1;
+            }
+        }
+        found.push((from, at));
+    }
+    found
+}
+
+/// Changes a text in one place, oftener near its end.
+fn damage(r: &Random, text: &mut Vec<u8>) {
+    if text.is_empty() {
+        return text.extend(r.pick(&WORDS).bytes());
+    }
+    let from = if r.once_in(2) { text.len() - text.len().min(200) } else { 0 };
+    let at = r.between(from, text.len() - 1);
+    match r.below(16) {
+        0 => text[at] = r.next() as u8,
+        1 => text[at] = *r.pick(b" ()\n-*0a"),
+        2 => drop(text.remove(at)),
+        3 => text.insert(at, *r.pick(b" ()\n-*0a")),
+        4 => text.truncate(at),
+        5 => drop(text.pop()),
+        6 => text.extend(text[at..].to_vec()),
+        7 | 8 => lines(r, text),
+        9 | 10 => number(r, text),
+        _ => {
+            let here = items(&text[from..]);
+            let (a, b) = *r.pick(&here);
+            let (c, d) = *r.pick(&here);
+            let word = match r.below(4) {
+                0 => Vec::new(),
+                1 => text[from + c..from + d].to_vec(),
+                _ => r.pick(&WORDS).as_bytes().to_vec(),
+            };
+            text.splice(from + a..from + b, word);
+        }
+    }
+}
+
+/// A number in the place of another.
+fn number(r: &Random, text: &mut Vec<u8>) {
+    let is_number = |&(a, b): &(usize, usize)| text[a..b].iter().all(|c| matches!(c, b'0'..=b'9' | b'-' | b'*'));
+    let numbers: Vec<(usize, usize)> = items(text).into_iter().filter(is_number).collect();
+    if !numbers.is_empty() {
+        let (a, b) = *r.pick(&numbers);
+        text.splice(a..b, r.pick(&NUMBERS).bytes());
+    }
+}
+
+/// A line gone, said twice, or moved.
+fn lines(r: &Random, text: &mut Vec<u8>) {
+    let mut lines: Vec<Vec<u8>> = text.split_inclusive(|&b| b == b'\n').map(<[u8]>::to_vec).collect();
+    let k = if r.once_in(2) { r.below(lines.len()) } else { lines.len() - 1 };
+    let line = lines.remove(k);
+    let (i, j) = (r.between(0, lines.len()), r.between(0, lines.len()));
+    match r.below(3) {
+        0 => {}
+        1 => lines.insert(i, line),
+        _ => {
+            lines.insert(i, line.clone());
+            lines.insert(j, line);
+        }
+    }
+    *text = lines.concat();
+}

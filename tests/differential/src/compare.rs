@@ -1,0 +1,459 @@
+//! One generated book through the library and through the reference: every answer, and every lent cell afterwards.
+
+use crate::library::{self, Lent, Room};
+use crate::random::Random;
+use crate::{books, hostile};
+use reference::plan::{self, Plan, PLAN_CELLS};
+use reference::set::Set;
+use reference::tables::{self, Tables, CELLS, NAMES, VALUES};
+use reference::{reader, Book};
+use std::fmt::Debug;
+
+const WORK: usize = 8192;
+const ROW: usize = 1024;
+const LISTS: usize = 32 * ROW;
+const LENGTHS: usize = 32;
+const PAGE: usize = 46080;
+
+/// What differs, in words; or nothing.
+pub type Outcome = Result<(), String>;
+
+/// What a lent slice may hold.
+pub trait Cell: Copy + PartialEq + Debug {
+    fn any(r: &Random) -> Self;
+}
+impl Cell for u8 {
+    fn any(r: &Random) -> u8 {
+        r.next() as u8
+    }
+}
+impl Cell for u16 {
+    fn any(r: &Random) -> u16 {
+        r.next() as u16
+    }
+}
+impl Cell for u64 {
+    fn any(r: &Random) -> u64 {
+        r.next()
+    }
+}
+impl Cell for i64 {
+    fn any(r: &Random) -> i64 {
+        r.next() as i64
+    }
+}
+
+fn garbage<T: Cell>(r: &Random, length: usize) -> Vec<T> {
+    let some: Vec<T> = (0..251).map(|_| T::any(r)).collect();
+    let mut all = Vec::with_capacity(length);
+    while all.len() < length {
+        all.extend_from_slice(&some[..some.len().min(length - all.len())]);
+    }
+    all
+}
+
+/// How long a slice is lent: as long as it must be or longer, now and then shorter.
+fn length(r: &Random, needed: usize) -> usize {
+    match r.below(100) {
+        0 => *r.pick(&[0, 1, needed / 2, needed - 1]),
+        1..=40 => needed,
+        41..=70 => needed + 1,
+        _ => needed + r.below(80),
+    }
+}
+
+/// a slice to be written, full of garbage
+fn lend<T: Cell>(r: &Random, needed: usize) -> Vec<T> {
+    let n = length(r, needed);
+    garbage(r, n)
+}
+
+/// a slice to be read: its content with garbage past it, or cut short
+fn lend_of<T: Cell>(r: &Random, content: &[T]) -> Vec<T> {
+    let mut lent = lend(r, content.len());
+    let n = lent.len().min(content.len());
+    lent[..n].copy_from_slice(&content[..n]);
+    lent
+}
+
+/// what was there, with this from `at` on
+fn put<T: Copy>(lent: &mut [T], at: usize, content: &[T]) {
+    lent[at..at + content.len()].copy_from_slice(content);
+}
+
+/// One book's comparisons.
+pub struct Case<'a> {
+    pub r: &'a Random,
+    /// answers compared
+    pub answers: usize,
+}
+
+/// Three tables as they are lent to an operation that reads them.
+struct Three {
+    names: Vec<u8>,
+    cells: Vec<u16>,
+    values: Vec<i64>,
+}
+
+impl Three {
+    fn lent(&self) -> Lent<'_> {
+        Lent { names: &self.names, cells: &self.cells, values: &self.values }
+    }
+
+    fn enough(&self) -> bool {
+        self.names.len() >= NAMES && self.cells.len() >= CELLS && self.values.len() >= VALUES
+    }
+}
+
+impl Case<'_> {
+    fn same<T: PartialEq + Debug>(&mut self, what: &str, library: T, reference: T) -> Outcome {
+        self.answers += 1;
+        if library == reference {
+            return Ok(());
+        }
+        Err(format!("{what}: the library says {library:?}, the reference {reference:?}"))
+    }
+
+    fn same_slice<T: Cell>(&mut self, what: &str, library: &[T], reference: &[T]) -> Outcome {
+        self.answers += 1;
+        if library == reference {
+            return Ok(());
+        }
+        let at = (0..library.len()).find(|&i| library[i] != reference[i]).unwrap();
+        Err(format!("{what} at {at}: the library left {:?}, the reference {:?}", library[at], reference[at]))
+    }
+
+    fn three(&mut self, t: &Tables) -> Three {
+        let (names, cells) = (lend_of(self.r, &t.names), lend_of(self.r, &t.cells));
+        Three { names, cells, values: lend_of(self.r, &t.values) }
+    }
+
+    /// Everything about one generated text, then about tables and plans of any content.
+    pub fn book(&mut self, text: &[u8]) -> Outcome {
+        let read = reader::read(text);
+        self.read(text, &read)?;
+        self.validate(text, &read)?;
+        if let Ok(book) = read {
+            let mut t = tables::encode(&book);
+            self.made_right(&book, &t)?;
+            self.tables(&t)?;
+            if book.nodes() * book.paths.len() <= 4000 || self.r.once_in(4) {
+                hostile::change_tables(self.r, &mut t);
+                self.tables(&t)?;
+            }
+        }
+        if self.r.once_in(4) {
+            let mut t = hostile::tables(self.r);
+            self.tables(&t)?;
+            hostile::change_tables(self.r, &mut t);
+            self.tables(&t)?;
+        }
+        Ok(())
+    }
+
+    /// What document 01 promises of an accepted book, held against the reference itself.
+    fn made_right(&mut self, book: &Book, t: &Tables) -> Outcome {
+        let plan = plan::compile(book);
+        self.same("tables say their book again", tables::decode(t).as_ref() == Some(book), true)?;
+        self.same("a plan of a book is well formed", plan::decode(book, &plan::encode(&plan)).as_ref() == Some(&plan), true)?;
+        self.same("steps at most", plan.steps.len() <= 4 * book.forms.len() + 2 * book.rules.len(), true)?;
+        let (met, sets) = (book.met(), plan::run(book, &plan));
+        let from_plan: Vec<Vec<usize>> = plan.rules.iter().map(|&k| sets[k].iter().collect()).collect();
+        self.same("lists by plan and by shapes", from_plan, book.lists(&met))
+    }
+
+    fn read(&mut self, text: &[u8], read: &Result<Book, (u8, usize)>) -> Outcome {
+        let (mut names, mut cells, mut values): (Vec<u8>, Vec<u16>, Vec<i64>) =
+            (lend(self.r, NAMES), lend(self.r, CELLS), lend(self.r, VALUES));
+        let (mut names_after, mut cells_after, mut values_after) = (names.clone(), cells.clone(), values.clone());
+        let enough = names.len() >= NAMES && cells.len() >= CELLS && values.len() >= VALUES;
+        let expected = match read {
+            _ if !enough => (8, 0, 0, 0, 0),
+            Err((number, line)) => (*number as u32, *line, 0, 0, 0),
+            Ok(book) => (0, 0, book.nodes(), book.facts.len(), book.rules.len()),
+        };
+        if enough {
+            let t = read.as_ref().map_or_else(|_| Tables::zeros(), tables::encode);
+            put(&mut names_after, 0, &t.names);
+            put(&mut cells_after, 0, &t.cells);
+            put(&mut values_after, 0, &t.values);
+        }
+        let r = library::read(text, &mut names, &mut cells, &mut values);
+        self.same("read: refusal, line, nodes, facts, rules", (r.refusal, r.line, r.nodes, r.facts, r.rules), expected)?;
+        self.same_slice("read: names", &names, &names_after)?;
+        self.same_slice("read: cells", &cells, &cells_after)?;
+        self.same_slice("read: values", &values, &values_after)
+    }
+
+    fn validate(&mut self, text: &[u8], read: &Result<Book, (u8, usize)>) -> Outcome {
+        let mut room = Room {
+            names: lend(self.r, NAMES),
+            cells: lend(self.r, CELLS),
+            values: lend(self.r, VALUES),
+            plan: lend(self.r, PLAN_CELLS),
+            work: lend(self.r, WORK),
+            lists: lend(self.r, LISTS),
+            lengths: lend(self.r, LENGTHS),
+        };
+        let mut after = room.clone();
+        let enough = room.names.len() >= NAMES
+            && room.cells.len() >= CELLS
+            && room.values.len() >= VALUES
+            && room.plan.len() >= PLAN_CELLS
+            && room.work.len() >= WORK
+            && room.lists.len() >= LISTS
+            && room.lengths.len() >= LENGTHS;
+        let mut expected = (8, 0, 0);
+        let mut report = Vec::new();
+        if enough {
+            let t = read.as_ref().map_or_else(|_| Tables::zeros(), tables::encode);
+            put(&mut after.names, 0, &t.names);
+            put(&mut after.cells, 0, &t.cells);
+            put(&mut after.values, 0, &t.values);
+            match read {
+                Err((number, line)) => expected = (*number as u32, *line, 0),
+                Ok(book) => {
+                    let plan = plan::compile(book);
+                    expected = (0, 0, plan.steps.len());
+                    put(&mut after.plan, 0, &plan::encode(&plan));
+                    put(&mut after.work, 0, &words(&plan::run(book, &plan)));
+                    let lists = book.lists(&book.met());
+                    for (k, list) in lists.iter().enumerate() {
+                        put(&mut after.lists, ROW * k, &narrow(list));
+                        after.lengths[k] = list.len() as u16;
+                    }
+                    report = reference::report_of(book, &lists);
+                }
+            }
+        }
+        let answer = library::validate(text, &mut room);
+        self.same("validate: refusal, line, steps", answer, expected)?;
+        self.same_slice("validate: names", &room.names, &after.names)?;
+        self.same_slice("validate: cells", &room.cells, &after.cells)?;
+        self.same_slice("validate: values", &room.values, &after.values)?;
+        self.same_slice("validate: plan", &room.plan, &after.plan)?;
+        self.same_slice("validate: work", &room.work, &after.work)?;
+        self.same_slice("validate: lists", &room.lists, &after.lists)?;
+        self.same_slice("validate: lengths", &room.lengths, &after.lengths)?;
+        if answer.0 == 0 { self.whole_report(&room, &report) } else { Ok(()) }
+    }
+
+    /// The report of a whole run, put together from its parts.
+    fn whole_report(&mut self, room: &Room, report: &[u8]) -> Outcome {
+        let t = Lent { names: &room.names, cells: &room.cells, values: &room.values };
+        let mut page: Vec<u8> = garbage(self.r, PAGE);
+        let mut out = Vec::new();
+        for part in 0..room.cells[9] as usize + 2 {
+            let (refusal, bytes) = library::report(t, &room.lists, &room.lengths, part, &mut page);
+            self.same("report: refusal", refusal, 0)?;
+            out.extend(&page[..bytes.min(PAGE)]);
+        }
+        self.same("report", String::from_utf8_lossy(&out), String::from_utf8_lossy(report))
+    }
+
+    /// All operations on tables of any content.
+    fn tables(&mut self, t: &Tables) -> Outcome {
+        let book = tables::decode(t);
+        self.compile(t, &book)?;
+        self.verdicts(t, &book)?;
+        self.report(t, &book)?;
+        let Some(book) = book else {
+            let cells = garbage(self.r, PLAN_CELLS);
+            return self.plan(t, None, &cells);
+        };
+        let mut cells = plan::encode(&plan::compile(&book));
+        self.plan(t, Some(&book), &cells)?;
+        if self.r.once_in(2) {
+            return Ok(());
+        }
+        if self.r.once_in(2) {
+            cells = plan::encode(&hostile::plan(self.r, &book));
+        }
+        hostile::change_plan(self.r, &book, &mut cells);
+        self.plan(t, Some(&book), &cells)
+    }
+
+    fn compile(&mut self, t: &Tables, book: &Option<Book>) -> Outcome {
+        let three = self.three(t);
+        let mut plan: Vec<u16> = lend(self.r, PLAN_CELLS);
+        let mut after = plan.clone();
+        let expected = match book {
+            _ if !three.enough() || plan.len() < PLAN_CELLS => (8, 0),
+            None => (9, 0),
+            Some(book) => {
+                let made = plan::compile(book);
+                put(&mut after, 0, &plan::encode(&made));
+                (0, made.steps.len())
+            }
+        };
+        let answer = library::compile(three.lent(), &mut plan);
+        self.same("compile: refusal, steps", answer, expected)?;
+        self.same_slice("compile: plan", &plan, &after)
+    }
+
+    /// Every node and shape, or some of many, and numbers that are not there.
+    fn verdicts(&mut self, t: &Tables, book: &Option<Book>) -> Outcome {
+        let three = self.three(t);
+        let (nodes, shapes, met) = match book {
+            Some(book) => (book.nodes(), book.shapes.len(), book.met()),
+            None => (2, 2, Vec::new()),
+        };
+        let mut asked: Vec<(usize, usize)> = Vec::new();
+        if !three.enough() {
+            asked.push((0, 0));
+        } else if nodes * shapes <= 100 {
+            asked.extend((0..nodes).flat_map(|v| (0..shapes).map(move |s| (v, s))));
+        } else {
+            // the first nodes oftener: they have more facts
+            let node = || if self.r.once_in(2) { self.r.below(nodes.min(8)) } else { self.r.below(nodes) };
+            asked.extend((0..40).map(|_| (node(), self.r.below(shapes))));
+        }
+        let far = *self.r.pick(&[1, 1024, usize::MAX]);
+        asked.extend([(nodes, 0), (0, shapes), (nodes.saturating_add(far), shapes), (self.r.below(1024), self.r.below(64))]);
+        for (v, s) in asked {
+            let tally = *self.r.pick(&[0, 7, u32::MAX - 1, u32::MAX]);
+            let refusal = match book {
+                _ if !three.enough() => 8,
+                None => 9,
+                Some(_) if v >= nodes || s >= shapes => 10,
+                Some(_) => 0,
+            };
+            let expected = match book {
+                Some(book) if refusal == 0 => (0, met[book.shapes[s]].has(v) as u32, tally.saturating_add(1)),
+                _ => (refusal, 0, tally),
+            };
+            let answer = library::verdict(three.lent(), v, s, tally);
+            self.same(&format!("verdict of node {v}, shape {s}: refusal, conforms, tally"), answer, expected)?;
+        }
+        Ok(())
+    }
+
+    /// Parts of a report with lists of any content.
+    fn report(&mut self, t: &Tables, book: &Option<Book>) -> Outcome {
+        let three = self.three(t);
+        let mut lists: Vec<u16> = lend(self.r, LISTS);
+        let mut lengths: Vec<u16> = lend(self.r, LENGTHS);
+        let nodes = book.as_ref().map_or(5, |book| book.nodes().max(1));
+        for (k, length) in lengths.iter_mut().enumerate().take(LENGTHS) {
+            *length = *self.r.pick(&[0, 1, 2, 9, 1023, 1024, 1025, 65535]);
+            let row = lists.iter_mut().skip(ROW * k).take((*length as usize).min(20));
+            row.for_each(|v| *v = (self.r.below(nodes) + self.r.once_in(200) as usize) as u16);
+            if *length > 20 && lists.len() >= LISTS && self.r.once_in(2) {
+                lists[ROW * k..ROW * (k + 1)].iter_mut().for_each(|v| *v %= nodes as u16);
+            }
+        }
+        let rules = book.as_ref().map_or(3, |book| book.rules.len());
+        for _ in 0..3 {
+            let part = match self.r.below(12) {
+                0 => rules + 2,
+                1 => usize::MAX - self.r.below(2),
+                _ => self.r.between(0, rules + 1),
+            };
+            let mut page: Vec<u8> = lend(self.r, PAGE);
+            let mut after = page.clone();
+            let enough = three.enough() && lists.len() >= LISTS && lengths.len() >= LENGTHS && page.len() >= PAGE;
+            let written = if enough { part_of(book, &lists, &lengths, part) } else { Err(8) };
+            let expected = match &written {
+                Err(refusal) => (*refusal, 0),
+                Ok(text) => {
+                    put(&mut after, 0, text);
+                    (0, text.len())
+                }
+            };
+            let answer = library::report(three.lent(), &lists, &lengths, part, &mut page);
+            self.same(&format!("report of part {part}: refusal, bytes"), answer, expected)?;
+            self.same_slice(&format!("report of part {part}: page"), &page, &after)?;
+        }
+        Ok(())
+    }
+
+    /// A plan of any content, for tables of any content: its sets, and the lists read off them and off garbage.
+    fn plan(&mut self, t: &Tables, book: Option<&Book>, cells: &[u16]) -> Outcome {
+        let three = self.three(t);
+        let lent_plan = lend_of(self.r, cells);
+        let mut work: Vec<u64> = lend(self.r, WORK);
+        let mut after = work.clone();
+        let plan = book.and_then(|book| plan::decode(book, cells));
+        let long = three.enough() && lent_plan.len() >= PLAN_CELLS;
+        let expected = match (&plan, book) {
+            _ if !long || work.len() < WORK => 8,
+            (Some(plan), Some(book)) => {
+                put(&mut after, 0, &words(&plan::run(book, plan)));
+                0
+            }
+            _ => 9,
+        };
+        let answer = library::run(three.lent(), &lent_plan, &mut work);
+        self.same("run: refusal", answer, expected)?;
+        self.same_slice("run: work", &work, &after)?;
+        self.lists(&three, book, &plan, &lent_plan, &work)?;
+        if self.r.once_in(4) {
+            let any: Vec<u64> = lend(self.r, WORK);
+            self.lists(&three, book, &plan, &lent_plan, &any)?;
+        }
+        self.same_slice("the lent cells afterwards", &three.cells[..CELLS.min(three.cells.len())], &t.cells[..CELLS.min(three.cells.len())])
+    }
+
+    fn lists(&mut self, three: &Three, book: Option<&Book>, plan: &Option<Plan>, lent_plan: &[u16], work: &[u64]) -> Outcome {
+        let rules = book.map_or(2, |book| book.rules.len());
+        let far = *self.r.pick(&[rules + 1, 32, usize::MAX]);
+        for rule in (0..rules).chain([rules, far]) {
+            let mut row: Vec<u16> = lend(self.r, ROW);
+            let mut after = row.clone();
+            let long = three.enough() && lent_plan.len() >= PLAN_CELLS && work.len() >= WORK && row.len() >= ROW;
+            let expected = match (plan, book) {
+                _ if !long => (8, 0),
+                (Some(plan), Some(book)) if rule < rules => {
+                    let set = Set(std::array::from_fn(|i| work[16 * plan.rules[rule] + i]));
+                    let list: Vec<usize> = set.iter().filter(|&v| v < book.nodes()).collect();
+                    put(&mut after, 0, &narrow(&list));
+                    (0, list.len())
+                }
+                (Some(_), Some(_)) => (10, 0),
+                _ => (9, 0),
+            };
+            let answer = library::list(three.lent(), lent_plan, work, rule, &mut row);
+            self.same(&format!("list of rule {rule}: refusal, nodes"), answer, expected)?;
+            self.same_slice(&format!("list of rule {rule}: row"), &row, &after)?;
+        }
+        Ok(())
+    }
+}
+
+/// Part k of the report by tables and lists: the first line, the lines of each rule, the last line.
+fn part_of(book: &Option<Book>, lists: &[u16], lengths: &[u16], part: usize) -> Result<Vec<u8>, u32> {
+    let Some(book) = book else { return Err(9) };
+    let rules = book.rules.len();
+    if part == 0 {
+        return Ok(book.head_line().into_bytes());
+    }
+    if part <= rules {
+        let length = lengths[part - 1] as usize;
+        let row: Vec<usize> = lists[ROW * (part - 1)..].iter().take(length).map(|&v| v as usize).collect();
+        if length > ROW || row.iter().any(|&v| v >= book.nodes()) {
+            return Err(9);
+        }
+        return Ok(book.break_lines(part - 1, &row));
+    }
+    if part == rules + 1 {
+        return Ok(reference::found_line(lengths[..rules].iter().map(|&n| n as usize).sum()).into_bytes());
+    }
+    Err(10)
+}
+
+fn words(sets: &[Set]) -> Vec<u64> {
+    sets.iter().flat_map(|set| set.0).collect()
+}
+
+fn narrow(list: &[usize]) -> Vec<u16> {
+    list.iter().map(|&v| v as u16).collect()
+}
+
+/// The book of a seed, and whether all answers about it are the same.
+pub fn compare(seed: u64) -> (Vec<u8>, &'static str, usize, Outcome) {
+    let r = Random::new(seed);
+    let (text, kind) = books::generate(&r);
+    let mut case = Case { r: &r, answers: 0 };
+    let outcome = case.book(&text);
+    (text, kind, case.answers, outcome)
+}
