@@ -1,0 +1,48 @@
+use mathlib.Core.Path.{sym, ap, _∙_}
+use Rattle.lists.specs.Answers.{Answer, saidOf}
+use borrow.Author.Needs.{needs}
+use Rattle.melivanoup.proofs.melivanoup_list.Statement.{statement}
+use Rattle.melivanoup.proofs.melivanoup_list.Tie as tie
+
+list-requires : tie.Need-list-requires
+list-requires c κs = search needs
+
+enum-known-n : tie.Need-enum-known-n
+enum-known-n c = search needs
+
+enum-known-r : tie.Need-enum-known-r
+enum-known-r c = search needs
+
+number-requires : tie.Need-number-requires
+number-requires c κs = search needs
+
+same-length : tie.Need-same-length
+same-length c = search needs
+
+returns : tie.Need-returns
+returns c =
+    let x = c .before .before .before .before .before .list in
+    let q = ap saidOf (sym (c .before .n .given .1)) ∙ x .ensures .0 in
+    (ap (λ (a : Answer). a .refusal) q, (ap (λ (a : Answer). a .nodes) q, x .ensures .1))
+
+same-length-2 : tie.Need-same-length-2
+same-length-2 c = search needs
+
+returns-2 : tie.Need-returns-2
+returns-2 c =
+    let x = c .before .before .before .before .before .before .list in
+    let q = ap saidOf (sym (c .before .before .r .given .1)) ∙ x .ensures .0 in
+    (c .number .ensures ∙ ap (λ (a : Answer). a .refusal) q, (ap (λ (a : Answer). a .nodes) q, x .ensures .1))
+
+pub melivanoup-list-spec : {M : Type 1} → statement M
+melivanoup-list-spec =
+    tie.close
+    (tie.spec
+    list-requires
+    enum-known-n
+    enum-known-r
+    number-requires
+    same-length
+    returns
+    same-length-2
+    returns-2)

@@ -1,0 +1,254 @@
+// The operations for programs in C and Rust, as a static library. Each function calls one operation and has its promise: it
+// returns the number of the refusal, or 0 where there is none, and writes all else that the operation answers through lent
+// numbers, which are 0 where a refusal leaves nothing to say.
+// Operations: melivanoup_read, melivanoup_verdict, melivanoup_compile, melivanoup_run, melivanoup_list, melivanoup_validate,
+// melivanoup_report.
+use compiler::Compiled;
+use compiler::compile;
+use lists::Listed;
+use lists::list;
+use model::Refusal;
+use model::code;
+use reader::ReadAnswer;
+use reader::read;
+use report::Page;
+use report::report_part;
+use runner::Ran;
+use runner::run;
+use validation::Validated;
+use validation::validate;
+use verdict::Answer;
+use verdict::verdict;
+ghost use mathlib.Core.Path.{_≡_};
+ghost use Rattle.model.specs.Refusals.{codeOf, lineOf};
+ghost use Rattle.reader.specs.Answers.{readAnswer, namesOf, cellsOf, valuesOf};
+ghost use Rattle.verdict.specs.Answers.{judged, tallied};
+ghost use Rattle.compiler.specs.Answers.{compileAnswer, planAfter};
+ghost use Rattle.runner.specs.Run.{runSaid, workAfter};
+ghost use Rattle.lists.specs.Answers.{listSaid, rowAfter};
+ghost use Rattle.validation.specs.Claim.{Demand3};
+ghost use Rattle.validation.specs.Whole.{lent, said, after};
+ghost use Rattle.report.specs.Answers.{partSaid, partAfter};
+ghost use Rattle.melivanoup.specs.Numbers.{verdictNumber, verdictConforms, runNumber, wholeNumber, wholeLine, wholeSteps, saidBy};
+
+// The number of a refusal.
+fn number(r: Refusal) -> u32
+    ensures { λ n. ⌜ n ≡ codeOf r ⌝ }
+{
+    code(r) as u32
+}
+
+// The number of a refusal; its line through line.
+fn with_line(line: &mut usize, r: Refusal) -> u32
+    ensures { λ n. ⌜ n ≡ codeOf r ⌝ }
+    ensures { λ _. ⌜ now (line .exit) ≡ lineOf r ⌝ }
+{
+    let k = code(r);
+    let at = model::line(r);
+    *line = at;
+    k as u32
+}
+
+// A book to its tables: the line of a refusal, and the counts of an accepted book.
+#[no_mangle]
+pub extern "C" fn melivanoup_read(
+    book: &[u8],
+    names: &mut [u8],
+    cells: &mut [u16],
+    values: &mut [i64],
+    line: &mut usize,
+    nodes: &mut usize,
+    facts: &mut usize,
+    rules: &mut usize,
+) -> u32
+    ensures { λ r. ⌜ r ≡ readAnswer (now (book .entry)) (now (names .entry)) (now (cells .entry)) (now (values .entry)) .refusal ⌝ }
+    ensures { λ _. ⌜ now (line .exit) ≡ readAnswer (now (book .entry)) (now (names .entry)) (now (cells .entry)) (now (values .entry)) .line ⌝ }
+    ensures { λ _. ⌜ now (nodes .exit) ≡ readAnswer (now (book .entry)) (now (names .entry)) (now (cells .entry)) (now (values .entry)) .counts .nodes ⌝ }
+    ensures { λ _. ⌜ now (facts .exit) ≡ readAnswer (now (book .entry)) (now (names .entry)) (now (cells .entry)) (now (values .entry)) .counts .facts ⌝ }
+    ensures { λ _. ⌜ now (rules .exit) ≡ readAnswer (now (book .entry)) (now (names .entry)) (now (cells .entry)) (now (values .entry)) .counts .rules ⌝ }
+    ensures { λ _. ⌜ now (names .exit) ≡ namesOf (now (book .entry)) (now (names .entry)) (now (cells .entry)) (now (values .entry)) ⌝ }
+    ensures { λ _. ⌜ now (cells .exit) ≡ cellsOf (now (book .entry)) (now (names .entry)) (now (cells .entry)) (now (values .entry)) ⌝ }
+    ensures { λ _. ⌜ now (values .exit) ≡ valuesOf (now (book .entry)) (now (names .entry)) (now (cells .entry)) (now (values .entry)) ⌝ }
+{
+    match read(book, names, cells, values) {
+        ReadAnswer::Accepted(n) => {
+            *line = 0;
+            *nodes = n.nodes;
+            *facts = n.facts;
+            *rules = n.rules;
+            0
+        }
+        ReadAnswer::Refused(r) => {
+            *nodes = 0;
+            *facts = 0;
+            *rules = 0;
+            with_line(line, r)
+        }
+    }
+}
+
+// The direct verdict: 1 where the node conforms to the shape, else 0; and the tally, which comes in and goes out.
+#[no_mangle]
+pub extern "C" fn melivanoup_verdict(
+    names: &[u8],
+    cells: &[u16],
+    values: &[i64],
+    node: usize,
+    shape: usize,
+    conforms: &mut u32,
+    tally: &mut u32,
+) -> u32
+    ensures { λ r. ⌜ r ≡ verdictNumber (judged (now (names .entry)) (now (cells .entry)) (now (values .entry)) node shape) ⌝ }
+    ensures { λ _. ⌜ now (conforms .exit) ≡ verdictConforms (judged (now (names .entry)) (now (cells .entry)) (now (values .entry)) node shape) ⌝ }
+    ensures { λ _. ⌜ now (tally .exit) ≡ tallied (judged (now (names .entry)) (now (cells .entry)) (now (values .entry)) node shape) (now (tally .entry)) ⌝ }
+{
+    let outcome = verdict(names, cells, values, node, shape, *tally);
+    *tally = outcome.tally;
+    let answer = outcome.answer;
+    match answer {
+        Answer::Yes => {
+            *conforms = 1;
+            0
+        }
+        Answer::No => {
+            *conforms = 0;
+            0
+        }
+        Answer::Refused(r) => {
+            *conforms = 0;
+            number(r)
+        }
+    }
+}
+
+// Tables to their plan: the number of steps.
+#[no_mangle]
+pub extern "C" fn melivanoup_compile(
+    names: &[u8],
+    cells: &[u16],
+    values: &[i64],
+    plan: &mut [u16],
+    steps: &mut usize,
+) -> u32
+    ensures { λ r. ⌜ r ≡ compileAnswer (now (names .entry)) (now (cells .entry)) (now (values .entry)) (now (plan .entry)) .refusal ⌝ }
+    ensures { λ _. ⌜ now (steps .exit) ≡ compileAnswer (now (names .entry)) (now (cells .entry)) (now (values .entry)) (now (plan .entry)) .steps ⌝ }
+    ensures { λ _. ⌜ now (plan .exit) ≡ planAfter (now (names .entry)) (now (cells .entry)) (now (values .entry)) (now (plan .entry)) ⌝ }
+{
+    match compile(names, cells, values, plan) {
+        Compiled::Steps(n) => {
+            *steps = n;
+            0
+        }
+        Compiled::Refused(r) => {
+            *steps = 0;
+            number(r)
+        }
+    }
+}
+
+// A plan to the sets of its steps.
+#[no_mangle]
+pub extern "C" fn melivanoup_run(
+    names: &[u8],
+    cells: &[u16],
+    values: &[i64],
+    plan: &[u16],
+    work: &mut [u64],
+) -> u32
+    ensures { λ r. ⌜ r ≡ runNumber (runSaid (now (names .entry)) (now (cells .entry)) (now (values .entry)) (now (plan .entry)) (now (work .entry))) ⌝ }
+    ensures { λ _. ⌜ now (work .exit) ≡ workAfter (now (names .entry)) (now (cells .entry)) (now (values .entry)) (now (plan .entry)) (now (work .entry)) ⌝ }
+{
+    match run(names, cells, values, plan, work) {
+        Ran::Done => 0,
+        Ran::Refused(r) => number(r),
+    }
+}
+
+// The list of a rule: how many nodes it has.
+#[no_mangle]
+pub extern "C" fn melivanoup_list(
+    names: &[u8],
+    cells: &[u16],
+    values: &[i64],
+    plan: &[u16],
+    work: &[u64],
+    rule: usize,
+    row: &mut [u16],
+    nodes: &mut usize,
+) -> u32
+    ensures { λ r. ⌜ r ≡ listSaid (now (names .entry)) (now (cells .entry)) (now (values .entry)) (now (plan .entry)) (now (work .entry)) rule (now (row .entry)) .refusal ⌝ }
+    ensures { λ _. ⌜ now (nodes .exit) ≡ listSaid (now (names .entry)) (now (cells .entry)) (now (values .entry)) (now (plan .entry)) (now (work .entry)) rule (now (row .entry)) .nodes ⌝ }
+    ensures { λ _. ⌜ now (row .exit) ≡ rowAfter (now (names .entry)) (now (cells .entry)) (now (values .entry)) (now (plan .entry)) (now (work .entry)) rule (now (row .entry)) ⌝ }
+{
+    match list(names, cells, values, plan, work, rule, row) {
+        Listed::Nodes(n) => {
+            *nodes = n;
+            0
+        }
+        Listed::Refused(r) => {
+            *nodes = 0;
+            number(r)
+        }
+    }
+}
+
+// The whole run: the line of a refusal, and the number of steps of an accepted book's plan. Demand 3 is the first promise.
+#[no_mangle]
+pub extern "C" fn melivanoup_validate(
+    book: &[u8],
+    names: &mut [u8],
+    cells: &mut [u16],
+    values: &mut [i64],
+    plan: &mut [u16],
+    work: &mut [u64],
+    lists: &mut [u16],
+    lengths: &mut [u16],
+    line: &mut usize,
+    steps: &mut usize,
+) -> u32
+    ensures { λ r. ⌜ Demand3 (now (book .entry)) (saidBy r (now (line .exit)) (now (steps .exit))) (now (plan .exit)) (now (lists .exit)) (now (lengths .exit)) ⌝ }
+    ensures { λ r. ⌜ r ≡ wholeNumber (said (now (book .entry)) (lent (now (names .entry)) (now (cells .entry)) (now (values .entry)) (now (plan .entry)) (now (work .entry)) (now (lists .entry)) (now (lengths .entry)))) ⌝ }
+    ensures { λ _. ⌜ now (line .exit) ≡ wholeLine (said (now (book .entry)) (lent (now (names .entry)) (now (cells .entry)) (now (values .entry)) (now (plan .entry)) (now (work .entry)) (now (lists .entry)) (now (lengths .entry)))) ⌝ }
+    ensures { λ _. ⌜ now (steps .exit) ≡ wholeSteps (said (now (book .entry)) (lent (now (names .entry)) (now (cells .entry)) (now (values .entry)) (now (plan .entry)) (now (work .entry)) (now (lists .entry)) (now (lengths .entry)))) ⌝ }
+    ensures { λ _. ⌜ lent (now (names .exit)) (now (cells .exit)) (now (values .exit)) (now (plan .exit)) (now (work .exit)) (now (lists .exit)) (now (lengths .exit)) ≡ after (now (book .entry)) (lent (now (names .entry)) (now (cells .entry)) (now (values .entry)) (now (plan .entry)) (now (work .entry)) (now (lists .entry)) (now (lengths .entry))) ⌝ }
+{
+    match validate(book, names, cells, values, plan, work, lists, lengths) {
+        Validated::Steps(n) => {
+            *line = 0;
+            *steps = n;
+            0
+        }
+        Validated::Refused(r) => {
+            *steps = 0;
+            with_line(line, r)
+        }
+    }
+}
+
+// A part of the report of a book: how many bytes of the page it takes.
+#[no_mangle]
+pub extern "C" fn melivanoup_report(
+    names: &[u8],
+    cells: &[u16],
+    values: &[i64],
+    lists: &[u16],
+    lengths: &[u16],
+    part: usize,
+    page: &mut [u8],
+    bytes: &mut usize,
+) -> u32
+    ensures { λ r. ⌜ r ≡ partSaid (now (names .entry)) (now (cells .entry)) (now (values .entry)) (now (lists .entry)) (now (lengths .entry)) part (now (page .entry)) .refusal ⌝ }
+    ensures { λ _. ⌜ now (bytes .exit) ≡ partSaid (now (names .entry)) (now (cells .entry)) (now (values .entry)) (now (lists .entry)) (now (lengths .entry)) part (now (page .entry)) .bytes ⌝ }
+    ensures { λ _. ⌜ now (page .exit) ≡ partAfter (now (names .entry)) (now (cells .entry)) (now (values .entry)) (now (lists .entry)) (now (lengths .entry)) part (now (page .entry)) ⌝ }
+{
+    match report_part(names, cells, values, lists, lengths, part, page) {
+        Page::Bytes(n) => {
+            *bytes = n;
+            0
+        }
+        Page::Refused(r) => {
+            *bytes = 0;
+            number(r)
+        }
+    }
+}
