@@ -12,7 +12,8 @@
  *   A refused book (1 to 7) leaves its three tables filled with zeros and changes nothing else; every other refusal changes
  *   nothing that is lent as a slice.
  *
- * Stack: the functions keep no state and use no heap; lend from the heap or static memory. See MELIVANOUP_STACK.
+ * The functions keep no state and use no heap. Each wants at most MELIVANOUP_STACK bytes of stack; so lend from the heap or
+ * from static memory, and mind it where you make threads.
  */
 #ifndef MELIVANOUP_H
 #define MELIVANOUP_H
@@ -37,6 +38,10 @@ extern "C" {
 
 /* The longest book, in bytes: one byte more is refused (1). */
 #define MELIVANOUP_BOOK 65536
+
+/* Measured, not proved: books need at most 0.6 MB, tables from elsewhere 1.4. Where there is less, the program ends at the
+ * guard page. */
+#define MELIVANOUP_STACK 1572864
 
 /* The first cells are counts; docs/LAYOUT.md has the other columns. */
 #define MELIVANOUP_CELL_NODES 0
