@@ -23,7 +23,7 @@ returns : tie.Need-returns
 returns c =
     let x = c .before .before .before .before .before .report-part in
     let q = ap saidOf (sym (c .before .n .given .1)) ∙ x .ensures .0 in
-    (ap (λ (a : Answer). a .refusal) q, (ap (λ (a : Answer). a .bytes) q, x .ensures .1))
+    (ap (λ (a : Answer). a .refusal) q, (ap (λ (a : Answer). a .bytes) q, x .ensures .1 .0))
 
 same-length-2 : tie.Need-same-length-2
 same-length-2 c = search needs
@@ -32,7 +32,7 @@ returns-2 : tie.Need-returns-2
 returns-2 c =
     let x = c .before .before .before .before .before .before .report-part in
     let q = ap saidOf (sym (c .before .before .r .given .1)) ∙ x .ensures .0 in
-    (c .number .ensures ∙ ap (λ (a : Answer). a .refusal) q, (ap (λ (a : Answer). a .bytes) q, x .ensures .1))
+    (c .number .ensures ∙ ap (λ (a : Answer). a .refusal) q, (ap (λ (a : Answer). a .bytes) q, x .ensures .1 .0))
 
 pub melivanoup-report-spec : {M : Type 1} → statement M
 melivanoup-report-spec =
