@@ -42,8 +42,8 @@ measure() {
     if [ "$1" = jena ]; then
         mkdir -p "$out/$2"
         "$bench" turtle "$out/$2.book" "$out/$2"
-        timeout "$limit" java -Xss64m -cp "$messages:$jars/*" "$here/Jena.java" "$out/$2" 10 2>/dev/null
-        "$bench" breaks "$out/$2.book" "$out/$2/breaks" "$out/$2.jena"
+        timeout "$limit" java -Xss64m -cp "$messages:$jars/*" "$here/Jena.java" "$out/$2" 10 2>/dev/null &&
+            "$bench" breaks "$out/$2.book" "$out/$2/breaks" "$out/$2.jena"
     else
         timeout "$limit" "$bench" time "$1" "$out/$2.book" "$out/$2.$1"
     fi
