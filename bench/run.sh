@@ -1,10 +1,10 @@
 #!/usr/bin/env bash
 # bash bench/run.sh [BOOK ..]: the proved library, the Rust reference, SQLite and Apache Jena SHACL on the same books, side by
 # side. Every answer is compared with the proved one's, byte for byte. The figures go to bench/target/figures.txt, the table to
-# standard output. LIMIT: the most seconds for one system and book (default 100).
+# standard output. LIMIT: the most seconds for one system and book (default 60).
 set -eu
 here=$(cd "$(dirname "$0")" && pwd)
-limit=${LIMIT:-100}
+limit=${LIMIT:-60}
 out=$here/target/books
 figures=$here/target/figures.txt
 bench=$here/target/release/bench
@@ -26,7 +26,7 @@ fi
 
 # Debian's jena-core has the messages of its XML parts under another name than the code looks for: they are unpacked beside it.
 jars=/usr/share/java
-if [ -f $jars/jena-shacl.jar ] && command -v javac jar >/dev/null; then
+if [ -f $jars/jena-shacl.jar ] && command -v javac >/dev/null && command -v jar >/dev/null; then
     systems="$systems jena"
     messages=$here/target/messages
     rm -rf "$messages"
@@ -42,8 +42,8 @@ measure() {
     if [ "$1" = jena ]; then
         mkdir -p "$out/$2"
         "$bench" turtle "$out/$2.book" "$out/$2"
-        timeout "$limit" java -Xss64m -cp "$messages:$jars/*" "$here/Jena.java" "$out/$2" 10 2>/dev/null
-        "$bench" breaks "$out/$2.book" "$out/$2/breaks" "$out/$2.jena"
+        timeout "$limit" java -Xss64m -cp "$messages:$jars/*" "$here/Jena.java" "$out/$2" 10 2>"$out/$2/log" &&
+            "$bench" breaks "$out/$2.book" "$out/$2/breaks" "$out/$2.jena"
     else
         timeout "$limit" "$bench" time "$1" "$out/$2.book" "$out/$2.$1"
     fi
@@ -53,15 +53,20 @@ differ=0
 for book in ${*:-$books}; do
     for system in $systems; do
         rm -f "$out/$book.$system"
-        if times=$(measure "$system" "$book"); then
+        status=0
+        times=$(measure "$system" "$book") || status=$?
+        case $status in
+        0)
             echo "$book $system $times" | tee -a "$figures" >&2
             cmp "$out/$book.$system" "$out/$book.proved" >&2 || { echo "$book: $system and proved DIFFER" >&2; differ=1; }
-        else
-            echo "$book $system over $limit" | tee -a "$figures" >&2
-        fi
+            ;;
+        124) echo "$book $system over $limit" | tee -a "$figures" >&2 ;;
+        *) echo "$book: $system FAILED" >&2; differ=1 ;;
+        esac
     done
 done
 
 sed -n 's/^model name[^:]*: */Machine: /p' /proc/cpuinfo | sort | uniq -c | sed -E 's/^ *([0-9]+) (.*)/\2, \1 cores/'
 "$bench" table "$figures"
-[ $differ -eq 0 ] && echo "all answers are equal" || { echo "answers DIFFER"; exit 1; }
+[ $differ -eq 0 ] || { echo "answers DIFFER, or a system failed"; exit 1; }
+echo "all answers are equal"
