@@ -16,7 +16,12 @@ pub enum Step {
     Untest(usize),
     Both(usize, usize),
     Either(usize, usize),
-    Count { path: usize, step: usize, lo: usize, hi: Option<usize> },
+    Count {
+        path: usize,
+        step: usize,
+        lo: usize,
+        hi: Option<usize>,
+    },
     Every(usize, usize),
     Equal(End, usize),
     Unequal(End, usize),
@@ -146,7 +151,7 @@ pub fn run(book: &Book, plan: &Plan) -> Vec<Set> {
             Step::Either(a, b) => sets[a].has(v) || sets[b].has(v),
             Step::Count { path, step, lo, hi } => {
                 let n = ends[path][v].and(&sets[step]).len();
-                lo <= n && hi.map_or(true, |h| n <= h)
+                lo <= n && hi.is_none_or(|h| n <= h)
             }
             Step::Every(e, m) => ends[e][v].iter().all(|w| sets[m].has(w)),
             Step::Equal(e, _) => start(e, v) == link[v],
