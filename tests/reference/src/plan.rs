@@ -292,3 +292,13 @@ pub fn decode(book: &Book, cells: &[u16]) -> Option<Plan> {
     }
     Some(plan)
 }
+
+/// Document 01's book B and its plan: Equal, Unequal, From twin, Both 2 1.
+#[test]
+fn plan_of_book_b() {
+    let text = include_bytes!("../../vectors/000-book-b.book");
+    let book = crate::reader::read(text).unwrap();
+    let (path, mount, twin) = (End::Along(2), 1, 2);
+    let steps = vec![Step::Equal(path, mount), Step::Unequal(path, mount), Step::From(twin), Step::Both(2, 1)];
+    assert_eq!(compile(&book), Plan { steps, rules: vec![3] });
+}
