@@ -186,8 +186,14 @@ pub fn tables(r: &Random) -> Tables {
     t
 }
 
-/// LO and HI at and about their limits.
-const BOUNDS: [u16; 8] = [0, 1, 1023, 1024, 1025, 1026, NO_NUMBER - 1, NO_NUMBER];
+/// A number on one of the borders between those with which a cell is well formed and those with which it is not.
+fn on_a_border(r: &Random, ok: impl FnMut(u16) -> bool) -> Option<u16> {
+    let ranges = [0..=40, 62..=66, 110..=130, 254..=257, 510..=513, 1022..=1026, 4094..=4097, 65533..=NO_NUMBER];
+    let numbers: Vec<u16> = ranges.into_iter().flatten().collect();
+    let good: Vec<bool> = numbers.iter().copied().map(ok).collect();
+    let borders: Vec<usize> = (1..numbers.len()).filter(|&i| good[i - 1] != good[i]).collect();
+    (!borders.is_empty()).then(|| numbers[r.pick(&borders) - r.below(2)])
+}
 
 /// A number that a cell may get: small ones, those about the counts and limits, any.
 fn number(r: &Random, counts: &[u16]) -> u16 {
@@ -200,18 +206,20 @@ fn number(r: &Random, counts: &[u16]) -> u16 {
     }
 }
 
-/// Changes some cells and values. Most changes after which the tables would not be well formed are taken back.
+/// Changes some cells and values. Most changes after which the tables would not be well formed are taken back; now and then the
+/// last one is on the border.
 pub fn change_tables(r: &Random, t: &mut Tables) {
-    for _ in 0..r.pick(&[1, 2, 5, 20]) {
-        let counts: Vec<u16> = t.cells[..10].to_vec();
+    let place = |cells: &[u16]| {
         let (column, count) = r.pick(&COLUMNS);
-        let k = some(r, LIMITS[count].min(counts[count] as usize));
-        let (at, new) = match r.below(12) {
-            0 => (r.below(CELLS), number(r, &counts)),
-            1 => (r.below(10), number(r, &counts)),
-            _ if matches!(column, tables::FORM_THIRDS | tables::FORM_FOURTHS) => (column + k, r.pick(&BOUNDS)),
-            _ => (column + k, number(r, &counts)),
-        };
+        match r.below(12) {
+            0 => r.below(CELLS),
+            1 => r.below(10),
+            _ => column + some(r, LIMITS[count].min(cells[count] as usize)),
+        }
+    };
+    for _ in 0..r.pick(&[1, 2, 5, 20]) {
+        let at = place(&t.cells);
+        let new = number(r, &t.cells[..10]);
         let before = std::mem::replace(&mut t.cells[at], new);
         let back = match tables::decode(t) {
             Some(book) => !quick(&book),
@@ -223,6 +231,18 @@ pub fn change_tables(r: &Random, t: &mut Tables) {
         if r.once_in(3) {
             let k = r.below(tables::VALUES);
             t.values[k] = value(r);
+        }
+    }
+    if t.cells[0] < 200 && r.once_in(3) {
+        let at = place(&t.cells);
+        let before = t.cells[at];
+        let border = on_a_border(r, |x| {
+            t.cells[at] = x;
+            tables::decode(t).is_some()
+        });
+        t.cells[at] = border.unwrap_or(before);
+        if tables::decode(t).is_some_and(|book| !quick(&book)) {
+            t.cells[at] = before;
         }
     }
 }
@@ -294,21 +314,29 @@ pub fn plan(r: &Random, b: &Book) -> Plan {
     p
 }
 
-/// Changes some cells of a plan. Most changes after which it would not be well formed are taken back.
+/// Changes some cells of a plan, as change_tables does.
 pub fn change_plan(r: &Random, b: &Book, cells: &mut [u16]) {
     let counts = [b.nodes(), b.pools[1].len(), b.paths.len(), b.forms.len(), b.rules.len(), cells[0] as usize].map(|n| n as u16);
+    let place = |cells: &[u16]| match r.below(12) {
+        0 => r.below(plan::PLAN_CELLS),
+        1 => 0,
+        2 => plan::RULE_STEPS + r.below(32),
+        _ => plan::STEP_CODES + plan::STEPS * r.below(5) + some(r, cells[0].min(512) as usize),
+    };
     for _ in 0..r.pick(&[1, 2, 5, 20]) {
-        let at = match r.below(12) {
-            0 => r.below(plan::PLAN_CELLS),
-            1 => 0,
-            2 => plan::RULE_STEPS + r.below(32),
-            _ => plan::STEP_CODES + plan::STEPS * r.below(5) + some(r, cells[0].min(512) as usize),
-        };
-        let is_bound = at >= plan::STEP_CODES + plan::STEPS * 3 && r.below(4) > 0;
-        let new = if is_bound { r.pick(&BOUNDS) } else { number(r, &counts) };
-        let before = std::mem::replace(&mut cells[at], new);
+        let at = place(cells);
+        let before = std::mem::replace(&mut cells[at], number(r, &counts));
         if plan::decode(b, cells).is_none() && r.below(10) > 0 {
             cells[at] = before;
         }
+    }
+    if r.once_in(3) {
+        let at = place(cells);
+        let before = cells[at];
+        let border = on_a_border(r, |x| {
+            cells[at] = x;
+            plan::decode(b, cells).is_some()
+        });
+        cells[at] = border.unwrap_or(before);
     }
 }
