@@ -1,5 +1,6 @@
 //! Generated books: small ones, larger ones, books at the limits of document 01, and damaged ones.
 
+use crate::damage::{damage, tokens, NUMBERS, WORDS};
 use crate::random::Random;
 use std::collections::HashSet;
 
@@ -43,16 +44,16 @@ pub fn generate(r: &Random) -> (Vec<u8>, &'static str) {
     match r.below(100) {
         0..=24 => {
             let mut text = write(r, sizes(r), 0);
-            (0..*r.pick(&[1, 1, 1, 2, 3])).for_each(|_| damage(r, &mut text));
+            (0..r.pick(&[1, 1, 1, 2, 3])).for_each(|_| damage(r, &mut text));
             (text, "damaged")
         }
-        25..=39 => (write(r, sizes(r), *r.pick(&[10, 40, 100, 400])), "with slips"),
+        25..=39 => (write(r, sizes(r), r.pick(&[10, 40, 100, 400])), "with slips"),
         _ => (write(r, sizes(r), 0), kind),
     }
 }
 
 fn small(r: &Random) -> Sizes {
-    let few = *r.pick(&[2, 4, 12]);
+    let few = r.pick(&[2, 4, 12]);
     Sizes {
         nodes: r.between(0, few),
         links: r.below(4),
@@ -69,7 +70,7 @@ fn small(r: &Random) -> Sizes {
 }
 
 fn middling(r: &Random) -> Sizes {
-    let nodes = *r.pick(&[30, 63, 64, 65, 100, 127, 128, 129, 191, 193, 320]);
+    let nodes = r.pick(&[30, 63, 64, 65, 100, 127, 128, 129, 191, 193, 320]);
     Sizes {
         nodes,
         links: r.between(1, 6),
@@ -132,7 +133,7 @@ fn write(r: &Random, s: Sizes, slips: usize) -> Vec<u8> {
     // many facts have room in a text only with short names
     let style = if s.facts > 1000 { SHORT } else { r.below(8) };
     let (pools, taken) = Default::default();
-    let (skew, hub) = (*r.pick(&[1, 2, 2, 6]), r.once_in(4));
+    let (skew, hub) = (r.pick(&[1, 2, 2, 6]), r.once_in(4));
     let mut w = Writer { r, text: Vec::new(), pools, taken, subjects: Vec::new(), facts: 0, style, skew, hub, slips };
     w.pools[LINKS].push("a".into());
     w.pools[TYPES].push("langstring".into());
@@ -198,8 +199,9 @@ impl Writer<'_> {
         if self.slip() {
             return self.wrong();
         }
-        const ODD: [&str; 14] =
-            ["true", "id", "node", "a", "-", "_", "0", "-1", "langstring", "fact", "shape", "count", "1024", "9223372036854775808"];
+        const ODD: [&str; 14] = [
+            "true", "id", "node", "a", "-", "_", "0", "-1", "langstring", "fact", "shape", "count", "1024", "9223372036854775808",
+        ];
         let k = self.pools[pool].len();
         let mut name = match self.style {
             0 => format!("{}{}", ["n", "p", "t", "l", "s"][pool], k),
@@ -207,7 +209,10 @@ impl Writer<'_> {
             2 => format!("{:-<31}", code(k)),
             _ => code(k),
         };
-        while self.taken[pool].contains(&name) || (pool == LINKS && (name == "id" || name == "a")) || (pool == TYPES && name == "langstring") {
+        while self.taken[pool].contains(&name)
+            || (pool == LINKS && (name == "id" || name == "a"))
+            || (pool == TYPES && name == "langstring")
+        {
             name = format!("{}_{}", code(self.r.below(2000)), code(k));
         }
         self.taken[pool].insert(name.clone());
@@ -221,7 +226,11 @@ impl Writer<'_> {
     /// a word that is hardly the right one: any name of the book, or none
     fn wrong(&self) -> String {
         let pool = &self.pools[self.r.below(5)];
-        if pool.is_empty() || self.r.once_in(3) { self.r.pick(&WORDS).to_string() } else { self.r.pick(pool).clone() }
+        if pool.is_empty() || self.r.once_in(3) {
+            self.r.pick(&WORDS).to_string()
+        } else {
+            self.r.pick(pool)
+        }
     }
 
     fn number(&self) -> String {
@@ -252,7 +261,12 @@ impl Writer<'_> {
         // a place for each line: definitions rather early, rules rather late
         let mut lines: Vec<(usize, u8)> = Vec::new();
         for (n, from, kind) in [
-            (s.links, 0, b'p'), (s.types, 0, b't'), (s.langs, 0, b'l'), (s.nodes, 20, b'n'), (s.facts, 50, b'f'), (s.shapes, 50, b's'),
+            (s.links, 0, b'p'),
+            (s.types, 0, b't'),
+            (s.langs, 0, b'l'),
+            (s.nodes, 20, b'n'),
+            (s.facts, 50, b'f'),
+            (s.shapes, 50, b's'),
             (s.rules, 80, b'r'),
         ] {
             (0..n).for_each(|_| lines.push((from + self.r.below(60), kind)));
@@ -293,11 +307,15 @@ impl Writer<'_> {
     fn node_line(&mut self) {
         let name = self.fresh(NODES);
         let kind = self.r.below(10);
-        if kind >= 4 && kind < 8 && self.pools[TYPES].len() > 1 {
+        if (4..8).contains(&kind) && self.pools[TYPES].len() > 1 {
             let k = if self.slip() { 0 } else { self.r.between(1, self.pools[TYPES].len() - 1) };
             let datatype = self.pools[TYPES][k].clone();
             let value = self.number();
-            if kind == 4 { self.line(&["text", &name, &datatype]) } else { self.line(&["number", &name, &datatype, &value]) }
+            if kind == 4 {
+                self.line(&["text", &name, &datatype])
+            } else {
+                self.line(&["number", &name, &datatype, &value])
+            }
         } else if kind >= 8 && !self.pools[LANGS].is_empty() {
             let lang = self.used(LANGS);
             self.line(&["words", &name, &lang]);
@@ -318,7 +336,7 @@ impl Writer<'_> {
         };
         let subject = if self.slip() { self.used(NODES) } else { self.pools[NODES][k].clone() };
         let link = self.used(LINKS);
-        let object = if self.hub { self.r.pick(&self.pools[NODES]).clone() } else { self.used(NODES) };
+        let object = if self.hub { self.r.pick(&self.pools[NODES]) } else { self.used(NODES) };
         self.line(&["fact", &subject, &link, &object]);
         self.facts += 1;
     }
@@ -351,18 +369,17 @@ impl Writer<'_> {
             return self.leaf(open, left);
         }
         if size == 2 || self.r.once_in(2) && size < (1 << (open - 2).min(20)) {
-            self.say(match self.r.below(4) {
-                0 => "(not ",
-                _ if left.paths == 0 => "(not ",
-                1 => "(all ",
-                _ => "(count ",
-            });
-            if self.text.ends_with(b"(count ") {
-                let (lo, hi) = (self.bound(), self.bound());
-                let hi = if self.r.once_in(2) { "*".into() } else { hi };
-                self.say(&format!("{lo} {hi} "));
+            let word = match self.r.below(4) {
+                1 if left.paths > 0 => "all",
+                2 | 3 if left.paths > 0 => "count",
+                _ => "not",
+            };
+            self.say(&format!("({word} "));
+            if word == "count" {
+                let hi = if self.r.once_in(2) { "*".into() } else { self.bound() };
+                self.say(&format!("{} {hi} ", self.bound()));
             }
-            if !self.text.ends_with(b"(not ") {
+            if word != "not" {
                 self.short_path(open - 1, left);
                 self.say(" ");
             }
@@ -405,7 +422,7 @@ impl Writer<'_> {
                     return self.say(&format!("(shape {name})"));
                 }
                 4 => {
-                    let kind = *self.r.pick(&["thing", "blank", "literal"]);
+                    let kind = self.r.pick(&["thing", "blank", "literal"]);
                     return self.say(&format!("(kind {kind})"));
                 }
                 5 => {
@@ -413,18 +430,22 @@ impl Writer<'_> {
                     return self.say(&format!("(datatype {name})"));
                 }
                 6 | 7 => {
-                    let (word, value) = (*self.r.pick(&["from", "above", "to", "below"]), self.number());
+                    let (word, value) = (self.r.pick(&["from", "above", "to", "below"]), self.number());
                     return self.say(&format!("({word} {value})"));
                 }
                 8 => return self.list("lang", LANGS, left),
                 9 => return self.list("closed", LINKS, left),
                 10 | 11 => {
-                    self.say(*self.r.pick(&["(equal ", "(apart "]));
-                    if left.paths == 0 || self.r.once_in(4) { self.say("id") } else { self.short_path(open - 1, left) }
+                    self.say(self.r.pick(&["(equal ", "(apart "]));
+                    if left.paths == 0 || self.r.once_in(4) {
+                        self.say("id")
+                    } else {
+                        self.short_path(open - 1, left)
+                    }
                     return self.last_link();
                 }
                 12..=15 if left.paths > 0 => {
-                    self.say(*self.r.pick(&["(less ", "(lesseq "]));
+                    self.say(self.r.pick(&["(less ", "(lesseq "]));
                     self.short_path(open - 1, left);
                     return self.last_link();
                 }
@@ -455,7 +476,7 @@ impl Writer<'_> {
     }
 
     fn short_path(&mut self, open: usize, left: &mut Left) {
-        let size = (*self.r.pick(&[1, 1, 1, 2, 3, 5, 9])).min(left.paths);
+        let size = (self.r.pick(&[1, 1, 1, 2, 3, 5, 9])).min(left.paths);
         left.paths -= size;
         self.path(size, open);
     }
@@ -504,7 +525,9 @@ impl Writer<'_> {
             self.say(&format!("(shape {name} {first}{inner}{last}{}\n", ")".repeat(s.open)));
             self.define(SHAPES, name);
         }
-        (0..2).for_each(|_| self.rule_line());
+        if s.rules < 30 {
+            self.rule_line();
+        }
     }
 
     fn list_item(&mut self) {
@@ -525,109 +548,4 @@ impl Writer<'_> {
             self.line(&["thing", &name]);
         }
     }
-}
-
-const WORDS: [&str; 64] = [
-    "(link", "(type", "(lang", "(thing", "(blank", "(number", "(text", "(words", "(fact", "(shape", "(rule", "(is", "(and", "(or",
-    "(not", "(kind", "(datatype", "(from", "(above", "(to", "(below", "(count", "(all", "(equal", "(apart", "(closed", "(less",
-    "(lesseq", "(onelang", "(inv", "(seq", "(alt", "(node", "(subjects", "(objects", "(class", "(", ")", "true", "id", "a", "langstring",
-    "thing", "literal", "*", "0", "1", "00", "1024", "1025", "-0", "+1", "-1", "9223372036854775807", "9223372036854775808",
-    "-9223372036854775808", "-9223372036854775809", "99999999999999999999999", "b", "c", "d", "n0", "abcdefghijklmnopqrstuvwxyz01234",
-    "abcdefghijklmnopqrstuvwxyz012345",
-];
-
-const NUMBERS: [&str; 14] = [
-    "0", "1", "-1", "00", "01", "-0", "+1", "-", "1024", "1025", "9223372036854775807", "9223372036854775808", "-9223372036854775808",
-    "-9223372036854775809",
-];
-
-/// Lines of any words.
-fn tokens(r: &Random) -> Vec<u8> {
-    let mut text = String::new();
-    for _ in 0..r.between(0, 12) {
-        let start = *r.pick(&["(link b", "(type c", "(thing d", "(thing b", "(blank n0", "(shape b true", "(shape c (", "(rule b (", ""]);
-        text.push_str(start);
-        for _ in 0..r.below(6) {
-            text.push_str(*r.pick(&[" ", " ", " ", "", ")", "  "]));
-            text.push_str(*r.pick(&WORDS));
-        }
-        text.push_str(*r.pick(&[")", ")", "))", ")))", ""]));
-        text.push_str(*r.pick(&["\n", "\n", "\n", "\n", "", "\r\n", " \n"]));
-    }
-    text.into_bytes()
-}
-
-/// Where the items of a text begin and end.
-fn items(text: &[u8]) -> Vec<(usize, usize)> {
-    let mut found = Vec::new();
-    let mut at = 0;
-    while at < text.len() {
-        let from = at;
-        at += 1;
-        if !matches!(text[from], b' ' | b'\n' | b')') {
-            while at < text.len() && !matches!(text[at], b' ' | b'\n' | b'(' | b')') {
-                at += 1;
-            }
-        }
-        found.push((from, at));
-    }
-    found
-}
-
-/// Changes a text in one place, oftener near its end.
-fn damage(r: &Random, text: &mut Vec<u8>) {
-    if text.is_empty() {
-        return text.extend(r.pick(&WORDS).bytes());
-    }
-    let from = if r.once_in(2) { text.len() - text.len().min(200) } else { 0 };
-    let at = r.between(from, text.len() - 1);
-    match r.below(16) {
-        0 => text[at] = r.next() as u8,
-        1 => text[at] = *r.pick(b" ()\n-*0a"),
-        2 => drop(text.remove(at)),
-        3 => text.insert(at, *r.pick(b" ()\n-*0a")),
-        4 => text.truncate(at),
-        5 => drop(text.pop()),
-        6 => text.extend(text[at..].to_vec()),
-        7 | 8 => lines(r, text),
-        9 | 10 => number(r, text),
-        _ => {
-            let here = items(&text[from..]);
-            let (a, b) = *r.pick(&here);
-            let (c, d) = *r.pick(&here);
-            let word = match r.below(4) {
-                0 => Vec::new(),
-                1 => text[from + c..from + d].to_vec(),
-                _ => r.pick(&WORDS).as_bytes().to_vec(),
-            };
-            text.splice(from + a..from + b, word);
-        }
-    }
-}
-
-/// A number in the place of another.
-fn number(r: &Random, text: &mut Vec<u8>) {
-    let is_number = |&(a, b): &(usize, usize)| text[a..b].iter().all(|c| matches!(c, b'0'..=b'9' | b'-' | b'*'));
-    let numbers: Vec<(usize, usize)> = items(text).into_iter().filter(is_number).collect();
-    if !numbers.is_empty() {
-        let (a, b) = *r.pick(&numbers);
-        text.splice(a..b, r.pick(&NUMBERS).bytes());
-    }
-}
-
-/// A line gone, said twice, or moved.
-fn lines(r: &Random, text: &mut Vec<u8>) {
-    let mut lines: Vec<Vec<u8>> = text.split_inclusive(|&b| b == b'\n').map(<[u8]>::to_vec).collect();
-    let k = if r.once_in(2) { r.below(lines.len()) } else { lines.len() - 1 };
-    let line = lines.remove(k);
-    let (i, j) = (r.between(0, lines.len()), r.between(0, lines.len()));
-    match r.below(3) {
-        0 => {}
-        1 => lines.insert(i, line),
-        _ => {
-            lines.insert(i, line.clone());
-            lines.insert(j, line);
-        }
-    }
-    *text = lines.concat();
 }

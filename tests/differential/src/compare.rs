@@ -55,7 +55,7 @@ fn garbage<T: Cell>(r: &Random, length: usize) -> Vec<T> {
 /// How long a slice is lent: as long as it must be or longer, now and then shorter.
 fn length(r: &Random, needed: usize) -> usize {
     match r.below(100) {
-        0 => *r.pick(&[0, 1, needed / 2, needed - 1]),
+        0 => r.pick(&[0, 1, needed / 2, needed - 1]),
         1..=40 => needed,
         41..=70 => needed + 1,
         _ => needed + r.below(80),
@@ -89,6 +89,7 @@ pub struct Case<'a> {
 }
 
 /// Three tables as they are lent to an operation that reads them.
+#[derive(Clone, PartialEq)]
 struct Three {
     names: Vec<u8>,
     cells: Vec<u16>,
@@ -235,7 +236,11 @@ impl Case<'_> {
         self.same_slice("validate: work", &room.work, &after.work)?;
         self.same_slice("validate: lists", &room.lists, &after.lists)?;
         self.same_slice("validate: lengths", &room.lengths, &after.lengths)?;
-        if answer.0 == 0 { self.whole_report(&room, &report) } else { Ok(()) }
+        if answer.0 == 0 {
+            self.whole_report(&room, &report)
+        } else {
+            Ok(())
+        }
     }
 
     /// The report of a whole run, put together from its parts.
@@ -286,9 +291,11 @@ impl Case<'_> {
                 (0, made.steps.len())
             }
         };
+        let before = three.clone();
         let answer = library::compile(three.lent(), &mut plan);
         self.same("compile: refusal, steps", answer, expected)?;
-        self.same_slice("compile: plan", &plan, &after)
+        self.same_slice("compile: plan", &plan, &after)?;
+        self.same("compile: the tables are as before", three == before, true)
     }
 
     /// Every node and shape, or some of many, and numbers that are not there.
@@ -308,10 +315,11 @@ impl Case<'_> {
             let node = || if self.r.once_in(2) { self.r.below(nodes.min(8)) } else { self.r.below(nodes) };
             asked.extend((0..40).map(|_| (node(), self.r.below(shapes))));
         }
-        let far = *self.r.pick(&[1, 1024, usize::MAX]);
+        let far = self.r.pick(&[1, 1024, usize::MAX]);
         asked.extend([(nodes, 0), (0, shapes), (nodes.saturating_add(far), shapes), (self.r.below(1024), self.r.below(64))]);
+        let before = three.clone();
         for (v, s) in asked {
-            let tally = *self.r.pick(&[0, 7, u32::MAX - 1, u32::MAX]);
+            let tally = self.r.pick(&[0, 7, u32::MAX - 1, u32::MAX]);
             let refusal = match book {
                 _ if !three.enough() => 8,
                 None => 9,
@@ -325,7 +333,7 @@ impl Case<'_> {
             let answer = library::verdict(three.lent(), v, s, tally);
             self.same(&format!("verdict of node {v}, shape {s}: refusal, conforms, tally"), answer, expected)?;
         }
-        Ok(())
+        self.same("verdict: the tables are as before", three == before, true)
     }
 
     /// Parts of a report with lists of any content.
@@ -335,7 +343,7 @@ impl Case<'_> {
         let mut lengths: Vec<u16> = lend(self.r, LENGTHS);
         let nodes = book.as_ref().map_or(5, |book| book.nodes().max(1));
         for (k, length) in lengths.iter_mut().enumerate().take(LENGTHS) {
-            *length = *self.r.pick(&[0, 1, 2, 9, 1023, 1024, 1025, 65535]);
+            *length = self.r.pick(&[0, 1, 2, 9, 1023, 1024, 1025, 65535]);
             let row = lists.iter_mut().skip(ROW * k).take((*length as usize).min(20));
             row.for_each(|v| *v = (self.r.below(nodes) + self.r.once_in(200) as usize) as u16);
             if *length > 20 && lists.len() >= LISTS && self.r.once_in(2) {
@@ -383,6 +391,7 @@ impl Case<'_> {
             }
             _ => 9,
         };
+        let before = (three.clone(), lent_plan.clone());
         let answer = library::run(three.lent(), &lent_plan, &mut work);
         self.same("run: refusal", answer, expected)?;
         self.same_slice("run: work", &work, &after)?;
@@ -391,12 +400,12 @@ impl Case<'_> {
             let any: Vec<u64> = lend(self.r, WORK);
             self.lists(&three, book, &plan, &lent_plan, &any)?;
         }
-        self.same_slice("the lent cells afterwards", &three.cells[..CELLS.min(three.cells.len())], &t.cells[..CELLS.min(three.cells.len())])
+        self.same("run, list: tables and plan are as before", (three, lent_plan) == before, true)
     }
 
     fn lists(&mut self, three: &Three, book: Option<&Book>, plan: &Option<Plan>, lent_plan: &[u16], work: &[u64]) -> Outcome {
         let rules = book.map_or(2, |book| book.rules.len());
-        let far = *self.r.pick(&[rules + 1, 32, usize::MAX]);
+        let far = self.r.pick(&[rules + 1, 32, usize::MAX]);
         for rule in (0..rules).chain([rules, far]) {
             let mut row: Vec<u16> = lend(self.r, ROW);
             let mut after = row.clone();

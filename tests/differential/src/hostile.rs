@@ -7,7 +7,11 @@ use reference::{Book, End, Form, Path, Target, Term};
 
 /// A number below n, or 0 if there is none.
 fn some(r: &Random, n: usize) -> usize {
-    if n == 0 { 0 } else { r.below(n) }
+    if n == 0 {
+        0
+    } else {
+        r.below(n)
+    }
 }
 
 fn value(r: &Random) -> i64 {
@@ -20,12 +24,16 @@ fn value(r: &Random) -> i64 {
 }
 
 fn end(r: &Random, paths: usize) -> End {
-    if paths == 0 || r.once_in(4) { End::Id } else { End::Along(r.below(paths)) }
+    if paths == 0 || r.once_in(4) {
+        End::Id
+    } else {
+        End::Along(r.below(paths))
+    }
 }
 
 fn bounds(r: &Random, most: usize) -> (usize, Option<usize>) {
-    let lo = *r.pick(&[0, 0, 1, 2, 3, 1024, most]);
-    (lo, *r.pick(&[None, None, Some(0), Some(1), Some(3), Some(1024)]))
+    let lo = r.pick(&[0, 0, 1, 2, 3, 1024, most]);
+    (lo, r.pick(&[None, None, Some(0), Some(1), Some(3), Some(1024)]))
 }
 
 /// For each path entry, how many entries are passed when it is followed, shared ones once for each use.
@@ -50,7 +58,7 @@ fn quick(book: &Book) -> bool {
 /// What well-formed tables may say, though no book says it.
 fn book(r: &Random) -> Book {
     let mut b = Book::default();
-    let nodes = if r.once_in(20) { r.between(1000, 1024) } else { *r.pick(&[0, 1, 2, 3, 5, 9, 30, 64, 65, 130]) };
+    let nodes = if r.once_in(20) { r.between(1000, 1024) } else { r.pick(&[0, 1, 2, 3, 5, 9, 30, 64, 65, 130]) };
     for (pool, n) in [nodes, r.below(5), r.below(4), r.below(4)].into_iter().enumerate() {
         b.pools[pool] = vec![Vec::new(); n];
     }
@@ -140,10 +148,25 @@ fn form(r: &Random, b: &Book, k: usize) -> Form {
 
 /// the columns of the cells: where each begins, and the number of the count that says how much of it is used
 const COLUMNS: [(usize, usize); 19] = [
-    (tables::NODE_KINDS, 0), (tables::NODE_TYPES, 0), (tables::NODE_LANGS, 0), (tables::SUBJECTS, 5), (tables::PREDICATES, 5),
-    (tables::OBJECTS, 5), (tables::PATH_CODES, 6), (tables::PATH_FIRSTS, 6), (tables::PATH_SECONDS, 6), (tables::FORM_CODES, 7),
-    (tables::FORM_FIRSTS, 7), (tables::FORM_SECONDS, 7), (tables::FORM_THIRDS, 7), (tables::FORM_FOURTHS, 7), (tables::ITEMS, 8),
-    (tables::ROOTS, 4), (tables::RULE_SHAPES, 9), (tables::RULE_TARGETS, 9), (tables::RULE_OPERANDS, 9),
+    (tables::NODE_KINDS, 0),
+    (tables::NODE_TYPES, 0),
+    (tables::NODE_LANGS, 0),
+    (tables::SUBJECTS, 5),
+    (tables::PREDICATES, 5),
+    (tables::OBJECTS, 5),
+    (tables::PATH_CODES, 6),
+    (tables::PATH_FIRSTS, 6),
+    (tables::PATH_SECONDS, 6),
+    (tables::FORM_CODES, 7),
+    (tables::FORM_FIRSTS, 7),
+    (tables::FORM_SECONDS, 7),
+    (tables::FORM_THIRDS, 7),
+    (tables::FORM_FOURTHS, 7),
+    (tables::ITEMS, 8),
+    (tables::ROOTS, 4),
+    (tables::RULE_SHAPES, 9),
+    (tables::RULE_TARGETS, 9),
+    (tables::RULE_OPERANDS, 9),
 ];
 
 /// Tables of a book that no text says, with garbage wherever nothing looks.
@@ -163,32 +186,40 @@ pub fn tables(r: &Random) -> Tables {
     t
 }
 
-/// LO and HI at and about their limits.
-const BOUNDS: [u16; 8] = [0, 1, 1023, 1024, 1025, 1026, NO_NUMBER - 1, NO_NUMBER];
+/// A number on one of the borders between those with which a cell is well formed and those with which it is not.
+fn on_a_border(r: &Random, ok: impl FnMut(u16) -> bool) -> Option<u16> {
+    let ranges = [0..=40, 62..=66, 110..=130, 254..=257, 510..=513, 1022..=1026, 4094..=4097, 65533..=NO_NUMBER];
+    let numbers: Vec<u16> = ranges.into_iter().flatten().collect();
+    let good: Vec<bool> = numbers.iter().copied().map(ok).collect();
+    let borders: Vec<usize> = (1..numbers.len()).filter(|&i| good[i - 1] != good[i]).collect();
+    (!borders.is_empty()).then(|| numbers[r.pick(&borders) - r.below(2)])
+}
 
 /// A number that a cell may get: small ones, those about the counts and limits, any.
 fn number(r: &Random, counts: &[u16]) -> u16 {
     match r.below(8) {
         0 => r.next() as u16,
-        1 => *r.pick(&[NO_NUMBER, 1024, 1025, 1023, 4096, 512, 128, 112, 64, 32]),
-        2 | 3 => r.pick(counts).wrapping_add(*r.pick(&[0, 1, NO_NUMBER])),
-        4 => some(r, *r.pick(counts) as usize) as u16,
+        1 => r.pick(&[NO_NUMBER, 1024, 1025, 1023, 4096, 512, 128, 112, 64, 32]),
+        2 | 3 => r.pick(counts).wrapping_add(r.pick(&[0, 1, NO_NUMBER])),
+        4 => some(r, r.pick(counts) as usize) as u16,
         _ => r.below(26) as u16,
     }
 }
 
-/// Changes some cells and values. Most changes after which the tables would not be well formed are taken back.
+/// Changes some cells and values. Most changes after which the tables would not be well formed are taken back; now and then the
+/// last one is on the border.
 pub fn change_tables(r: &Random, t: &mut Tables) {
-    for _ in 0..*r.pick(&[1, 2, 5, 20]) {
-        let counts: Vec<u16> = t.cells[..10].to_vec();
-        let (column, count) = *r.pick(&COLUMNS);
-        let k = some(r, LIMITS[count].min(counts[count] as usize));
-        let (at, new) = match r.below(12) {
-            0 => (r.below(CELLS), number(r, &counts)),
-            1 => (r.below(10), number(r, &counts)),
-            _ if matches!(column, tables::FORM_THIRDS | tables::FORM_FOURTHS) => (column + k, *r.pick(&BOUNDS)),
-            _ => (column + k, number(r, &counts)),
-        };
+    let place = |cells: &[u16]| {
+        let (column, count) = r.pick(&COLUMNS);
+        match r.below(12) {
+            0 => r.below(CELLS),
+            1 => r.below(10),
+            _ => column + some(r, LIMITS[count].min(cells[count] as usize)),
+        }
+    };
+    for _ in 0..r.pick(&[1, 2, 5, 20]) {
+        let at = place(&t.cells);
+        let new = number(r, &t.cells[..10]);
         let before = std::mem::replace(&mut t.cells[at], new);
         let back = match tables::decode(t) {
             Some(book) => !quick(&book),
@@ -202,6 +233,18 @@ pub fn change_tables(r: &Random, t: &mut Tables) {
             t.values[k] = value(r);
         }
     }
+    if t.cells[0] < 200 && r.once_in(3) {
+        let at = place(&t.cells);
+        let before = t.cells[at];
+        let border = on_a_border(r, |x| {
+            t.cells[at] = x;
+            tables::decode(t).is_some()
+        });
+        t.cells[at] = border.unwrap_or(before);
+        if tables::decode(t).is_some_and(|book| !quick(&book)) {
+            t.cells[at] = before;
+        }
+    }
 }
 
 /// A plan that is well formed for these tables, though no compiler made it.
@@ -210,7 +253,11 @@ pub fn plan(r: &Random, b: &Book) -> Plan {
     let (nodes, links, paths) = (b.nodes(), b.pools[1].len(), b.paths.len());
     let entry = |r: &Random, test: fn(&Form) -> bool| {
         let found: Vec<usize> = (0..b.forms.len()).filter(|&k| test(&b.forms[k])).collect();
-        if found.is_empty() { None } else { Some(*r.pick(&found)) }
+        if found.is_empty() {
+            None
+        } else {
+            Some(r.pick(&found))
+        }
     };
     let is_test: fn(&Form) -> bool = |f| {
         use Form::*;
@@ -267,21 +314,29 @@ pub fn plan(r: &Random, b: &Book) -> Plan {
     p
 }
 
-/// Changes some cells of a plan. Most changes after which it would not be well formed are taken back.
+/// Changes some cells of a plan, as change_tables does.
 pub fn change_plan(r: &Random, b: &Book, cells: &mut [u16]) {
     let counts = [b.nodes(), b.pools[1].len(), b.paths.len(), b.forms.len(), b.rules.len(), cells[0] as usize].map(|n| n as u16);
-    for _ in 0..*r.pick(&[1, 2, 5, 20]) {
-        let at = match r.below(12) {
-            0 => r.below(plan::PLAN_CELLS),
-            1 => 0,
-            2 => plan::RULE_STEPS + r.below(32),
-            _ => plan::STEP_CODES + plan::STEPS * r.below(5) + some(r, cells[0].min(512) as usize),
-        };
-        let is_bound = at >= plan::STEP_CODES + plan::STEPS * 3 && r.below(4) > 0;
-        let new = if is_bound { *r.pick(&BOUNDS) } else { number(r, &counts) };
-        let before = std::mem::replace(&mut cells[at], new);
+    let place = |cells: &[u16]| match r.below(12) {
+        0 => r.below(plan::PLAN_CELLS),
+        1 => 0,
+        2 => plan::RULE_STEPS + r.below(32),
+        _ => plan::STEP_CODES + plan::STEPS * r.below(5) + some(r, cells[0].min(512) as usize),
+    };
+    for _ in 0..r.pick(&[1, 2, 5, 20]) {
+        let at = place(cells);
+        let before = std::mem::replace(&mut cells[at], number(r, &counts));
         if plan::decode(b, cells).is_none() && r.below(10) > 0 {
             cells[at] = before;
         }
+    }
+    if r.once_in(3) {
+        let at = place(cells);
+        let before = cells[at];
+        let border = on_a_border(r, |x| {
+            cells[at] = x;
+            plan::decode(b, cells).is_some()
+        });
+        cells[at] = border.unwrap_or(before);
     }
 }

@@ -3,7 +3,9 @@
 
 mod books;
 mod compare;
+mod damage;
 mod hostile;
+#[rustfmt::skip] // arguments stand in the order of the exported functions, several to a line
 mod library;
 mod random;
 
@@ -76,7 +78,10 @@ fn main() {
             shared.over.store(true, Relaxed);
         }
         if begun.elapsed() > Duration::from_secs(2 * SECONDS) {
-            println!("a book does not end, one of the last {threads} before seed {}", seed + shared.next.load(Relaxed));
+            println!(
+                "a book does not end, one of the last {threads} before seed {}",
+                seed.wrapping_add(shared.next.load(Relaxed))
+            );
             std::process::exit(1);
         }
         if shown.elapsed() > Duration::from_secs(5) {

@@ -32,7 +32,7 @@ impl Random {
         self.below(n) == 0
     }
 
-    pub fn pick<'a, T>(&self, from: &'a [T]) -> &'a T {
-        &from[self.below(from.len())]
+    pub fn pick<T: Clone>(&self, from: &[T]) -> T {
+        from[self.below(from.len())].clone()
     }
 }

@@ -220,7 +220,7 @@ impl Book {
                 Form::Not(f) => !met[*f].has(v),
                 Form::Count { path, form, lo, hi } => {
                     let n = ends[*path][v].iter().filter(|&w| met[*form].has(w)).count();
-                    *lo <= n && hi.map_or(true, |h| n <= h)
+                    *lo <= n && hi.is_none_or(|h| n <= h)
                 }
                 Form::All(e, f) => ends[*e][v].iter().all(|w| met[*f].has(w)),
                 Form::Equal(e, _) => self.end_set(&ends, *e, v) == link[v],

@@ -16,7 +16,12 @@ pub enum Step {
     Untest(usize),
     Both(usize, usize),
     Either(usize, usize),
-    Count { path: usize, step: usize, lo: usize, hi: Option<usize> },
+    Count {
+        path: usize,
+        step: usize,
+        lo: usize,
+        hi: Option<usize>,
+    },
     Every(usize, usize),
     Equal(End, usize),
     Unequal(End, usize),
@@ -146,7 +151,7 @@ pub fn run(book: &Book, plan: &Plan) -> Vec<Set> {
             Step::Either(a, b) => sets[a].has(v) || sets[b].has(v),
             Step::Count { path, step, lo, hi } => {
                 let n = ends[path][v].and(&sets[step]).len();
-                lo <= n && hi.map_or(true, |h| n <= h)
+                lo <= n && hi.is_none_or(|h| n <= h)
             }
             Step::Every(e, m) => ends[e][v].iter().all(|w| sets[m].has(w)),
             Step::Equal(e, _) => start(e, v) == link[v],
@@ -286,4 +291,14 @@ pub fn decode(book: &Book, cells: &[u16]) -> Option<Plan> {
         plan.rules.push(below(cells[RULE_STEPS + r] as usize, count)?);
     }
     Some(plan)
+}
+
+/// Document 01's book B and its plan: Equal, Unequal, From twin, Both 2 1.
+#[test]
+fn plan_of_book_b() {
+    let text = include_bytes!("../../vectors/000-book-b.book");
+    let book = crate::reader::read(text).unwrap();
+    let (path, mount, twin) = (End::Along(2), 1, 2);
+    let steps = vec![Step::Equal(path, mount), Step::Unequal(path, mount), Step::From(twin), Step::Both(2, 1)];
+    assert_eq!(compile(&book), Plan { steps, rules: vec![3] });
 }

@@ -241,13 +241,21 @@ impl<'a> Cursor<'a> {
     /// counts a path entry as it begins
     fn begin_path(&mut self) -> Read<()> {
         self.paths += 1;
-        if self.paths > 128 { Err(7) } else { Ok(()) }
+        if self.paths > 128 {
+            Err(7)
+        } else {
+            Ok(())
+        }
     }
 
     /// counts a form entry as it begins
     fn begin_form(&mut self) -> Read<()> {
         self.forms += 1;
-        if self.forms > 112 { Err(7) } else { Ok(()) }
+        if self.forms > 112 {
+            Err(7)
+        } else {
+            Ok(())
+        }
     }
 
     /// reads a path and stores its entry as it ends; the entry's number
@@ -266,7 +274,11 @@ impl<'a> Cursor<'a> {
             } else {
                 self.expect(b' ')?;
                 let e = self.path(book)?;
-                if k == 1 { Path::Seq(d, e) } else { Path::Alt(d, e) }
+                if k == 1 {
+                    Path::Seq(d, e)
+                } else {
+                    Path::Alt(d, e)
+                }
             };
             self.close()?;
             path
@@ -301,8 +313,8 @@ impl<'a> Cursor<'a> {
     /// reads a form and stores its entry as it ends; the entry's number
     fn form(&mut self, book: &mut Book) -> Read<usize> {
         const WORDS: [&str; 20] = [
-            "is", "shape", "and", "or", "not", "kind", "datatype", "lang", "from", "above", "to", "below", "count", "all", "equal",
-            "apart", "closed", "less", "lesseq", "onelang",
+            "is", "shape", "and", "or", "not", "kind", "datatype", "lang", "from", "above", "to", "below", "count", "all",
+            "equal", "apart", "closed", "less", "lesseq", "onelang",
         ];
         let form = if self.peek() != b'(' {
             if self.word() != b"true" {

@@ -142,7 +142,8 @@ pub fn encode(book: &Book) -> Tables {
         };
         t.put(&[RULE_SHAPES, RULE_TARGETS, RULE_OPERANDS], k, &[*shape, code, operand]);
     }
-    let counts = book.pools.iter().map(Vec::len).chain([book.facts.len(), book.paths.len(), book.forms.len(), items, book.rules.len()]);
+    let counts =
+        book.pools.iter().map(Vec::len).chain([book.facts.len(), book.paths.len(), book.forms.len(), items, book.rules.len()]);
     counts.enumerate().for_each(|(i, n)| t.cells[i] = n as u16);
     t
 }
