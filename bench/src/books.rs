@@ -28,6 +28,7 @@ pub fn all() -> Vec<(&'static str, String)> {
         ("small", include_str!("../../examples/book-b.book").to_string()),
         ("middle", rig(&Size { nodes: 300, facts: 1500, rules: 20, forms: 60, paths: 66 })),
         ("full", rig(&Size { nodes: 700, facts: 3600, rules: 32, forms: 105, paths: 116 })),
+        ("names", names()),
         ("hub", hub()),
         ("nested", nested()),
         ("chains", chains()),
@@ -240,9 +241,19 @@ impl Forms<'_> {
     }
 }
 
-// ---- the worst made: every part leads by p to node 0, the hub, and that by q to many nodes
+// ---- the worst made
 
-/// 1,024 nodes: `parts` things that lead to the hub, then the others by their lines; `ends` are the nodes that the hub leads to.
+/// 500 names of 31 bytes that differ in the last three, in 600 facts: the most that finding a name costs.
+fn names() -> String {
+    let long = |k: usize| format!("projector-of-the-north-dome-{k:03}");
+    let mut dice = Dice(500);
+    let mut book = String::from("(link p)\n");
+    (0..500).for_each(|k| book += &format!("(thing {})\n", long(k)));
+    (0..600).for_each(|_| book += &format!("(fact {} p {})\n", long(dice.below(500)), long(dice.below(500))));
+    book + "(shape s (count 1 1 p true))\n(rule s (subjects p))\n"
+}
+
+/// 1,024 nodes: `parts` things that lead by p to node 0, the hub, then the others by their lines; the hub leads by q to `ends`.
 fn star(parts: usize, other: impl Fn(usize) -> String, ends: std::ops::Range<usize>) -> String {
     let mut book = String::from("(link p)\n(link q)\n(link r)\n(type i)\n");
     (0..32).for_each(|k| book += &format!("(lang {})\n", name(k)));

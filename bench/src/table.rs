@@ -19,6 +19,7 @@ fn time(ns: f64) -> String {
 
 fn digits(x: f64) -> String {
     match x {
+        x if x < 0.01 => "<0.01".to_string(),
         x if x >= 100.0 => format!("{x:.0}"),
         x if x >= 10.0 => format!("{x:.1}"),
         x => format!("{x:.2}"),
