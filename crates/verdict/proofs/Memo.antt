@@ -112,10 +112,10 @@ row-words memo at e =
     ∙ wordsOf-ext (has (drop at memo)) (λ v. has memo (at * 64 + v)) 16 (λ m l. has-drop memo at m)
 
 -- the words ws without those of y and those of n
-pub todo-words : (ws : List ℕ) (y n : ℕ → Bool) {la lb lc ld : List ℕ} → length ws ≡ 16 → la ≡ wordsOf y 16 → lb ≡ wordsOf n 16 → lc ≡ difference ws la → ld ≡ difference lc lb
+pub unsettled-words : (ws : List ℕ) (y n : ℕ → Bool) {la lb lc ld : List ℕ} → length ws ≡ 16 → la ≡ wordsOf y 16 → lb ≡ wordsOf n 16 → lc ≡ difference ws la → ld ≡ difference lc lb
     → ld ≡ wordsOf (λ v. (has ws v && not (y v)) && not (n v)) 16
 unfolding difference
-todo-words ws y n {la} {lb} {lc} {ld} l ea eb ec ed =
+unsettled-words ws y n {la} {lb} {lc} {ld} l ea eb ec ed =
     let fc : lc ≡ wordsOf (λ m. has ws m && not (y m)) 16 =
     ec ∙ ap (wordsOf (λ m. has ws m && not (has la m))) l ∙ wordsOf-ext (λ m. has ws m && not (has la m)) (λ m. has ws m && not (y m)) 16 (λ m k. ap (λ (t : Bool). has ws m && not t) (has-of y 16 ea m k)) in
     ed ∙ difference-of (λ m. has ws m && not (y m)) n 16 fc eb

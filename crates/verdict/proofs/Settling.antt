@@ -64,8 +64,8 @@ module _ {cs : List ℕ} {vs : List ℤ} {start : List ℕ} {e : ℕ} {nodes : L
   }
 
 -- ---- the nodes that are left to do
-abbrev pub toDo : List ℕ → ℕ → List ℕ → ℕ → Bool
-toDo memo e want v = (has want v && not (has memo (yesPlace e v))) && not (has memo (noPlace e v))
+abbrev pub toSettle : List ℕ → ℕ → List ℕ → ℕ → Bool
+toSettle memo e want v = (has want v && not (has memo (yesPlace e v))) && not (has memo (noPlace e v))
 
 missing : (w y n : Bool) → w ≡ true → ((w && not y) && not n) ≡ false → (y || n) ≡ true
 missing true true n e h = refl
@@ -73,11 +73,11 @@ missing true false true e h = refl
 missing true false false e h = sym h
 missing false y n e h = absurd (mathlib.Core.Bool.true≢false (sym e))
 
-module _ {cs : List ℕ} {vs : List ℤ} {memo : List ℕ} {e : ℕ} (r : Ready cs vs memo e) (want : List ℕ) {nodes : List ℕ} (en : nodes ≡ wordsOf (toDo memo e want) 16) where
+module _ {cs : List ℕ} {vs : List ℤ} {memo : List ℕ} {e : ℕ} (r : Ready cs vs memo e) (want : List ℕ) {nodes : List ℕ} (en : nodes ≡ wordsOf (toSettle memo e want) 16) where
   -- a node that is wanted and not to be done is settled
   done : (v : ℕ) → v < nodeCount cs → has want v ≡ true → has nodes v ≡ false → settled memo e v ≡ true
   unfolding settled
-  done v l h k = missing (has want v) (has memo (yesPlace e v)) (has memo (noPlace e v)) h (sym (has-of (toDo memo e want) 16 en v (omega (arith, nodes-le cs (r .tables)))) ∙ k)
+  done v l h k = missing (has want v) (has memo (yesPlace e v)) (has memo (noPlace e v)) h (sym (has-of (toSettle memo e want) 16 en v (omega (arith, nodes-le cs (r .tables)))) ∙ k)
 
   -- nothing is to be done
   pub settled-none : {n : ℕ} → n ≡ nodeCount cs → every (λ v. not (has nodes v)) n ≡ true → Settled cs vs memo memo e want

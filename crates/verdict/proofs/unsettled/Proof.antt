@@ -3,7 +3,7 @@ use mathlib.Core.Path.{_≡_}
 use lib.ListN.{length}
 use Rattle.nodeset.specs.Words.{has}
 use Rattle.verdict.specs.Memo.{yesPlace, noPlace}
-use Rattle.verdict.proofs.Memo.{todo-words}
+use Rattle.verdict.proofs.Memo.{unsettled-words}
 use borrow.Author.Needs.{needs}
 use Rattle.verdict.proofs.unsettled.Statement.{statement}
 use Rattle.verdict.proofs.unsettled.Tie as tie
@@ -33,7 +33,7 @@ returns : tie.Need-returns
 returns c =
     let a = c .before .before .before .before .before .args in
     let l : length (a .want .words) ≡ 16 = search needs in
-    todo-words (a .want .words) (λ v. has (a .memo .now) (yesPlace (a .e) v)) (λ v. has (a .memo .now) (noPlace (a .e) v)) l (c .before .before .before .row .ensures) (c .before .before .row2 .ensures) (c .before .difference .ensures) (c .difference2 .ensures)
+    unsettled-words (a .want .words) (λ v. has (a .memo .now) (yesPlace (a .e) v)) (λ v. has (a .memo .now) (noPlace (a .e) v)) l (c .before .before .before .row .ensures) (c .before .before .row2 .ensures) (c .before .difference .ensures) (c .difference2 .ensures)
 
 pub unsettled-spec : {M : Type 1} → statement M
 unsettled-spec =
