@@ -35,6 +35,12 @@ module _ (key : ℕ → ℕ) (h : ℕ) where
   unfolding lastWith
   last-other n ne = ap (λ (b : Bool). cond b (suc n) (lastWith key h n)) (ne-eqb (key n) h ne)
 
+  -- no item has the key
+  pub last-none : (n : ℕ) → ((i : ℕ) → i < n → key i ≡ h → ⊥) → lastWith key h n ≡ 0
+  unfolding lastWith
+  last-none zero w = refl
+  last-none (suc n) w = last-other n (w n (le-refl (suc n))) ∙ last-none n (λ i l. w i (le-trans l (le-suc n)))
+
   -- the last has the key
   pub last-key : (n i : ℕ) → lastWith key h n ≡ suc i → key i ≡ h
   unfolding lastWith

@@ -1,20 +1,22 @@
 -- A node that joins sets, the facts of a link one by one, and all of them: the relation that they make.
-use Prim.Native.Nat.{ℕ, _+_, _*_, _/_, _%_, _^_, _<_}
-use mathlib.Core.Bool.{Bool, true, false, cond, _&&_, _||_, or-comm, or-false, and-false, and-true}
+use Prim.Native.Nat.{ℕ, suc, _+_, _*_, _/_, _%_, _^_, _<_, _≤_}
+use mathlib.Core.Bool.{Bool, true, false, cond, _&&_, _||_, or-false, and-false, and-true}
 use mathlib.Core.List.{List}
 use mathlib.Core.Path.{_≡_, refl, sym, ap, ap₂, _∙_, subst}
-use native.Mathlib.Numerals.{add-one}
+use native.Mathlib.Nat.{zero-add}
 use native.Mathlib.Omega.{arith}
 use lib.Dec.{eqb, ltb}
 use lib.ListN.{length, getD, set}
 use lib.Bits.{bitOr, or-lt}
-use borrow.Author.Tests.{eq-eqb, ne-eqb, eqb-true, ltb-true, lt-ltb, le-ltb}
+use borrow.Author.Tests.{eq-eqb, ne-eqb, eqb-true, ltb-true, ltb-false, lt-ltb, le-ltb}
 use Rattle.base.specs.Bounded.{some}
 use Rattle.base.proofs.Bools.{and-left, and-right, same-test}
 use Rattle.base.proofs.Bounded.{every-at}
 use Rattle.nodeset.specs.Words.{bit, has, with}
 use Rattle.nodeset.proofs.Bits.{bit-or}
-use Rattle.nodeset.proofs.Sets.{has-at, own, set-words, same-words, with-words, ltb-more}
+use Rattle.nodeset.proofs.Sets.{has-at, own, set-words, same-words, with-words, small-of, ltb-more}
+use Rattle.chains.specs.Chains.{lastWith}
+use Rattle.chains.proofs.Chains.{last-le, last-none, some-last}
 use Rattle.paths.specs.Facts.{FactsOk, edge, edges}
 use Rattle.paths.specs.Images.{withImages, joined}
 use Rattle.paths.proofs.Images.{images-ext, images-none, images-or, images-pair}
@@ -77,38 +79,63 @@ pub cond-lt : (b : Bool) (x y n : ℕ) → x < n → y < n → cond b x y < n
 cond-lt true x y n l r = l
 cond-lt false x y n l r = r
 
-module _ (ss ps os : List ℕ) where
+module _ (ss ps os index : List ℕ) (count n : ℕ) (ok : FactsOk ss ps os index count n) where
   -- both ends of a fact are nodes
-  pub fact-between : (count n : ℕ) → FactsOk ss ps os count n → (i : ℕ) → i < count → (getD ss i 0 < n) × (getD os i 0 < n)
-  fact-between count n ok i l =
+  pub fact-between : (i : ℕ) → i < count → (getD ss i 0 < n) × (getD os i 0 < n)
+  fact-between i l =
       let e : (ltb (getD ss i 0) n && ltb (getD os i 0) n) ≡ true = every-at (λ i. ltb (getD ss i 0) n && ltb (getD os i 0) n) count (ok .between) i l in
       (ltb-true (getD ss i 0) n (and-left (ltb (getD ss i 0) n) (ltb (getD os i 0) n) e), ltb-true (getD os i 0) n (and-right (ltb (getD ss i 0) n) (ltb (getD os i 0) n) e))
 
-  module _ (width n p : ℕ) (back : Bool) (from into : List ℕ) where
-    -- fact i has link p; it has another
-    pub fact-joins : (count : ℕ) → FactsOk ss ps os count n → (i : ℕ) → i < count → (near far : ℕ) → getD ps i 0 ≡ p → near ≡ cond back (getD os i 0) (getD ss i 0) → far ≡ cond back (getD ss i 0) (getD os i 0)
-        → joined width near far from into ≡ withImages width n (edge ss ps os p back i) from into
+  -- the chain of link p begins with the last fact that has it
+  pub chain-begins : (p : ℕ) {r : ℕ} → r ≡ cond (ltb p 256) (getD index p 0) 0 → r ≡ lastWith (λ i. getD ps i 0) p count
+  chain-begins p e = e ∙ go (ltb p 256) refl
+    where
+      go : (b : Bool) → ltb p 256 ≡ b → cond b (getD index p 0) 0 ≡ lastWith (λ i. getD ps i 0) p count
+      go true q = ap (λ (k : ℕ). getD index k 0) (sym (zero-add p)) ∙ ok .indexed .begins p (ltb-true p 256 q)
+      go false q = sym (last-none (λ i. getD ps i 0) p count (λ i l f. let h : getD ps i 0 < 256 = ltb-true (getD ps i 0) 256 (every-at (λ i. ltb (getD ps i 0) 256) count (ok .links) i l) in let g : 256 ≤ p = ltb-false p 256 q in let z : ⊥ = omega (arith, f) in z))
+
+  -- what follows fact i in its chain comes before it
+  pub chain-falls : {next : ℕ} (i : ℕ) → i < count → next ≡ getD index (256 + i) 0 → next ≤ i
+  chain-falls i l q = subst (λ (k : ℕ). k ≤ i) (sym (q ∙ ok .indexed .follows i l)) (last-le (λ i. getD ps i 0) (getD ps i 0) i)
+
+  -- .. and has its link
+  pub chain-next : (p : ℕ) {next : ℕ} (i : ℕ) → i < count → getD ps i 0 ≡ p → next ≡ getD index (256 + i) 0 → next ≡ lastWith (λ i. getD ps i 0) p i
+  chain-next p i l e q = q ∙ ok .indexed .follows i l ∙ ap (λ (h : ℕ). lastWith (λ i. getD ps i 0) h i) e
+
+  module _ (width p : ℕ) (back : Bool) (from : List ℕ) where
+    -- fact i, which has link p
+    fact-joins : (into : List ℕ) (i : ℕ) → i < count → getD ps i 0 ≡ p
+        → joined width (cond back (getD os i 0) (getD ss i 0)) (cond back (getD ss i 0) (getD os i 0)) from into ≡ withImages width n (edge ss ps os p back i) from into
     unfolding edge
-    fact-joins count ok i l near far ep en ef =
-        let e = fact-between count n ok i l in
-        images-pair width n near far from into (subst (λ (v : ℕ). v < n) (sym en) (cond-lt back (getD os i 0) (getD ss i 0) n (e .1) (e .0)))
-        ∙ images-ext width n (λ v w. eqb near v && eqb far w) (edge ss ps os p back i) from into
-        (λ v w lv. ap₂ (λ (a b : ℕ). eqb a v && eqb b w) en ef ∙ ap (λ (b : Bool). b && (eqb (cond back (getD os i 0) (getD ss i 0)) v && eqb (cond back (getD ss i 0) (getD os i 0)) w)) (sym (eq-eqb (getD ps i 0) p ep)))
+    fact-joins into i l e =
+        let b = fact-between i l in
+        images-pair width n (cond back (getD os i 0) (getD ss i 0)) (cond back (getD ss i 0) (getD os i 0)) from into (cond-lt back (getD os i 0) (getD ss i 0) n (b .1) (b .0))
+        ∙ images-ext width n (λ v w. eqb (cond back (getD os i 0) (getD ss i 0)) v && eqb (cond back (getD ss i 0) (getD os i 0)) w) (edge ss ps os p back i) from into
+        (λ v w lv. ap (λ (b : Bool). b && (eqb (cond back (getD os i 0) (getD ss i 0)) v && eqb (cond back (getD ss i 0) (getD os i 0)) w)) (sym (eq-eqb (getD ps i 0) p e)))
 
-    pub fact-other : (i : ℕ) → ((i : ℕ) → getD into i 0 < 2 ^ 64) → (getD ps i 0 ≡ p → ⊥) → into ≡ withImages width n (edge ss ps os p back i) from into
-    unfolding edge
-    fact-other i small ne =
-        images-none width n from into small
-        ∙ images-ext width n (λ v w. false) (edge ss ps os p back i) from into (λ v w lv. ap (λ (b : Bool). b && (eqb (cond back (getD os i 0) (getD ss i 0)) v && eqb (cond back (getD ss i 0) (getD os i 0)) w)) (sym (ne-eqb (getD ps i 0) p ne)))
+    -- of the first i facts only those up to the last with link p add something
+    pub chain-rest : (into : List ℕ) {next : ℕ} (i : ℕ) → next ≡ lastWith (λ i. getD ps i 0) p i → withImages width n (edges ss ps os p back next) from into ≡ withImages width n (edges ss ps os p back i) from into
+    unfolding edges edge
+    chain-rest into i e =
+        ap (λ (k : ℕ). withImages width n (edges ss ps os p back k) from into) e
+        ∙ images-ext width n (edges ss ps os p back (lastWith (λ i. getD ps i 0) p i)) (edges ss ps os p back i) from into (λ v w lv. sym (some-last (λ i. getD ps i 0) p (λ k. edge ss ps os p back k v w) i
+        (λ k l h. eqb-true (getD ps k 0) p (and-left (eqb (getD ps k 0) p) (eqb (cond back (getD os k 0) (getD ss k 0)) v && eqb (cond back (getD ss k 0) (getD os k 0)) w) h))))
 
-    -- no fact; one fact more
-    pub facts-none : ((i : ℕ) → getD into i 0 < 2 ^ 64) → into ≡ withImages width n (edges ss ps os p back 0) from into
+    -- fact i joined, and then what its chain goes on with
+    pub chain-more : (into : List ℕ) {ws : List ℕ} {next : ℕ} (i : ℕ) → i < count → getD ps i 0 ≡ p → ws ≡ joined width (cond back (getD os i 0) (getD ss i 0)) (cond back (getD ss i 0) (getD os i 0)) from into → next ≡ lastWith (λ i. getD ps i 0) p i
+        → withImages width n (edges ss ps os p back next) from ws ≡ withImages width n (edges ss ps os p back (suc i)) from into
     unfolding edges some
-    facts-none small = images-none width n from into small ∙ images-ext width n (λ v w. false) (edges ss ps os p back 0) from into (λ v w lv. refl)
+    chain-more into {ws} i l e q f =
+        chain-rest ws i f ∙ ap (withImages width n (edges ss ps os p back i) from) (q ∙ fact-joins into i l e)
+        ∙ images-or width n (edge ss ps os p back i) (edges ss ps os p back i) from into
+        ∙ images-ext width n (λ v w. edge ss ps os p back i v w || edges ss ps os p back i v w) (edges ss ps os p back (suc i)) from into (λ v w lv. refl)
 
-    pub facts-more : {ws : List ℕ} (i : ℕ) → ws ≡ withImages width n (edges ss ps os p back i) from into → withImages width n (edge ss ps os p back i) from ws ≡ withImages width n (edges ss ps os p back (i + 1)) from into
+    -- the end of the chain
+    pub chain-ends : (into : List ℕ) → ((i : ℕ) → getD into i 0 < 2 ^ 64) → into ≡ withImages width n (edges ss ps os p back 0) from into
     unfolding edges some
-    facts-more i e =
-        ap (withImages width n (edge ss ps os p back i) from) e ∙ images-or width n (edges ss ps os p back i) (edge ss ps os p back i) from into
-        ∙ images-ext width n (λ v w. edges ss ps os p back i v w || edge ss ps os p back i v w) (edges ss ps os p back (i + 1)) from into
-        (λ v w lv. or-comm (edges ss ps os p back i v w) (edge ss ps os p back i v w) ∙ ap (λ (j : ℕ). some (λ k. edge ss ps os p back k v w) j) (sym (add-one i)))
+    chain-ends into small = images-none width n from into small ∙ images-ext width n (λ v w. false) (edges ss ps os p back 0) from into (λ v w lv. refl)
+
+-- what a node's joining leaves is words
+pub joined-small : (width near far : ℕ) (from into : List ℕ) {ws : List ℕ} → ws ≡ joined width near far from into → (i : ℕ) → getD ws i 0 < 2 ^ 64
+unfolding joined
+joined-small width near far from into e = small-of (λ x. has into x || (has from (near * width + x % width) && eqb far (x / width))) (length into) e

@@ -15,12 +15,12 @@ use Rattle.paths.specs.Facts.{FactsOk, triplesOf}
 use Rattle.paths.proofs.Joins.{fact-between}
 use Rattle.paths.proofs.Paths.{has-triple}
 
-module _ (ss ps os : List ℕ) (count n : ℕ) (ok : FactsOk ss ps os count n) where
+module _ (ss ps os index : List ℕ) (count n : ℕ) (ok : FactsOk ss ps os index count n) where
   pub ends-nodes : (p : Path) (v w : ℕ) → ends n (triplesOf ss ps os count) p v w ≡ true → (v < n) × (w < n)
   unfolding ends
   ends-nodes (predicate p) v w h =
       let (i, l, q) = some-witness (λ i. eqb (getD ss i 0) v && (eqb (getD ps i 0) p && eqb (getD os i 0) w)) count (sym (has-triple ss ps os v p w count) ∙ h) in
-      let b = fact-between ss ps os count n ok i l in
+      let b = fact-between ss ps os index count n ok i l in
       let r = and-right (eqb (getD ss i 0) v) (eqb (getD ps i 0) p && eqb (getD os i 0) w) q in
       (subst (λ (x : ℕ). x < n) (eqb-true (getD ss i 0) v (and-left (eqb (getD ss i 0) v) (eqb (getD ps i 0) p && eqb (getD os i 0) w) q)) (b .0), subst (λ (x : ℕ). x < n) (eqb-true (getD os i 0) w (and-right (eqb (getD ps i 0) p) (eqb (getD os i 0) w) r)) (b .1))
   ends-nodes (inverse p) v w h = let b = ends-nodes p w v h in (b .1, b .0)

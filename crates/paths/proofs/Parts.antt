@@ -2,21 +2,23 @@
 use Prim.Native.Nat.{ℕ, _+_, _≤_, _<_}
 use mathlib.Core.Bool.{true, _&&_}
 use mathlib.Core.List.{List}
-use mathlib.Core.Path.{_≡_, sym, ap, ap₂, _∙_, subst}
+use mathlib.Core.Path.{_≡_, refl, sym, ap, ap₂, _∙_, subst}
 use native.Mathlib.Omega.{arith}
 use lib.Dec.{ltb}
 use lib.ListN.{length, getD, take, drop, length-drop}
 use lib.Seq.{getD-take, getD-drop, length-take-le}
 use borrow.Author.Tests.{lt-ltb}
 use Rattle.base.proofs.Bools.{and-both}
+use Rattle.base.specs.Bounded.{every}
 use Rattle.base.proofs.Bounded.{every-all}
 use Rattle.base.proofs.Lists.{values-ext}
+use Rattle.chains.proofs.Chains.{chained-same}
 use Rattle.model.specs.Graph.{Triple}
-use Rattle.tables.specs.Layout.{cellCount, nodeCount, factCount, subjects, predicates, objects, subjectAt, objectAt}
+use Rattle.tables.specs.Layout.{cellCount, nodeCount, factCount, subjects, predicates, objects, subjectAt, predicateAt, objectAt}
 use Rattle.tables.specs.Decode.{tripleAt, triplesAt}
 use Rattle.tables.specs.WellFormed.{wellFormed}
 use Rattle.tables.proofs.WellFormed.{Sound, sound}
-use Rattle.paths.specs.Facts.{FactsOk, tripleIn, triplesOf}
+use Rattle.paths.specs.Facts.{Indexed, TableIndexed, FactsOk, tripleIn, triplesOf}
 
 triple-eq : {s s′ p p′ o o′ : ℕ} → s ≡ s′ → p ≡ p′ → o ≡ o′ → _≡_ {A = Triple} (record { subject = s; predicate = p; object = o }) (record { subject = s′; predicate = p′; object = o′ })
 triple-eq a b c = rw (a, b, c)
@@ -40,9 +42,16 @@ module _ (cs : List ℕ) where
       triple-eq (part-at subjects i i-lt) (part-at predicates i i-lt) (part-at objects i i-lt)
 
   module _ (ok : wellFormed cs ≡ true) where
+    -- the links of the facts
+    part-links : every (λ i. ltb (getD (part cs predicates) i 0) 256) (factCount cs) ≡ true
+    part-links = every-all (λ i. ltb (getD (part cs predicates) i 0) 256) (factCount cs) (λ i l.
+        let i-lt : i < 4096 = omega (arith, sound cs ok .facts) in
+        ap (λ (p : ℕ). ltb p 256) (part-at predicates i i-lt) ∙ lt-ltb (predicateAt cs i) 256 (omega (arith, sound cs ok .predicate i l, sound cs ok .links)))
+
     -- the facts of well-formed tables lie between nodes; with the counts as they were read
-    pub lent-ok : {count n : ℕ} → cellCount ≤ length cs → n ≡ nodeCount cs → count ≡ factCount cs → FactsOk (part cs subjects) (part cs predicates) (part cs objects) count n
-    lent-ok room en ec = rw (en, ec) record {
+    pub lent-ok : {count n : ℕ} {index : List ℕ} → cellCount ≤ length cs → n ≡ nodeCount cs → count ≡ factCount cs → TableIndexed cs index → FactsOk (part cs subjects) (part cs predicates) (part cs objects) index count n
+    lent-ok room en ec ix = rw (en, ec) record {
+      few = s .facts;
       subjects = omega (arith, s .facts, part-length subjects (omega arith));
       predicates = omega (arith, s .facts, part-length predicates (omega arith));
       objects = omega (arith, s .facts, part-length objects (omega arith));
@@ -51,10 +60,20 @@ module _ (cs : List ℕ) where
           let i-lt : i < 4096 = omega (arith, s .facts) in
           ap₂ (λ (a b : ℕ). ltb a (nodeCount cs) && ltb b (nodeCount cs)) (part-at subjects i i-lt) (part-at objects i i-lt)
           ∙ and-both (ltb (subjectAt cs i) (nodeCount cs)) (ltb (objectAt cs i) (nodeCount cs)) (lt-ltb (subjectAt cs i) (nodeCount cs) (s .subject i l)) (lt-ltb (objectAt cs i) (nodeCount cs) (s .object i l)));
+      links = part-links;
+      indexed = chained-same (λ i l. sym (part-at predicates i (omega (arith, s .facts)))) (λ h l. refl) (λ i l. refl) ix;
     }
       where
         s : Sound cs
         s = sound cs ok
+
+    -- what the index of the facts is made from
+    pub lent-links : {count : ℕ} → cellCount ≤ length cs → count ≡ factCount cs → (count ≤ 4096) × (count ≤ length (part cs predicates)) × (every (λ i. ltb (getD (part cs predicates) i 0) 256) count ≡ true)
+    lent-links room ec = rw ec (sound cs ok .facts, omega (arith, sound cs ok .facts, part-length predicates (omega arith)), part-links)
+
+    -- the index of the part is that of the tables
+    pub lent-index : {count : ℕ} {index : List ℕ} → count ≡ factCount cs → Indexed (part cs predicates) count index → TableIndexed cs index
+    lent-index {index = index} ec ix = chained-same (λ i l. part-at predicates i (omega (arith, sound cs ok .facts))) (λ h l. refl) (λ i l. refl) (subst (λ (k : ℕ). Indexed (part cs predicates) k index) ec ix)
 
     pub lent-triples : {count : ℕ} → count ≡ factCount cs → triplesOf (part cs subjects) (part cs predicates) (part cs objects) count ≡ triplesAt cs
     lent-triples ec = ap (triplesOf (part cs subjects) (part cs predicates) (part cs objects)) ec ∙ part-triples (sound cs ok .facts)

@@ -7,7 +7,9 @@ use lib.Dec.{eqb, ltb}
 use lib.ListN.{length, getD}
 use Rattle.base.specs.Bounded.{some, every}
 use Rattle.base.specs.Lists.{values}
+use Rattle.chains.specs.Chains.{Chained}
 use Rattle.model.specs.Graph.{Triple}
+use Rattle.tables.specs.Layout.{factCount, predicateAt}
 
 module _ (ss ps os : List ℕ) where
   -- fact i
@@ -26,10 +28,25 @@ module _ (ss ps os : List ℕ) where
   unfoldable pub edges : ℕ → Bool → ℕ → ℕ → ℕ → Bool
   edges p back count v w = some (λ i. edge p back i v w) count
 
--- count facts between n nodes
-pub record FactsOk (ss ps os : List ℕ) (count n : ℕ) : Type 0 where
+-- the index of facts: their chains by link. That of link p begins at place p, and fact i is followed at 256 + i
+abbrev pub Indexed : List ℕ → ℕ → List ℕ → Type 0
+Indexed ps count index = Chained (λ i. getD ps i 0) count 256 0 256 index
+
+-- the index of the tables' facts
+abbrev pub TableIndexed : List ℕ → List ℕ → Type 0
+TableIndexed cs index = Chained (predicateAt cs) (factCount cs) 256 0 256 index
+
+-- how long it is
+abbrev pub indexCount : ℕ
+indexCount = 4352
+
+-- count facts between n nodes, and their index
+pub record FactsOk (ss ps os index : List ℕ) (count n : ℕ) : Type 0 where
+  pub few : count ≤ 4096
   pub subjects : count ≤ length ss
   pub predicates : count ≤ length ps
   pub objects : count ≤ length os
   pub nodes : n ≤ 1024
   pub between : every (λ i. ltb (getD ss i 0) n && ltb (getD os i 0) n) count ≡ true
+  pub links : every (λ i. ltb (getD ps i 0) 256) count ≡ true
+  pub indexed : Indexed ps count index

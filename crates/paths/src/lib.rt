@@ -7,6 +7,12 @@
 //   add_ends         a set gains all ends from the members of another set
 //   add_table_ends   the same over the facts of the tables
 //   follow           the same for sets side by side
+//
+// The facts of each link are found by an index, chains by link, which is made once for many calls:
+//   index_facts      the chains of the facts
+//   index_table      the same for the facts of the tables
+use chains::entry;
+use chains::link;
 use model::LinkNo;
 use model::NodeNo;
 use nodeset::insert;
@@ -27,13 +33,14 @@ use tables::reads::wide;
 ghost use mathlib.Core.Path.{_≡_};
 ghost use mathlib.Core.Bool.{true, cond};
 ghost use Prim.Native.Nat.{_<_, _≤_};
-ghost use lib.Dec.{eqb};
-ghost use lib.ListN.{length, getD};
+ghost use lib.Dec.{eqb, ltb};
+ghost use lib.ListN.{length, getD, replicate};
 ghost use Rattle.model.specs.Paths.{endsOf};
 ghost use Rattle.tables.specs.Layout.{nodeCount, pathCount, cellCount};
 ghost use Rattle.tables.specs.Decode.{triplesAt, pathAt};
 ghost use Rattle.tables.specs.WellFormed.{wellFormed};
-ghost use Rattle.paths.specs.Facts.{FactsOk, triplesOf, edge, edges};
+ghost use Rattle.base.specs.Bounded.{every};
+ghost use Rattle.paths.specs.Facts.{Indexed, TableIndexed, indexCount, FactsOk, triplesOf, edges};
 ghost use Rattle.paths.specs.Ends.{endIn, endOk};
 ghost use Rattle.paths.specs.Images.{converseIf, setCount, withImage, withImages, joined, withEnds};
 
@@ -77,31 +84,49 @@ fn join(into: &mut [u64], far: usize, many: bool, from: &[u64], near: usize)
     }
 }
 
-// What fact i adds, where it has link l; read backwards where back.
-fn join_fact(
-    into: &mut [u64],
-    i: usize,
-    l: LinkNo,
-    back: bool,
-    many: bool,
-    from: &[u64],
-    s: &[u16],
-    p: &[u16],
-    o: &[u16],
-    len: usize,
-    n: usize,
-)
-    requires { ⌜ FactsOk (now s) (now p) (now o) len n × (i < len) ⌝ }
-    ensures { λ _. ⌜ now (into .exit) ≡ withImages (setCount many) n (edge (now (s .entry)) (now (p .entry)) (now (o .entry)) (l .0) back i) (now (from .entry)) (now (into .entry)) ⌝ }
+// The chains of the facts by their links.
+pub fn index_facts(index: &mut [u16], p: &[u16], len: usize)
+    requires { ⌜ (now index ≡ replicate indexCount 0) × (len ≤ 4096) × (len ≤ length (now p)) × (every (λ i. ltb (getD (now p) i 0) 256) len ≡ true) ⌝ }
+    ensures { λ _. ⌜ Indexed (now (p .entry)) len (now (index .exit)) ⌝ }
 {
-    if link_at(p, i).0 == l.0 {
-        let v = wide(node_at(s, i).0);
-        let w = wide(node_at(o, i).0);
-        join(into, pick(back, v, w), many, from, pick(back, w, v));
+    for i in 0..len {
+        let l = link_at(p, i);
+        link(index, 0, 256, wide(l.0), i);
     }
 }
 
-// What the facts of link l add; read backwards where back.
+// The chains of the tables' facts.
+pub fn index_table(index: &mut [u16], cells: &[u16])
+    requires { ⌜ (now index ≡ replicate indexCount 0) × (cellCount ≤ length (now cells)) × (wellFormed (now cells) ≡ true) ⌝ }
+    ensures { λ _. ⌜ TableIndexed (now (cells .entry)) (now (index .exit)) ⌝ }
+{
+    let len = fact_count(cells);
+    index_facts(index, &cells[PREDICATES..OBJECTS], len);
+}
+
+// The last fact of link l, as its number and one; 0 where there is none.
+fn last_fact(index: &[u16], l: LinkNo) -> usize
+    ensures { λ r. ⌜ r ≡ cond (ltb (l .0) 256) (getD (now (index .entry)) (l .0) 0) 0 ⌝ }
+{
+    if l.0 < 256 {
+        wide(entry(index, wide(l.0)))
+    } else {
+        0
+    }
+}
+
+// The object of fact i joins each set that its subject is in; read backwards where back.
+fn join_fact(into: &mut [u64], i: usize, back: bool, many: bool, from: &[u64], s: &[u16], o: &[u16])
+    requires { ⌜ (i < length (now s)) × (i < length (now o)) ⌝ }
+    ensures { λ _. ⌜ now (into .exit) ≡ joined (setCount many) (cond back (getD (now (o .entry)) i 0) (getD (now (s .entry)) i 0)) (cond back (getD (now (s .entry)) i 0) (getD (now (o .entry)) i 0)) (now (from .entry)) (now (into .entry)) ⌝ }
+{
+    let v = wide(node_at(s, i).0);
+    let w = wide(node_at(o, i).0);
+    join(into, pick(back, v, w), many, from, pick(back, w, v));
+}
+
+// What the facts of link l add; read backwards where back. Only these are looked at: p, of which the index is made, is there
+// for the promise alone.
 fn join_link(
     into: &mut [u64],
     l: LinkNo,
@@ -111,14 +136,18 @@ fn join_link(
     s: &[u16],
     p: &[u16],
     o: &[u16],
+    index: &[u16],
     len: usize,
     n: usize,
 )
-    requires { ⌜ FactsOk (now s) (now p) (now o) len n ⌝ }
+    requires { ⌜ FactsOk (now s) (now p) (now o) (now index) len n ⌝ }
     ensures { λ _. ⌜ now (into .exit) ≡ withImages (setCount many) n (edges (now (s .entry)) (now (p .entry)) (now (o .entry)) (l .0) back len) (now (from .entry)) (now (into .entry)) ⌝ }
 {
-    for i in 0..len {
-        join_fact(into, i, l, back, many, from, s, p, o, len, n);
+    let mut next = last_fact(index, l);
+    while 0 < next {
+        let i = next - 1;
+        join_fact(into, i, back, many, from, s, o);
+        next = wide(entry(index, 256 + i));
     }
 }
 
@@ -133,27 +162,40 @@ fn spread(
     s: &[u16],
     p: &[u16],
     o: &[u16],
+    index: &[u16],
     len: usize,
     n: usize,
 )
-    requires { ⌜ FactsOk (now s) (now p) (now o) len n × (wellFormed (now cells) ≡ true) × (e < pathCount (now cells)) ⌝ }
+    requires { ⌜ FactsOk (now s) (now p) (now o) (now index) len n × (wellFormed (now cells) ≡ true) × (e < pathCount (now cells)) ⌝ }
     ensures { λ _. ⌜ now (into .exit) ≡ withEnds (setCount many) n (triplesOf (now (s .entry)) (now (p .entry)) (now (o .entry)) len) (pathAt (now (cells .entry)) e) back (now (from .entry)) (now (into .entry)) ⌝ }
 {
     let a = path_first(cells, e);
     let b = path_second(cells, e);
     match path_code(cells, e) {
-        0 => join_link(into, path_link(cells, e), back, many, from, s, p, o, len, n),
-        1 => spread(into, a, !back, many, from, cells, s, p, o, len, n),
+        0 => join_link(
+            into,
+            path_link(cells, e),
+            back,
+            many,
+            from,
+            s,
+            p,
+            o,
+            index,
+            len,
+            n,
+        ),
+        1 => spread(into, a, !back, many, from, cells, s, p, o, index, len, n),
         2 => {
             let x = pick(back, b, a);
             let y = pick(back, a, b);
             let mut mid = [0u64; 1024];
-            spread(&mut mid, x, back, many, from, cells, s, p, o, len, n);
-            spread(into, y, back, many, &mid, cells, s, p, o, len, n);
+            spread(&mut mid, x, back, many, from, cells, s, p, o, index, len, n);
+            spread(into, y, back, many, &mid, cells, s, p, o, index, len, n);
         }
         _ => {
-            spread(into, a, back, many, from, cells, s, p, o, len, n);
-            spread(into, b, back, many, from, cells, s, p, o, len, n);
+            spread(into, a, back, many, from, cells, s, p, o, index, len, n);
+            spread(into, b, back, many, from, cells, s, p, o, index, len, n);
         }
     }
 }
@@ -178,16 +220,17 @@ pub fn follow(
     s: &[u16],
     p: &[u16],
     o: &[u16],
+    index: &[u16],
     len: usize,
     n: usize,
 )
-    requires { ⌜ FactsOk (now s) (now p) (now o) len n × (wellFormed (now cells) ≡ true) × (endOk (now cells) end ≡ true) ⌝ }
+    requires { ⌜ FactsOk (now s) (now p) (now o) (now index) len n × (wellFormed (now cells) ≡ true) × (endOk (now cells) end ≡ true) ⌝ }
     ensures { λ _. ⌜ now (into .exit) ≡ withImages (setCount many) n (converseIf back (endsOf n (triplesOf (now (s .entry)) (now (p .entry)) (now (o .entry)) len) (endIn (now (cells .entry)) end))) (now (from .entry)) (now (into .entry)) ⌝ }
 {
     match end {
         End::Itself => join_itself(into, many, from, n),
-        End::Link(l) => join_link(into, l, back, many, from, s, p, o, len, n),
-        End::Path(e) => spread(into, e, back, many, from, cells, s, p, o, len, n),
+        End::Link(l) => join_link(into, l, back, many, from, s, p, o, index, len, n),
+        End::Path(e) => spread(into, e, back, many, from, cells, s, p, o, index, len, n),
     }
 }
 
@@ -201,18 +244,26 @@ pub fn add_ends(
     s: &[u16],
     p: &[u16],
     o: &[u16],
+    index: &[u16],
     len: usize,
     n: usize,
 )
-    requires { ⌜ FactsOk (now s) (now p) (now o) len n × (wellFormed (now cells) ≡ true) × (endOk (now cells) end ≡ true) ⌝ }
+    requires { ⌜ FactsOk (now s) (now p) (now o) (now index) len n × (wellFormed (now cells) ≡ true) × (endOk (now cells) end ≡ true) ⌝ }
     ensures { λ _. ⌜ now (into .exit) ≡ withImage n (converseIf back (endsOf n (triplesOf (now (s .entry)) (now (p .entry)) (now (o .entry)) len) (endIn (now (cells .entry)) end))) (now (from .entry)) (now (into .entry)) ⌝ }
 {
-    follow(into, end, back, false, from, cells, s, p, o, len, n);
+    follow(into, end, back, false, from, cells, s, p, o, index, len, n);
 }
 
 // The same over the facts of the tables.
-pub fn add_table_ends(into: &mut [u64], end: End, back: bool, from: &[u64], cells: &[u16])
-    requires { ⌜ (cellCount ≤ length (now cells)) × (wellFormed (now cells) ≡ true) × (endOk (now cells) end ≡ true) ⌝ }
+pub fn add_table_ends(
+    into: &mut [u64],
+    end: End,
+    back: bool,
+    from: &[u64],
+    cells: &[u16],
+    index: &[u16],
+)
+    requires { ⌜ (cellCount ≤ length (now cells)) × (wellFormed (now cells) ≡ true) × (endOk (now cells) end ≡ true) × TableIndexed (now cells) (now index) ⌝ }
     ensures { λ _. ⌜ now (into .exit) ≡ withImage (nodeCount (now (cells .entry))) (converseIf back (endsOf (nodeCount (now (cells .entry))) (triplesAt (now (cells .entry))) (endIn (now (cells .entry)) end))) (now (from .entry)) (now (into .entry)) ⌝ }
 {
     let n = node_count(cells);
@@ -220,5 +271,5 @@ pub fn add_table_ends(into: &mut [u64], end: End, back: bool, from: &[u64], cell
     let s = &cells[SUBJECTS..PREDICATES];
     let p = &cells[PREDICATES..OBJECTS];
     let o = &cells[OBJECTS..PATH_CODES];
-    add_ends(into, end, back, from, cells, s, p, o, len, n);
+    add_ends(into, end, back, from, cells, s, p, o, index, len, n);
 }
