@@ -25,7 +25,7 @@ pub end-below : (cs : List ℕ) (p : ℕ) → (p ≡ 65535 → ⊥) → endOk cs
 unfolding endOk
 end-below cs p ne h = ⊎-elim (λ e. e) (λ e. absurd (ne (eqb-true p 65535 e))) (or-cases (ltb p (pathCount cs)) (eqb p 65535) h)
 
-module _ (cs : List ℕ) (t : Tables cs) where
+module _ (cs : List ℕ) {index : List ℕ} (t : Tables cs index) where
   pub sound-of : Sound cs
   sound-of = sound cs (t .ok)
 

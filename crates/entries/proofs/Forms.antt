@@ -16,7 +16,7 @@ use Rattle.entries.specs.Tables.{Asked}
 use Rattle.entries.proofs.Codes.{conforms-by, nodes-le, less-path, lesseq-path, path-along}
 use Rattle.entries.proofs.Sets.{subset-of, shared-of, pairs-of}
 
-module _ (cs : List ℕ) (vs : List ℤ) (e v : ℕ) (k : Asked cs e v) where
+module _ (cs : List ℕ) {index : List ℕ} (vs : List ℤ) (e v : ℕ) (k : Asked cs index e v) where
   -- the ends of an END from v
   abbrev pub endSet : End → ℕ → Bool
   endSet x = endsOf (nodeCount cs) (triplesAt cs) x v

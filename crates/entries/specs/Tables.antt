@@ -9,18 +9,20 @@ use Rattle.tables.specs.Layout.{cellCount, nodeCount, formCount}
 use Rattle.tables.specs.Decode.{endAt}
 use Rattle.tables.specs.WellFormed.{wellFormed}
 use Rattle.tables.specs.WellFormed as tables
+use Rattle.paths.specs.Facts.{TableIndexed}
 use Rattle.paths.specs.Ends as paths
 use Rattle.paths.specs.Ends.{endIn}
 use Rattle.paths.specs.declared.End.{End}
 
--- well-formed tables
-pub record Tables (cs : List ℕ) : Type 0 where
+-- well-formed tables, with the index of their facts
+pub record Tables (cs index : List ℕ) : Type 0 where
   pub room : cellCount ≤ length cs
   pub ok : wellFormed cs ≡ true
+  pub indexed : TableIndexed cs index
 
 -- with a form entry and a node
-pub record Asked (cs : List ℕ) (e v : ℕ) : Type 0 where
-  pub tables : Tables cs
+pub record Asked (cs index : List ℕ) (e v : ℕ) : Type 0 where
+  pub tables : Tables cs index
   pub entry : e < formCount cs
   pub node : v < nodeCount cs
 

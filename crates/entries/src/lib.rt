@@ -1,6 +1,6 @@
 // Form entries that look along paths: whether a node conforms to one.
 //
-// For the crates above, which show that the tables are well formed:
+// For the crates above, which show that the tables are well formed and lend the index of their facts:
 //   ends_from      all ends from the members of a set
 //   count_holds    `count`, with the nodes that conform to the part
 //   all_holds      `all`, likewise
@@ -39,23 +39,23 @@ ghost use Rattle.paths.specs.Ends.{endIn, endOk};
 ghost use Rattle.entries.specs.Tables.{Tables, Asked, EndFor};
 
 // All ends from the members of a set.
-pub fn ends_from(cells: &[u16], end: End, from: &[u64]) -> NodeSet
-    requires { ⌜ Tables (now cells) × (endOk (now cells) end ≡ true) ⌝ }
+pub fn ends_from(cells: &[u16], index: &[u16], end: End, from: &[u64]) -> NodeSet
+    requires { ⌜ Tables (now cells) (now index) × (endOk (now cells) end ≡ true) ⌝ }
     ensures { λ r. ⌜ r .words ≡ wordsOf (image (nodeCount (now (cells .entry))) (endsOf (nodeCount (now (cells .entry))) (triplesAt (now (cells .entry))) (endIn (now (cells .entry)) end)) (has (now (from .entry)))) 16 ⌝ }
 {
     let mut words = [0u64; 16];
-    add_table_ends(&mut words, end, false, from, cells);
+    add_table_ends(&mut words, end, false, from, cells, index);
     NodeSet { words }
 }
 
 // The ends from node v.
-fn ends_of(cells: &[u16], end: End, v: usize) -> NodeSet
-    requires { ⌜ Tables (now cells) × (endOk (now cells) end ≡ true) × (v < nodeCount (now cells)) ⌝ }
+fn ends_of(cells: &[u16], index: &[u16], end: End, v: usize) -> NodeSet
+    requires { ⌜ Tables (now cells) (now index) × (endOk (now cells) end ≡ true) × (v < nodeCount (now cells)) ⌝ }
     ensures { λ r. ⌜ r .words ≡ wordsOf (endsOf (nodeCount (now (cells .entry))) (triplesAt (now (cells .entry))) (endIn (now (cells .entry)) end) v) 16 ⌝ }
 {
     let mut from = [0u64; 16];
     insert(&mut from, v);
-    ends_from(cells, end, &from)
+    ends_from(cells, index, end, &from)
 }
 
 // The operand END: `id` or a path entry.
@@ -77,34 +77,34 @@ fn between(lo: u16, hi: u16, k: usize) -> bool
 }
 
 // `count`: the ones in the end set ANDed with those that conform to the part, which are nodes.
-pub fn count_holds(cells: &[u16], e: usize, v: usize, part: &[u64]) -> bool
-    requires { ⌜ Asked (now cells) e v × (formCodeAt (now cells) e ≡ 13) × ((b : ℕ) → b < 1024 → has (now part) b ≡ true → b < nodeCount (now cells)) ⌝ }
+pub fn count_holds(cells: &[u16], index: &[u16], e: usize, v: usize, part: &[u64]) -> bool
+    requires { ⌜ Asked (now cells) (now index) e v × (formCodeAt (now cells) e ≡ 13) × ((b : ℕ) → b < 1024 → has (now part) b ≡ true → b < nodeCount (now cells)) ⌝ }
     ensures { λ r. ⌜ r ≡ within (formThirdAt (now (cells .entry)) e) (upperOf (formFourthAt (now (cells .entry)) e)) (size (λ b. ends (nodeCount (now (cells .entry))) (triplesAt (now (cells .entry))) (pathAt (now (cells .entry)) (formFirstAt (now (cells .entry)) e)) v b && has (now (part .entry)) b) (nodeCount (now (cells .entry)))) ⌝ }
 {
-    let set = ends_of(cells, End::Path(wide(form_first(cells, e))), v);
+    let set = ends_of(cells, index, End::Path(wide(form_first(cells, e))), v);
     let words = set.words;
     let k = count_both(&words, part);
     between(form_third(cells, e), form_fourth(cells, e), k)
 }
 
 // `all`: every end conforms to the part.
-pub fn all_holds(cells: &[u16], e: usize, v: usize, part: &[u64]) -> bool
-    requires { ⌜ Asked (now cells) e v × (formCodeAt (now cells) e ≡ 14) ⌝ }
+pub fn all_holds(cells: &[u16], index: &[u16], e: usize, v: usize, part: &[u64]) -> bool
+    requires { ⌜ Asked (now cells) (now index) e v × (formCodeAt (now cells) e ≡ 14) ⌝ }
     ensures { λ r. ⌜ r ≡ every (λ b. ends (nodeCount (now (cells .entry))) (triplesAt (now (cells .entry))) (pathAt (now (cells .entry)) (formFirstAt (now (cells .entry)) e)) v b ⇒ has (now (part .entry)) b) (nodeCount (now (cells .entry))) ⌝ }
 {
-    let set = ends_of(cells, End::Path(wide(form_first(cells, e))), v);
+    let set = ends_of(cells, index, End::Path(wide(form_first(cells, e))), v);
     let words = set.words;
     subset_holds(&words, part, node_count(cells))
 }
 
 // `equal`, `apart`, `less`, `lesseq`: the ends and the objects of a link.
-pub fn sets_hold(cells: &[u16], values: &[i64], e: usize, v: usize) -> bool
-    requires { ⌜ Asked (now cells) e v × (15 ≤ formCodeAt (now cells) e) × (formCodeAt (now cells) e ≤ 19) × (formCodeAt (now cells) e ≡ 17 → ⊥) ⌝ }
+pub fn sets_hold(cells: &[u16], index: &[u16], values: &[i64], e: usize, v: usize) -> bool
+    requires { ⌜ Asked (now cells) (now index) e v × (15 ≤ formCodeAt (now cells) e) × (formCodeAt (now cells) e ≤ 19) × (formCodeAt (now cells) e ≡ 17 → ⊥) ⌝ }
     ensures { λ r. ⌜ r ≡ conforms (graphAt (now (cells .entry)) (now (values .entry))) (shapeAt (now (cells .entry)) (now (values .entry)) e) v ⌝ }
 {
-    let first = ends_of(cells, end_at(form_first(cells, e)), v);
+    let first = ends_of(cells, index, end_at(form_first(cells, e)), v);
     let a = first.words;
-    let second = ends_of(cells, End::Link(form_link(cells, e)), v);
+    let second = ends_of(cells, index, End::Link(form_link(cells, e)), v);
     let b = second.words;
     match form_code(cells, e) {
         15 => equal_holds(&a, &b, node_count(cells)),
@@ -115,11 +115,11 @@ pub fn sets_hold(cells: &[u16], values: &[i64], e: usize, v: usize) -> bool
 }
 
 // `onelang`.
-pub fn lang_holds(cells: &[u16], values: &[i64], e: usize, v: usize) -> bool
-    requires { ⌜ Asked (now cells) e v × (formCodeAt (now cells) e ≡ 20) ⌝ }
+pub fn lang_holds(cells: &[u16], index: &[u16], values: &[i64], e: usize, v: usize) -> bool
+    requires { ⌜ Asked (now cells) (now index) e v × (formCodeAt (now cells) e ≡ 20) ⌝ }
     ensures { λ r. ⌜ r ≡ conforms (graphAt (now (cells .entry)) (now (values .entry))) (shapeAt (now (cells .entry)) (now (values .entry)) e) v ⌝ }
 {
-    let set = ends_of(cells, End::Path(wide(form_first(cells, e))), v);
+    let set = ends_of(cells, index, End::Path(wide(form_first(cells, e))), v);
     let words = set.words;
     onelang_holds(cells, values, &words)
 }

@@ -26,9 +26,9 @@ wide-requires c κs = search needs
 ends-of-requires : tie.Need-ends-of-requires
 unfolding endOk
 ends-of-requires c κs =
-    let a = c .before .before .before .before .args in
+    let a = c .before .before .before .before .before .args in
     let cs = a .cells .now in
-    let p = c .before .before .before .before .pre in
+    let p = c .before .before .before .before .before .pre in
     (p .0 .tables, ap (λ (i : ℕ). ltb i (pathCount cs)) (c .wide .ensures ∙ c .before .form-first .ensures) ∙ lt-ltb (formFirstAt cs (a .e)) (pathCount cs) (all-path cs (p .0 .tables) [] (a .e) (p .0 .entry) (p .1)), p .0 .node)
 
 slice-aggregate-subset-holds : tie.Need-slice-aggregate-subset-holds
@@ -38,14 +38,14 @@ node-count-requires : tie.Need-node-count-requires
 node-count-requires c κs = search needs
 
 subset-holds-requires : tie.Need-subset-holds-requires
-subset-holds-requires c κs = let r = c .before .before .before .before .before .before .before .before .args in omega (arith, c .node-count .ensures, nodes-le (r .cells .now) (c .before .before .before .before .before .before .before .before .pre .0 .tables))
+subset-holds-requires c κs = let r = c .before .before .before .before .before .before .before .before .before .args in omega (arith, c .node-count .ensures, nodes-le (r .cells .now) (c .before .before .before .before .before .before .before .before .before .pre .0 .tables))
 
 returns : tie.Need-returns
 unfolding endIn endsOf
 returns c =
-    let a = c .before .before .before .before .before .before .before .before .before .args in
+    let a = c .before .before .before .before .before .before .before .before .before .before .args in
     let cs = a .cells .now in
-    let p = c .before .before .before .before .before .before .before .before .before .pre in
+    let p = c .before .before .before .before .before .before .before .before .before .before .pre in
     c .subset-holds .ensures ∙ ap (λ (n : ℕ). subset n (has (c .before .before .before .before .ends-of .result .words)) (has (a .part .now))) (c .before .node-count .ensures)
     ∙ every-of (a .part .now) (ends (nodeCount cs) (triplesAt cs) (pathAt cs (formFirstAt cs (a .e))) (a .v)) (nodeCount cs) (nodes-le cs (p .0 .tables)) (c .before .before .before .before .ends-of .ensures ∙ ap (λ (i : ℕ). wordsOf (ends (nodeCount cs) (triplesAt cs) (pathAt cs i) (a .v)) 16) (c .before .before .before .before .before .wide .ensures ∙ c .before .before .before .before .before .before .form-first .ensures))
 

@@ -25,9 +25,9 @@ wide-requires c κs = search needs
 ends-of-requires : tie.Need-ends-of-requires
 unfolding endOk
 ends-of-requires c κs =
-    let a = c .before .before .before .before .args in
+    let a = c .before .before .before .before .before .args in
     let cs = a .cells .now in
-    let p = c .before .before .before .before .pre in
+    let p = c .before .before .before .before .before .pre in
     (p .0 .tables, ap (λ (i : ℕ). ltb i (pathCount cs)) (c .wide .ensures ∙ c .before .form-first .ensures) ∙ lt-ltb (formFirstAt cs (a .e)) (pathCount cs) (count-path cs (p .0 .tables) [] (a .e) (p .0 .entry) (p .1)), p .0 .node)
 
 slice-aggregate-count-both : tie.Need-slice-aggregate-count-both
@@ -48,9 +48,9 @@ between-requires c κs = search needs
 returns : tie.Need-returns
 unfolding endIn endsOf
 returns c =
-    let a = c .before .before .before .before .before .before .before .before .before .before .before .args in
+    let a = c .before .before .before .before .before .before .before .before .before .before .before .before .args in
     let cs = a .cells .now in
-    let p = c .before .before .before .before .before .before .before .before .before .before .before .pre in
+    let p = c .before .before .before .before .before .before .before .before .before .before .before .before .pre in
     let s = size-of (a .part .now) (ends (nodeCount cs) (triplesAt cs) (pathAt cs (formFirstAt cs (a .e))) (a .v)) (nodeCount cs) (nodes-le cs (p .0 .tables)) (c .before .before .before .before .before .before .ends-of .ensures ∙ ap (λ (i : ℕ). wordsOf (ends (nodeCount cs) (triplesAt cs) (pathAt cs i) (a .v)) 16) (c .before .before .before .before .before .before .before .wide .ensures ∙ c .before .before .before .before .before .before .before .before .form-first .ensures)) (p .2) in
     c .between .ensures ∙ (λ i. within (c .before .before .form-third .ensures i) (upperOf (c .before .form-fourth .ensures i)) ((c .before .before .before .count-both .ensures ∙ s) i))
 

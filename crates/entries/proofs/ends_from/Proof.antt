@@ -13,10 +13,10 @@ slice-aggregate-add-table-ends : tie.Need-slice-aggregate-add-table-ends
 slice-aggregate-add-table-ends c = search needs
 
 add-table-ends-requires : tie.Need-add-table-ends-requires
-add-table-ends-requires c κs = (c .before .before .before .pre .0 .room, c .before .before .before .pre .0 .ok, c .before .before .before .pre .1)
+add-table-ends-requires c κs = let p = c .before .before .before .before .pre in (p .0 .room, p .0 .ok, p .1, p .0 .indexed)
 
 returns : tie.Need-returns
-returns c = let a = c .before .before .before .before .before .args in let cs = a .cells .now in c .before .add-table-ends .ensures ∙ image-zeros (nodeCount cs) (endsOf (nodeCount cs) (triplesAt cs) (endIn cs (a .end))) (a .from .now)
+returns c = let a = c .before .before .before .before .before .before .args in let cs = a .cells .now in c .before .add-table-ends .ensures ∙ image-zeros (nodeCount cs) (endsOf (nodeCount cs) (triplesAt cs) (endIn cs (a .end))) (a .from .now)
 
 pub ends-from-spec : {M : Type 1} → statement M
 ends-from-spec =

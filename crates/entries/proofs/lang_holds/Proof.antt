@@ -23,23 +23,23 @@ wide-requires c κs = search needs
 ends-of-requires : tie.Need-ends-of-requires
 unfolding endOk
 ends-of-requires c κs =
-    let a = c .before .before .before .args in
+    let a = c .before .before .before .before .args in
     let cs = a .cells .now in
-    let p = c .before .before .before .pre in
+    let p = c .before .before .before .before .pre in
     (p .0 .tables, ap (λ (i : ℕ). ltb i (pathCount cs)) (c .wide .ensures ∙ c .before .form-first .ensures) ∙ lt-ltb (formFirstAt cs (a .e)) (pathCount cs) (lang-path cs (p .0 .tables) (a .values .now) (a .e) (p .0 .entry) (p .1)), p .0 .node)
 
 slice-aggregate-onelang-holds : tie.Need-slice-aggregate-onelang-holds
 slice-aggregate-onelang-holds c = search needs
 
 onelang-holds-requires : tie.Need-onelang-holds-requires
-onelang-holds-requires c κs = nodes-le (c .before .before .before .before .before .before .args .cells .now) (c .before .before .before .before .before .before .pre .0 .tables)
+onelang-holds-requires c κs = nodes-le (c .before .before .before .before .before .before .before .args .cells .now) (c .before .before .before .before .before .before .before .pre .0 .tables)
 
 returns : tie.Need-returns
 unfolding endIn endsOf
 returns c =
-    let a = c .before .before .before .before .before .before .before .args in
+    let a = c .before .before .before .before .before .before .before .before .args in
     let cs = a .cells .now in
-    let p = c .before .before .before .before .before .before .before .pre in
+    let p = c .before .before .before .before .before .before .before .before .pre in
     c .onelang-holds .ensures ∙ set-lang cs (a .values .now) (a .e) (a .v) (p .0) (c .before .before .before .ends-of .ensures ∙ ap (λ (i : ℕ). wordsOf (ends (nodeCount cs) (triplesAt cs) (pathAt cs i) (a .v)) 16) (c .before .before .before .before .wide .ensures ∙ c .before .before .before .before .before .form-first .ensures)) (p .1)
 
 pub lang-holds-spec : {M : Type 1} → statement M
