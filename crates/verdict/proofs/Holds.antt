@@ -27,8 +27,8 @@ use Rattle.verdict.specs.Parts.{endsCode, partsCode, firstBy, secondBy, 
 use Rattle.verdict.proofs.Memo.{known-right}
 use Rattle.verdict.proofs.Parts.{first-by, second-by, parts-by, looks-here, looks-along, parts-lower}
 
-module _ {cs : List ℕ} {vs : List ℤ} {memo : List ℕ} {e v : ℕ} (k : Enough cs vs memo e v) where
-  pub asked-of : Asked cs e v
+module _ {cs index : List ℕ} {vs : List ℤ} {memo : List ℕ} {e v : ℕ} (k : Enough cs index vs memo e v) where
+  pub asked-of : Asked cs index e v
   asked-of = record { tables = k .ready .tables; entry = k .ready .entry; node = k .node }
 
   low : (w : ℕ) → w < nodeCount cs → w < 1024

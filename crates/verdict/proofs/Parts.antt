@@ -55,7 +55,7 @@ module _ (cs : List ℕ) (e : ℕ) where
   looks-along n q h v w = ap (λ (b : Bool). mathlib.Core.Bool.cond b (ends (nodeCount cs) (triplesAt cs) (pathAt cs (formFirstAt cs e)) v w) (eqb v w)) (ends-by n q ∙ h)
 
   -- both parts come before the entry
-  module _ (t : Tables cs) (l : e < formCount cs) where
+  module _ {index : List ℕ} (t : Tables cs index) (l : e < formCount cs) where
     abbrev Lower : Type 0
     Lower = (firstPart cs e < e) × (secondPart cs e < e)
 

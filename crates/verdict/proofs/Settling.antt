@@ -40,12 +40,12 @@ passed-weaker p q s n v h x = record {
 }
 
 module _ {cs : List ℕ} {vs : List ℤ} {start : List ℕ} {e : ℕ} {nodes : List ℕ} {n : ℕ} where
-  pub filling-none : {v : ℕ} → Ready cs vs start e → n ≡ nodeCount cs → v ≡ nextFrom (has nodes) 0 n → Filling cs vs start start e nodes n v
+  pub filling-none : {index : List ℕ} {v : ℕ} → Ready cs index vs start e → n ≡ nodeCount cs → v ≡ nextFrom (has nodes) 0 n → Filling cs vs start start e nodes n v
   filling-none r en ev = record { count = en; size = r .size; right = r .right; grows = λ m h. h; passed = passed-none (has nodes) (settled start e) n ev }
 
-  pub filling-more : {memo new : List ℕ} {v w : ℕ} {b : Bool} → Filling cs vs start memo e nodes n v → Tables cs → e < 112 → v < n → b ≡ conforms (graphAt cs vs) (shapeAt cs vs e) v
+  pub filling-more : {index memo new : List ℕ} {v w : ℕ} {b : Bool} → Filling cs vs start memo e nodes n v → Tables cs index → e < 112 → v < n → b ≡ conforms (graphAt cs vs) (shapeAt cs vs e) v
       → new ≡ with memo (cond b (yesPlace e v) (noPlace e v)) → length new ≡ length memo → w ≡ nextFrom (has nodes) (v + 1) n → Filling cs vs start new e nodes n w
-  filling-more {memo} {new} {v} {w} {b} f t le l eb en el ew =
+  filling-more {index} {memo} {new} {v} {w} {b} f t le l eb en el ew =
       let lv : v < nodeCount cs = omega (arith, f .count) in
       let more = grows-more cs vs memo new e v b (f .right) lv (nodes-le cs t) eb en in
       record {
@@ -73,7 +73,7 @@ missing true false true e h = refl
 missing true false false e h = sym h
 missing false y n e h = absurd (mathlib.Core.Bool.true≢false (sym e))
 
-module _ {cs : List ℕ} {vs : List ℤ} {memo : List ℕ} {e : ℕ} (r : Ready cs vs memo e) (want : List ℕ) {nodes : List ℕ} (en : nodes ≡ wordsOf (toSettle memo e want) 16) where
+module _ {cs index : List ℕ} {vs : List ℤ} {memo : List ℕ} {e : ℕ} (r : Ready cs index vs memo e) (want : List ℕ) {nodes : List ℕ} (en : nodes ≡ wordsOf (toSettle memo e want) 16) where
   -- a node that is wanted and not to be done is settled
   done : (v : ℕ) → v < nodeCount cs → has want v ≡ true → has nodes v ≡ false → settled memo e v ≡ true
   unfolding settled
@@ -104,12 +104,12 @@ parts-settled {cs} {vs} e {a} {b} nodes {ws} {one} {two} {three} looks ea s eb t
     (ap (λ (a : ℕ). settled three a w) (sym ea) ∙ settled-grows two three a w (t .grows) (s .all w lw m), ap (λ (b : ℕ). settled three b w) (sym eb) ∙ t .all w lw m)
 
 -- an entry's number
-pub entry-lt : {cs : List ℕ} {vs : List ℤ} {memo : List ℕ} {e : ℕ} → Ready cs vs memo e → e < 112
+pub entry-lt : {cs index : List ℕ} {vs : List ℤ} {memo : List ℕ} {e : ℕ} → Ready cs index vs memo e → e < 112
 entry-lt {cs} r = omega (arith, r .entry, sound-of cs (r .tables) .forms)
 
 -- ---- one question: at first nothing is known, and one node is wanted
-pub ready-none : {cs : List ℕ} {vs : List ℤ} {e : ℕ} → Tables cs → e < formCount cs → Ready cs vs (replicate 3584 0) e
-ready-none {cs} {vs} t l = record { tables = t; size = length-replicate {A = ℕ} 3584 0; right = right-none cs vs 3584; entry = l }
+pub ready-none : {cs index : List ℕ} {vs : List ℤ} {e : ℕ} → Tables cs index → e < formCount cs → Ready cs index vs (replicate 3584 0) e
+ready-none {cs} {index} {vs} t l = record { tables = t; size = length-replicate {A = ℕ} 3584 0; right = right-none cs vs 3584; entry = l }
 
 pub one-known : {cs : List ℕ} {vs : List ℤ} {start memo : List ℕ} {e : ℕ} {want : List ℕ} (v : ℕ) → want ≡ with (replicate 16 0) v → Settled cs vs start memo e want → v < nodeCount cs → nodeCount cs ≤ 1024 → has memo (yesPlace e v) ≡ conforms (graphAt cs vs) (shapeAt cs vs e) v
 one-known {cs} {vs} {start} {memo} {e} {want} v ew s l room =

@@ -30,8 +30,8 @@ pub record Right (cs : List ℕ) (vs : List ℤ) (memo : List ℕ) : Type 0 wher
   pub no : (e v : ℕ) → v < 1024 → has memo (noPlace e v) ≡ true → conforms (graphAt cs vs) (shapeAt cs vs e) v ≡ false
 
 -- an entry is to be settled
-pub record Ready (cs : List ℕ) (vs : List ℤ) (memo : List ℕ) (e : ℕ) : Type 0 where
-  pub tables : Tables cs
+pub record Ready (cs index : List ℕ) (vs : List ℤ) (memo : List ℕ) (e : ℕ) : Type 0 where
+  pub tables : Tables cs index
   pub size : length memo ≡ 3584
   pub right : Right cs vs memo
   pub entry : e < formCount cs

@@ -47,7 +47,7 @@ module _ (cs : List ℕ) (e : ℕ) where
   PartsKnown memo v = hasParts ≡ true → (w : ℕ) → w < nodeCount cs → looksAt v w ≡ true → (settled memo firstPart w ≡ true) × (settled memo secondPart w ≡ true)
 
 -- what is known is enough to tell whether node v conforms to entry e
-pub record Enough (cs : List ℕ) (vs : List ℤ) (memo : List ℕ) (e v : ℕ) : Type 0 where
-  pub ready : Ready cs vs memo e
+pub record Enough (cs index : List ℕ) (vs : List ℤ) (memo : List ℕ) (e v : ℕ) : Type 0 where
+  pub ready : Ready cs index vs memo e
   pub node : v < nodeCount cs
   pub parts : PartsKnown cs e memo v

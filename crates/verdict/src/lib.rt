@@ -19,6 +19,7 @@ use nodeset::load;
 use nodeset::next_member;
 use nodeset::test;
 use paths::End;
+use paths::index_table;
 use tables::layout::CELLS;
 use tables::layout::VALUES;
 use tables::reads::form_code;
@@ -39,6 +40,7 @@ ghost use Rattle.nodeset.specs.Words.{has, wordsOf, with};
 ghost use Rattle.model.specs.Shapes.{conforms};
 ghost use Rattle.tables.specs.Layout.{cellCount, nodeCount, formCount};
 ghost use Rattle.tables.specs.Decode.{graphAt, shapeAt};
+ghost use Rattle.tables.specs.WellFormed.{wellFormed};
 ghost use Rattle.entries.specs.Tables.{Tables};
 ghost use Rattle.verdict.specs.Answers.{decisionOf, judgedOn, judged, isGiven, tallied};
 ghost use Rattle.verdict.specs.Memo.{yesPlace, noPlace, Ready, Settled};
@@ -121,20 +123,27 @@ fn second_part(cells: &[u16], e: usize) -> usize
 }
 
 // Where the verdicts on entry e at these nodes look at its parts.
-fn asked(cells: &[u16], e: usize, nodes: NodeSet) -> NodeSet
-    requires { ⌜ Tables (now cells) × (e < formCount (now cells)) ⌝ }
+fn asked(cells: &[u16], index: &[u16], e: usize, nodes: NodeSet) -> NodeSet
+    requires { ⌜ Tables (now cells) (now index) × (e < formCount (now cells)) ⌝ }
     ensures { λ r. ⌜ ((v w : ℕ) → v < nodeCount (now (cells .entry)) → w < nodeCount (now (cells .entry)) → has (nodes .words) v ≡ true → looksAt (now (cells .entry)) e v w ≡ true → has (r .words) w ≡ true) ⌝ }
 {
     if looks_at_ends(cells, e) {
         let words = nodes.words;
-        return ends_from(cells, End::Path(wide(form_first(cells, e))), &words);
+        return ends_from(cells, index, End::Path(wide(form_first(cells, e))), &words);
     }
     nodes
 }
 
 // Node v conforms to entry e; what is known of the parts is enough to tell.
-fn entry_holds(memo: &[u64], cells: &[u16], values: &[i64], e: usize, v: usize) -> bool
-    requires { ⌜ Enough (now cells) (now values) (now memo) e v ⌝ }
+fn entry_holds(
+    memo: &[u64],
+    cells: &[u16],
+    index: &[u16],
+    values: &[i64],
+    e: usize,
+    v: usize,
+) -> bool
+    requires { ⌜ Enough (now cells) (now index) (now values) (now memo) e v ⌝ }
     ensures { λ r. ⌜ r ≡ conforms (graphAt (now (cells .entry)) (now (values .entry))) (shapeAt (now (cells .entry)) (now (values .entry)) e) v ⌝ }
 {
     let a = first_part(cells, e);
@@ -152,30 +161,30 @@ fn entry_holds(memo: &[u64], cells: &[u16], values: &[i64], e: usize, v: usize) 
         13 => {
             let part = row(memo, 32 * a);
             let words = part.words;
-            count_holds(cells, e, v, &words)
+            count_holds(cells, index, e, v, &words)
         }
         14 => {
             let part = row(memo, 32 * a);
             let words = part.words;
-            all_holds(cells, e, v, &words)
+            all_holds(cells, index, e, v, &words)
         }
         17 => closed_holds(cells, e, v),
-        20 => lang_holds(cells, values, e, v),
+        20 => lang_holds(cells, index, values, e, v),
         6..=12 => test_holds(cells, values, e, v),
-        _ => sets_hold(cells, values, e, v),
+        _ => sets_hold(cells, index, values, e, v),
     }
 }
 
 // Entry e is decided at each of the nodes.
-fn fill(memo: &mut [u64], e: usize, nodes: NodeSet, cells: &[u16], values: &[i64])
-    requires { ⌜ Ready (now cells) (now values) (now memo) e × ((v : ℕ) → v < nodeCount (now cells) → has (nodes .words) v ≡ true → PartsKnown (now cells) e (now memo) v) ⌝ }
+fn fill(memo: &mut [u64], e: usize, nodes: NodeSet, cells: &[u16], index: &[u16], values: &[i64])
+    requires { ⌜ Ready (now cells) (now index) (now values) (now memo) e × ((v : ℕ) → v < nodeCount (now cells) → has (nodes .words) v ≡ true → PartsKnown (now cells) e (now memo) v) ⌝ }
     ensures { λ _. ⌜ Settled (now (cells .entry)) (now (values .entry)) (now (memo .entry)) (now (memo .exit)) e (nodes .words) ⌝ }
 {
     let words = nodes.words;
     let n = node_count(cells);
     let mut v = next_member(&words, 0, n);
     while v < n {
-        let yes = entry_holds(memo, cells, values, e, v);
+        let yes = entry_holds(memo, cells, index, values, e, v);
         remember(memo, e, v, yes);
         v = next_member(&words, v + 1, n);
     }
@@ -190,8 +199,8 @@ fn none_below(set: NodeSet, n: usize) -> bool
 }
 
 // It becomes known of each node of want whether it conforms to entry e.
-fn settle(memo: &mut [u64], e: usize, want: NodeSet, cells: &[u16], values: &[i64])
-    requires { ⌜ Ready (now cells) (now values) (now memo) e ⌝ }
+fn settle(memo: &mut [u64], e: usize, want: NodeSet, cells: &[u16], index: &[u16], values: &[i64])
+    requires { ⌜ Ready (now cells) (now index) (now values) (now memo) e ⌝ }
     ensures { λ _. ⌜ Settled (now (cells .entry)) (now (values .entry)) (now (memo .entry)) (now (memo .exit)) e (want .words) ⌝ }
 {
     let nodes = unsettled(memo, e, want);
@@ -199,24 +208,27 @@ fn settle(memo: &mut [u64], e: usize, want: NodeSet, cells: &[u16], values: &[i6
         return;
     }
     if has_parts(cells, e) {
-        let looked = asked(cells, e, nodes);
-        settle(memo, first_part(cells, e), looked, cells, values);
-        settle(memo, second_part(cells, e), looked, cells, values);
-        fill(memo, e, nodes, cells, values);
+        let looked = asked(cells, index, e, nodes);
+        settle(memo, first_part(cells, e), looked, cells, index, values);
+        settle(memo, second_part(cells, e), looked, cells, index, values);
+        fill(memo, e, nodes, cells, index, values);
         return;
     }
-    fill(memo, e, nodes, cells, values);
+    fill(memo, e, nodes, cells, index, values);
 }
 
 // Node v conforms to entry e.
 fn conforming(cells: &[u16], values: &[i64], e: usize, v: usize) -> bool
-    requires { ⌜ Tables (now cells) × (e < formCount (now cells)) × (v < nodeCount (now cells)) ⌝ }
+    requires { ⌜ (cellCount ≤ length (now cells)) × (wellFormed (now cells) ≡ true) × (e < formCount (now cells)) × (v < nodeCount (now cells)) ⌝ }
     ensures { λ r. ⌜ r ≡ conforms (graphAt (now (cells .entry)) (now (values .entry))) (shapeAt (now (cells .entry)) (now (values .entry)) e) v ⌝ }
 {
+    // the chains of the facts, made once
+    let mut index = [0u16; 4352];
+    index_table(&mut index, cells);
     // 32 words for each of 112 entries
     let mut memo = [0u64; 3584];
     let nobody = NodeSet::EMPTY;
-    settle(&mut memo, e, nobody.with(v), cells, values);
+    settle(&mut memo, e, nobody.with(v), cells, &index, values);
     known(&memo, e, v)
 }
 

@@ -37,7 +37,7 @@ conforming-requires c κs =
     let cs = a .cells .now in
     let w = (sym (c .before .before .before .before .before .well-formed .ensures) ∙ not-false (c .before .before .before .before .before .well-formed .result) (c .before .before .if1 .left)) in
     let l = places-there (a .cells .now) (a .values .now) (a .node) (a .shape) w (λ i. ltb (a .node) (sym (c .before .before .before .before .node-count .ensures) i) && ltb (a .shape) (sym (c .before .before .before .shape-count .ensures) i)) (not-false _ (c .before .if2 .left)) in
-    (record { room = c .before .before .before .before .before .before .before .pre; ok = w }, subst (λ (e : ℕ). e < formCount cs) (sym (c .root .ensures)) (sound cs w .root (a .shape) (l .1)), l .0)
+    (c .before .before .before .before .before .before .before .pre, w, subst (λ (e : ℕ). e < formCount cs) (sym (c .root .ensures)) (sound cs w .root (a .shape) (l .1)), l .0)
 
 returns-3 : tie.Need-returns-3
 returns-3 c =

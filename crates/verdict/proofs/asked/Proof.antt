@@ -29,22 +29,22 @@ slice-aggregate-ends-from c = search needs
 ends-from-requires : tie.Need-ends-from-requires
 unfolding endOk
 ends-from-requires c κs =
-    let a = c .before .before .before .before .before .before .before .args in
+    let a = c .before .before .before .before .before .before .before .before .args in
     let cs = a .cells .now in
-    let t = c .before .before .before .before .before .before .before .pre in
+    let t = c .before .before .before .before .before .before .before .before .pre in
     (t .0, ap (λ (i : ℕ). ltb i (pathCount cs)) (c .before .wide .ensures ∙ c .before .before .form-first .ensures) ∙ lt-ltb (formFirstAt cs (a .e)) (pathCount cs) (looks-path cs (a .e) (t .0) (t .1) (sym (c .before .before .before .before .before .looks-at-ends .ensures) ∙ c .before .before .before .before .if1 .taken)))
 
 returns : tie.Need-returns
 unfolding endIn endsOf
 returns c =
-    let a = c .before .before .before .before .before .before .before .before .args in
+    let a = c .before .before .before .before .before .before .before .before .before .args in
     let cs = a .cells .now in
-    let t = c .before .before .before .before .before .before .before .before .pre in
+    let t = c .before .before .before .before .before .before .before .before .before .pre in
     asked-ends cs (a .e) (t .0) (t .1) (a .nodes .words) (c .ends-from .result .words) (sym (c .before .before .before .before .before .before .looks-at-ends .ensures) ∙ c .before .before .before .before .before .if1 .taken)
     (c .ends-from .ensures ∙ ap (λ (i : ℕ). wordsOf (image (nodeCount cs) (ends (nodeCount cs) (triplesAt cs) (pathAt cs i)) (has (a .nodes .words))) 16) (c .before .before .wide .ensures ∙ c .before .before .before .form-first .ensures))
 
 returns-2 : tie.Need-returns-2
-returns-2 c = let a = c .before .before .before .args in asked-here (a .cells .now) (a .e) (a .nodes .words) (sym (c .before .looks-at-ends .ensures) ∙ c .if1 .left)
+returns-2 c = let a = c .before .before .before .before .args in asked-here (a .cells .now) (a .e) (a .nodes .words) (sym (c .before .looks-at-ends .ensures) ∙ c .if1 .left)
 
 pub asked-spec : {M : Type 1} → statement M
 asked-spec =

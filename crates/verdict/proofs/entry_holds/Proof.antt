@@ -26,57 +26,57 @@ wide-requires : tie.Need-wide-requires
 wide-requires c κs = search needs
 
 known-requires : tie.Need-known-requires
-known-requires c κs = (first-lt (c .before .before .before .before .before .before .pre) (c .before .before .before .first-part .result) (c .before .before .before .first-part .ensures) (parts-by (c .before .before .before .before .before .before .args .cells .now) (c .before .before .before .before .before .before .args .e) 2 (sym (c .before .form-code .ensures) ∙ c .match .keys3)), node-lt (c .before .before .before .before .before .before .pre))
+known-requires c κs = (first-lt (c .before .before .before .before .before .before .before .pre) (c .before .before .before .first-part .result) (c .before .before .before .first-part .ensures) (parts-by (c .before .before .before .before .before .before .before .args .cells .now) (c .before .before .before .before .before .before .before .args .e) 2 (sym (c .before .form-code .ensures) ∙ c .match .keys3)), node-lt (c .before .before .before .before .before .before .before .pre))
 
 known-requires-2 : tie.Need-known-requires-2
-known-requires-2 c κs = (first-lt (c .before .before .before .before .before .before .pre) (c .before .before .before .first-part .result) (c .before .before .before .first-part .ensures) (parts-by (c .before .before .before .before .before .before .args .cells .now) (c .before .before .before .before .before .before .args .e) 3 (sym (c .before .form-code .ensures) ∙ c .match .keys4)), node-lt (c .before .before .before .before .before .before .pre))
+known-requires-2 c κs = (first-lt (c .before .before .before .before .before .before .before .pre) (c .before .before .before .first-part .result) (c .before .before .before .first-part .ensures) (parts-by (c .before .before .before .before .before .before .before .args .cells .now) (c .before .before .before .before .before .before .before .args .e) 3 (sym (c .before .form-code .ensures) ∙ c .match .keys4)), node-lt (c .before .before .before .before .before .before .before .pre))
 
 known-requires-3 : tie.Need-known-requires-3
-known-requires-3 c κs = (second-lt (c .before .before .before .before .before .before .before .pre) (c .before .before .before .second-part .result) (c .before .before .before .second-part .ensures) (parts-by (c .before .before .before .before .before .before .before .args .cells .now) (c .before .before .before .before .before .before .before .args .e) 3 (sym (c .before .before .form-code .ensures) ∙ c .before .match .keys4)), node-lt (c .before .before .before .before .before .before .before .pre))
+known-requires-3 c κs = (second-lt (c .before .before .before .before .before .before .before .before .pre) (c .before .before .before .second-part .result) (c .before .before .before .second-part .ensures) (parts-by (c .before .before .before .before .before .before .before .before .args .cells .now) (c .before .before .before .before .before .before .before .before .args .e) 3 (sym (c .before .before .form-code .ensures) ∙ c .before .match .keys4)), node-lt (c .before .before .before .before .before .before .before .before .pre))
 
 known-requires-4 : tie.Need-known-requires-4
-known-requires-4 c κs = (first-lt (c .before .before .before .before .before .before .pre) (c .before .before .before .first-part .result) (c .before .before .before .first-part .ensures) (parts-by (c .before .before .before .before .before .before .args .cells .now) (c .before .before .before .before .before .before .args .e) 4 (sym (c .before .form-code .ensures) ∙ c .match .keys5)), node-lt (c .before .before .before .before .before .before .pre))
+known-requires-4 c κs = (first-lt (c .before .before .before .before .before .before .before .pre) (c .before .before .before .first-part .result) (c .before .before .before .first-part .ensures) (parts-by (c .before .before .before .before .before .before .before .args .cells .now) (c .before .before .before .before .before .before .before .args .e) 4 (sym (c .before .form-code .ensures) ∙ c .match .keys5)), node-lt (c .before .before .before .before .before .before .before .pre))
 
 known-requires-5 : tie.Need-known-requires-5
-known-requires-5 c κs = (second-lt (c .before .before .before .before .before .before .before .pre) (c .before .before .before .second-part .result) (c .before .before .before .second-part .ensures) (parts-by (c .before .before .before .before .before .before .before .args .cells .now) (c .before .before .before .before .before .before .before .args .e) 4 (sym (c .before .before .form-code .ensures) ∙ c .before .match .keys5)), node-lt (c .before .before .before .before .before .before .before .pre))
+known-requires-5 c κs = (second-lt (c .before .before .before .before .before .before .before .before .pre) (c .before .before .before .second-part .result) (c .before .before .before .second-part .ensures) (parts-by (c .before .before .before .before .before .before .before .before .args .cells .now) (c .before .before .before .before .before .before .before .before .args .e) 4 (sym (c .before .before .form-code .ensures) ∙ c .before .match .keys5)), node-lt (c .before .before .before .before .before .before .before .before .pre))
 
 known-requires-6 : tie.Need-known-requires-6
-known-requires-6 c κs = (first-lt (c .before .before .before .before .before .before .pre) (c .before .before .before .first-part .result) (c .before .before .before .first-part .ensures) (parts-by (c .before .before .before .before .before .before .args .cells .now) (c .before .before .before .before .before .before .args .e) 5 (sym (c .before .form-code .ensures) ∙ c .match .keys6)), node-lt (c .before .before .before .before .before .before .pre))
+known-requires-6 c κs = (first-lt (c .before .before .before .before .before .before .before .pre) (c .before .before .before .first-part .result) (c .before .before .before .first-part .ensures) (parts-by (c .before .before .before .before .before .before .before .args .cells .now) (c .before .before .before .before .before .before .before .args .e) 5 (sym (c .before .form-code .ensures) ∙ c .match .keys6)), node-lt (c .before .before .before .before .before .before .before .pre))
 
 mul-row : tie.Need-mul-row
-mul-row c = let l = first-lt (c .before .before .before .before .before .before .pre) (c .before .before .before .first-part .result) (c .before .before .before .first-part .ensures) (parts-by (c .before .before .before .before .before .before .args .cells .now) (c .before .before .before .before .before .before .args .e) 13 (sym (c .before .form-code .ensures) ∙ c .match .keys7)) in omega arith
+mul-row c = let l = first-lt (c .before .before .before .before .before .before .before .pre) (c .before .before .before .first-part .result) (c .before .before .before .first-part .ensures) (parts-by (c .before .before .before .before .before .before .before .args .cells .now) (c .before .before .before .before .before .before .before .args .e) 13 (sym (c .before .form-code .ensures) ∙ c .match .keys7)) in omega arith
 
 row-requires : tie.Need-row-requires
-row-requires c κs = let l = first-lt (c .before .before .before .before .before .before .pre) (c .before .before .before .first-part .result) (c .before .before .before .first-part .ensures) (parts-by (c .before .before .before .before .before .before .args .cells .now) (c .before .before .before .before .before .before .args .e) 13 (sym (c .before .form-code .ensures) ∙ c .match .keys7)) in omega (arith, c .before .before .before .before .before .before .pre .ready .size)
+row-requires c κs = let l = first-lt (c .before .before .before .before .before .before .before .pre) (c .before .before .before .first-part .result) (c .before .before .before .first-part .ensures) (parts-by (c .before .before .before .before .before .before .before .args .cells .now) (c .before .before .before .before .before .before .before .args .e) 13 (sym (c .before .form-code .ensures) ∙ c .match .keys7)) in omega (arith, c .before .before .before .before .before .before .before .pre .ready .size)
 
 slice-aggregate-count-holds : tie.Need-slice-aggregate-count-holds
 slice-aggregate-count-holds c = search needs
 
 count-holds-requires : tie.Need-count-holds-requires
-count-holds-requires c κs = (asked-of (c .before .before .before .before .before .before .before .before .before .pre), (sym (c .before .before .before .before .form-code .ensures) ∙ c .before .before .before .match .keys7), row-low (c .before .before .before .before .before .before .before .before .before .pre) (c .before .before .before .before .before .before .first-part .result) (c .before .before .before .before .before .before .first-part .ensures) (c .before .before .row .ensures))
+count-holds-requires c κs = (asked-of (c .before .before .before .before .before .before .before .before .before .before .pre), (sym (c .before .before .before .before .form-code .ensures) ∙ c .before .before .before .match .keys7), row-low (c .before .before .before .before .before .before .before .before .before .before .pre) (c .before .before .before .before .before .before .first-part .result) (c .before .before .before .before .before .before .first-part .ensures) (c .before .before .row .ensures))
 
 mul-row-2 : tie.Need-mul-row-2
-mul-row-2 c = let l = first-lt (c .before .before .before .before .before .before .pre) (c .before .before .before .first-part .result) (c .before .before .before .first-part .ensures) (parts-by (c .before .before .before .before .before .before .args .cells .now) (c .before .before .before .before .before .before .args .e) 14 (sym (c .before .form-code .ensures) ∙ c .match .keys8)) in omega arith
+mul-row-2 c = let l = first-lt (c .before .before .before .before .before .before .before .pre) (c .before .before .before .first-part .result) (c .before .before .before .first-part .ensures) (parts-by (c .before .before .before .before .before .before .before .args .cells .now) (c .before .before .before .before .before .before .before .args .e) 14 (sym (c .before .form-code .ensures) ∙ c .match .keys8)) in omega arith
 
 row-requires-2 : tie.Need-row-requires-2
-row-requires-2 c κs = let l = first-lt (c .before .before .before .before .before .before .pre) (c .before .before .before .first-part .result) (c .before .before .before .first-part .ensures) (parts-by (c .before .before .before .before .before .before .args .cells .now) (c .before .before .before .before .before .before .args .e) 14 (sym (c .before .form-code .ensures) ∙ c .match .keys8)) in omega (arith, c .before .before .before .before .before .before .pre .ready .size)
+row-requires-2 c κs = let l = first-lt (c .before .before .before .before .before .before .before .pre) (c .before .before .before .first-part .result) (c .before .before .before .first-part .ensures) (parts-by (c .before .before .before .before .before .before .before .args .cells .now) (c .before .before .before .before .before .before .before .args .e) 14 (sym (c .before .form-code .ensures) ∙ c .match .keys8)) in omega (arith, c .before .before .before .before .before .before .before .pre .ready .size)
 
 slice-aggregate-all-holds : tie.Need-slice-aggregate-all-holds
 slice-aggregate-all-holds c = search needs
 
 all-holds-requires : tie.Need-all-holds-requires
-all-holds-requires c κs = (asked-of (c .before .before .before .before .before .before .before .before .before .pre), (sym (c .before .before .before .before .form-code .ensures) ∙ c .before .before .before .match .keys8))
+all-holds-requires c κs = (asked-of (c .before .before .before .before .before .before .before .before .before .before .pre), (sym (c .before .before .before .before .form-code .ensures) ∙ c .before .before .before .match .keys8))
 
 closed-holds-requires : tie.Need-closed-holds-requires
 closed-holds-requires c κs = search needs
 
 lang-holds-requires : tie.Need-lang-holds-requires
-lang-holds-requires c κs = (asked-of (c .before .before .before .before .before .before .pre), (sym (c .before .form-code .ensures) ∙ c .match .keys10))
+lang-holds-requires c κs = (asked-of (c .before .before .before .before .before .before .before .pre), (sym (c .before .form-code .ensures) ∙ c .match .keys10))
 
 test-holds-requires : tie.Need-test-holds-requires
 test-holds-requires c κs =
     let k : 6 ≤ c .before .before .form-code .result = past (c .before .before .form-code .result) 0 6 zero-le (c .before .match .rest .0 .0 .0 .0) in
-    (c .before .before .before .before .before .before .before .pre .node, omega (arith, c .before .before .form-code .ensures), omega (arith, c .if1 .taken, c .before .before .form-code .ensures))
+    (c .before .before .before .before .before .before .before .before .pre .node, omega (arith, c .before .before .form-code .ensures), omega (arith, c .if1 .taken, c .before .before .form-code .ensures))
 
 sets-hold-requires : tie.Need-sets-hold-requires
 sets-hold-requires c κs =
@@ -86,34 +86,34 @@ sets-hold-requires c κs =
     let n14 : k ≡ 14 → ⊥ = c .before .match .rest .0 .0 .1 in
     let n17 : k ≡ 17 → ⊥ = c .before .match .rest .0 .1 in
     let n20 : k ≡ 20 → ⊥ = c .before .match .rest .1 in
-    (asked-of (c .before .before .before .before .before .before .before .pre), omega (arith, c .if1 .left, q), omega (arith, code-le (c .before .before .before .before .before .before .before .pre), q), λ h. n17 (q ∙ h))
+    (asked-of (c .before .before .before .before .before .before .before .before .pre), omega (arith, c .if1 .left, q), omega (arith, code-le (c .before .before .before .before .before .before .before .before .pre), q), λ h. n17 (q ∙ h))
 
 returns : tie.Need-returns
-returns c = holds-top (c .before .before .before .before .before .before .pre) (sym (c .before .form-code .ensures) ∙ c .match .keys1)
+returns c = holds-top (c .before .before .before .before .before .before .before .pre) (sym (c .before .form-code .ensures) ∙ c .match .keys1)
 
 returns-2 : tie.Need-returns-2
-returns-2 c = holds-is (c .before .before .before .before .before .before .before .before .pre) (sym (c .before .before .before .form-code .ensures) ∙ c .before .before .match .keys2) (c .wide .result) (c .wide .ensures ∙ c .before .form-node .ensures)
+returns-2 c = holds-is (c .before .before .before .before .before .before .before .before .before .pre) (sym (c .before .before .before .form-code .ensures) ∙ c .before .before .match .keys2) (c .wide .result) (c .wide .ensures ∙ c .before .form-node .ensures)
 
 returns-3 : tie.Need-returns-3
-returns-3 c = c .known .ensures ∙ holds-shape (c .before .before .before .before .before .before .before .pre) (c .before .before .before .before .first-part .result) (c .before .before .before .before .first-part .ensures) (sym (c .before .before .form-code .ensures) ∙ c .before .match .keys3)
+returns-3 c = c .known .ensures ∙ holds-shape (c .before .before .before .before .before .before .before .before .pre) (c .before .before .before .before .first-part .result) (c .before .before .before .before .first-part .ensures) (sym (c .before .before .form-code .ensures) ∙ c .before .match .keys3)
 
 returns-4 : tie.Need-returns-4
-returns-4 c = ap₂ (λ (s t : Bool). s && t) (c .before .known2 .ensures) (c .known3 .ensures) ∙ holds-and (c .before .before .before .before .before .before .before .before .pre) (c .before .before .before .before .before .first-part .result) (c .before .before .before .before .before .first-part .ensures) (c .before .before .before .before .second-part .result) (c .before .before .before .before .second-part .ensures) (sym (c .before .before .before .form-code .ensures) ∙ c .before .before .match .keys4)
+returns-4 c = ap₂ (λ (s t : Bool). s && t) (c .before .known2 .ensures) (c .known3 .ensures) ∙ holds-and (c .before .before .before .before .before .before .before .before .before .pre) (c .before .before .before .before .before .first-part .result) (c .before .before .before .before .before .first-part .ensures) (c .before .before .before .before .second-part .result) (c .before .before .before .before .second-part .ensures) (sym (c .before .before .before .form-code .ensures) ∙ c .before .before .match .keys4)
 
 returns-5 : tie.Need-returns-5
-returns-5 c = ap₂ (λ (s t : Bool). s || t) (c .before .known4 .ensures) (c .known5 .ensures) ∙ holds-or (c .before .before .before .before .before .before .before .before .pre) (c .before .before .before .before .before .first-part .result) (c .before .before .before .before .before .first-part .ensures) (c .before .before .before .before .second-part .result) (c .before .before .before .before .second-part .ensures) (sym (c .before .before .before .form-code .ensures) ∙ c .before .before .match .keys5)
+returns-5 c = ap₂ (λ (s t : Bool). s || t) (c .before .known4 .ensures) (c .known5 .ensures) ∙ holds-or (c .before .before .before .before .before .before .before .before .before .pre) (c .before .before .before .before .before .first-part .result) (c .before .before .before .before .before .first-part .ensures) (c .before .before .before .before .second-part .result) (c .before .before .before .before .second-part .ensures) (sym (c .before .before .before .form-code .ensures) ∙ c .before .before .match .keys5)
 
 returns-6 : tie.Need-returns-6
-returns-6 c = ap not (c .known6 .ensures) ∙ holds-not (c .before .before .before .before .before .before .before .pre) (c .before .before .before .before .first-part .result) (c .before .before .before .before .first-part .ensures) (sym (c .before .before .form-code .ensures) ∙ c .before .match .keys6)
+returns-6 c = ap not (c .known6 .ensures) ∙ holds-not (c .before .before .before .before .before .before .before .before .pre) (c .before .before .before .before .first-part .result) (c .before .before .before .before .first-part .ensures) (sym (c .before .before .form-code .ensures) ∙ c .before .match .keys6)
 
 returns-7 : tie.Need-returns-7
-returns-7 c = c .count-holds .ensures ∙ holds-count (c .before .before .before .before .before .before .before .before .before .before .pre) (c .before .before .before .before .before .before .before .first-part .result) (c .before .before .before .before .before .before .before .first-part .ensures) (c .before .before .before .row .ensures) (sym (c .before .before .before .before .before .form-code .ensures) ∙ c .before .before .before .before .match .keys7)
+returns-7 c = c .count-holds .ensures ∙ holds-count (c .before .before .before .before .before .before .before .before .before .before .before .pre) (c .before .before .before .before .before .before .before .first-part .result) (c .before .before .before .before .before .before .before .first-part .ensures) (c .before .before .before .row .ensures) (sym (c .before .before .before .before .before .form-code .ensures) ∙ c .before .before .before .before .match .keys7)
 
 returns-8 : tie.Need-returns-8
-returns-8 c = c .all-holds .ensures ∙ holds-all (c .before .before .before .before .before .before .before .before .before .before .pre) (c .before .before .before .before .before .before .before .first-part .result) (c .before .before .before .before .before .before .before .first-part .ensures) (c .before .before .before .row2 .ensures) (sym (c .before .before .before .before .before .form-code .ensures) ∙ c .before .before .before .before .match .keys8)
+returns-8 c = c .all-holds .ensures ∙ holds-all (c .before .before .before .before .before .before .before .before .before .before .before .pre) (c .before .before .before .before .before .before .before .first-part .result) (c .before .before .before .before .before .before .before .first-part .ensures) (c .before .before .before .row2 .ensures) (sym (c .before .before .before .before .before .form-code .ensures) ∙ c .before .before .before .before .match .keys8)
 
 returns-9 : tie.Need-returns-9
-returns-9 c = c .closed-holds .ensures ∙ holds-closed (c .before .before .before .before .before .before .before .pre) (sym (c .before .before .form-code .ensures) ∙ c .before .match .keys9)
+returns-9 c = c .closed-holds .ensures ∙ holds-closed (c .before .before .before .before .before .before .before .before .pre) (sym (c .before .before .form-code .ensures) ∙ c .before .match .keys9)
 
 returns-10 : tie.Need-returns-10
 returns-10 c = c .lang-holds .ensures
