@@ -1,20 +1,17 @@
 -- The column of the targets, a column stored into the rows, and the column that a path leads back to.
-use Prim.Native.Nat.{ℕ, _+_, _*_, _/_, _%_, _≤_, _<_}
+use Prim.Native.Nat.{ℕ, _+_, _*_, _/_, _%_, _^_, _≤_, _<_}
 use mathlib.Core.Bool.{Bool, true, false, cond, _&&_, _||_, and-false, and-or-distrib-right}
 use mathlib.Core.List.{List}
 use mathlib.Core.Path.{_≡_, refl, sym, ap, ap₂, _∙_}
 use native.Mathlib.Omega.{arith}
 use lib.Dec.{eqb, ltb}
-use lib.ListN.{length, getD, set, replicate, length-set}
-use lib.Seq.{ext-getD, getD-set-same, getD-set-other}
-use borrow.Author.Tests.{eq-eqb, ne-eqb, eqb-true, eqb-false, lt-ltb, le-ltb, ltb-true, ltb-false}
+use lib.ListN.{length, getD, set, replicate}
+use borrow.Author.Tests.{eq-eqb, ne-eqb, eqb-true, lt-ltb, le-ltb, ltb-true, ltb-false}
 use Rattle.base.specs.Bounded.{some}
-use Rattle.base.specs.Lists.{values}
 use Rattle.base.proofs.Bools.{and-left, and-right, and-both, same-test}
 use Rattle.base.proofs.Bounded.{some-ext, some-none, some-eq}
-use Rattle.base.proofs.Lists.{length-valuesFrom, at-values}
-use Rattle.nodeset.specs.Words.{has, wordsOf, with}
-use Rattle.nodeset.proofs.Sets.{wordsOf-ext, has-of, has-zeros, zeros, with-step, ltb-more}
+use Rattle.nodeset.specs.Words.{bit, has, wordsOf, with}
+use Rattle.nodeset.proofs.Sets.{has-at, own, wordsOf-ext, has-of, has-zeros, zeros, set-words, with-step, ltb-more}
 use Rattle.paths.specs.Images.{converseIf, image, withImages}
 use Rattle.paths.proofs.Joins.{eqb-comm}
 use Rattle.rows.specs.Rows.{between, columnOf, identityColumn, withColumn}
@@ -39,50 +36,31 @@ pub targets-all : {ws : List ℕ} (j i : ℕ) → i ≡ 64 → ws ≡ wordsOf (t
 unfolding identityColumn
 targets-all j i q e = e ∙ wordsOf-ext (targets j i) (λ x. eqb (x / 64) (64 * j + x % 64)) 1024 (λ x l. ap (λ (b : Bool). b && eqb (x / 64) (64 * j + x % 64)) (lt-ltb (x % 64) i (omega arith)))
 
--- ---- values, one of them replaced
-pub set-values : (f g : ℕ → ℕ) (n k x : ℕ) → g k ≡ x → ((i : ℕ) → (i ≡ k → ⊥) → f i ≡ g i) → set (values f n) k x ≡ values g n
-set-values f g n k x h o = ext-getD 0 (set (values f n) k x) (values g n) (length-set (values f n) k x ∙ length-valuesFrom f 0 n ∙ sym (length-valuesFrom g 0 n)) λ i l.
-    let l′ : i < n = omega (arith, l, length-set (values f n) k x, length-valuesFrom f 0 n) in
-    go i l′ (eqb i k) refl ∙ sym (at-values g n i 0 l′)
-  where
-    go : (i : ℕ) → i < n → (b : Bool) → eqb i k ≡ b → getD (set (values f n) k x) i 0 ≡ g i
-    go i l true e =
-        let q : i ≡ k = eqb-true i k e in
-        ap (λ (y : ℕ). getD (set (values f n) k x) y 0) q ∙ getD-set-same (values f n) k x 0 (omega (arith, length-valuesFrom f 0 n)) ∙ sym h ∙ ap g (sym q)
-    go i l false e = getD-set-other (values f n) k i x 0 (eqb-false i k e) ∙ at-values f n i 0 l ∙ o i (eqb-false i k e)
-
--- a list as the values at its places
-pub own-values : (ws : List ℕ) (g : ℕ → ℕ) → ((i : ℕ) → getD ws i 0 ≡ g i) → ws ≡ values g (length ws)
-own-values ws g h = ext-getD 0 ws (values g (length ws)) (sym (length-valuesFrom g 0 (length ws))) (λ i l. h i ∙ sym (at-values g (length ws) i 0 l))
-
 -- ---- a column stored: word j of the rows below v is that of the column m
-abbrev pub stored : List ℕ → ℕ → List ℕ → ℕ → ℕ → ℕ
-stored rows j m v i = cond (eqb (i % 16) j && ltb (i / 16) v) (getD m (i / 16) 0) (getD rows i 0)
+abbrev pub stored : List ℕ → ℕ → List ℕ → ℕ → ℕ → Bool
+stored rows j m v x = cond (eqb (x / 64 % 16) j && ltb (x / 1024) v) (has m (x / 1024 * 64 + x % 64)) (has rows x)
 
 module _ (rows : List ℕ) (j : ℕ) (m : List ℕ) where
-  pub stored-none : rows ≡ values (stored rows j m 0) (length rows)
-  stored-none = own-values rows (stored rows j m 0) (λ i. ap (λ (b : Bool). cond b (getD m (i / 16) 0) (getD rows i 0)) (sym (ap (λ (b : Bool). eqb (i % 16) j && b) (le-ltb (i / 16) 0 (omega arith)) ∙ and-false (eqb (i % 16) j))))
+  pub stored-none : ((i : ℕ) → getD rows i 0 < 2 ^ 64) → rows ≡ wordsOf (stored rows j m 0) (length rows)
+  stored-none small = own rows small ∙ wordsOf-ext (has rows) (stored rows j m 0) (length rows) (λ x l. ap (λ (b : Bool). cond b (has m (x / 1024 * 64 + x % 64)) (has rows x)) (sym (ap (λ (b : Bool). eqb (x / 64 % 16) j && b) (le-ltb (x / 1024) 0 (omega arith)) ∙ and-false (eqb (x / 64 % 16) j))))
 
-  pub stored-more : {ws : List ℕ} (v : ℕ) → j < 16 → ws ≡ values (stored rows j m v) (length rows) → set ws (16 * v + j) (getD m v 0) ≡ values (stored rows j m (v + 1)) (length rows)
-  stored-more v l e =
-      ap (λ (ws : List ℕ). set ws (16 * v + j) (getD m v 0)) e
-      ∙ set-values (stored rows j m v) (stored rows j m (v + 1)) (length rows) (16 * v + j) (getD m v 0) here (λ i ne. ap (λ (b : Bool). cond b (getD m (i / 16) 0) (getD rows i 0)) (other i ne (eqb (i % 16) j) refl))
+  pub stored-more : {ws : List ℕ} (v : ℕ) → j < 16 → getD m v 0 < 2 ^ 64 → ws ≡ wordsOf (stored rows j m v) (length rows) → set ws (16 * v + j) (getD m v 0) ≡ wordsOf (stored rows j m (v + 1)) (length rows)
+  stored-more v l small e = set-words (stored rows j m v) (stored rows j m (v + 1)) (length rows) (16 * v + j) (getD m v 0) e small here (λ x lx ne. ap (λ (b : Bool). cond b (has m (x / 1024 * 64 + x % 64)) (has rows x)) (other x ne (eqb (x / 64 % 16) j) refl))
     where
-      here : stored rows j m (v + 1) (16 * v + j) ≡ getD m v 0
-      here =
-          let q : (16 * v + j) % 16 ≡ j = omega arith in
-          let r : (16 * v + j) / 16 ≡ v = omega arith in
-          ap (λ (b : Bool). cond b (getD m ((16 * v + j) / 16) 0) (getD rows (16 * v + j) 0)) (and-both (eqb ((16 * v + j) % 16) j) (ltb ((16 * v + j) / 16) (v + 1)) (eq-eqb ((16 * v + j) % 16) j q) (lt-ltb ((16 * v + j) / 16) (v + 1) (omega arith))) ∙ ap (λ (y : ℕ). getD m y 0) r
+      here : (x : ℕ) → x < 64 * length rows → x / 64 ≡ 16 * v + j → bit (getD m v 0) (x % 64) ≡ stored rows j m (v + 1) x
+      here x lx q =
+          let r : x / 1024 ≡ v = omega arith in
+          sym (ap (λ (b : Bool). cond b (has m (x / 1024 * 64 + x % 64)) (has rows x)) (and-both (eqb (x / 64 % 16) j) (ltb (x / 1024) (v + 1)) (eq-eqb (x / 64 % 16) j (omega arith)) (lt-ltb (x / 1024) (v + 1) (omega arith))) ∙ ap (λ (y : ℕ). has m (y * 64 + x % 64)) r ∙ has-at m v (x % 64) (omega arith))
 
-      other : (i : ℕ) → (i ≡ 16 * v + j → ⊥) → (b : Bool) → eqb (i % 16) j ≡ b → (b && ltb (i / 16) v) ≡ (b && ltb (i / 16) (v + 1))
-      other i ne false q = refl
-      other i ne true q = same-test (ltb (i / 16) v) (ltb (i / 16) (v + 1))
-          (λ h. let a : i / 16 < v = ltb-true (i / 16) v h in lt-ltb (i / 16) (v + 1) (omega arith))
-          (λ h. let a : i / 16 < v + 1 = ltb-true (i / 16) (v + 1) h in let c : i % 16 ≡ j = eqb-true (i % 16) j q in lt-ltb (i / 16) v (omega arith))
+      other : (x : ℕ) → (x / 64 ≡ 16 * v + j → ⊥) → (b : Bool) → eqb (x / 64 % 16) j ≡ b → (b && ltb (x / 1024) v) ≡ (b && ltb (x / 1024) (v + 1))
+      other x ne false q = refl
+      other x ne true q = same-test (ltb (x / 1024) v) (ltb (x / 1024) (v + 1))
+          (λ h. let a : x / 1024 < v = ltb-true (x / 1024) v h in lt-ltb (x / 1024) (v + 1) (omega arith))
+          (λ h. let a : x / 1024 < v + 1 = ltb-true (x / 1024) (v + 1) h in let c : x / 64 % 16 ≡ j = eqb-true (x / 64 % 16) j q in lt-ltb (x / 1024) v (omega arith))
 
-  pub stored-all : {ws : List ℕ} (v : ℕ) → v ≡ 1024 → ws ≡ values (stored rows j m v) (length rows) → ws ≡ withColumn rows j m
+  pub stored-all : {ws : List ℕ} (v n : ℕ) → v ≡ n → ws ≡ wordsOf (stored rows j m v) (length rows) → ws ≡ withColumn rows j m n
   unfolding withColumn
-  stored-all v q e = e ∙ ap (λ (v : ℕ). values (stored rows j m v) (length rows)) q
+  stored-all v n q e = e ∙ ap (λ (v : ℕ). wordsOf (stored rows j m v) (length rows)) q
 
 -- ---- from the targets back: each gives the column of those that lead to it
 pub column-of : (n : ℕ) (r : ℕ → ℕ → Bool) (j : ℕ) {t m : List ℕ} → n ≤ 1024 → ((v w : ℕ) → r v w ≡ true → w < n → v < n) → t ≡ identityColumn j → m ≡ withImages 64 n (converseIf true r) t (replicate 1024 0) → m ≡ columnOf n r j

@@ -1,72 +1,89 @@
 -- The passes one by one, all of them, and what a row has.
-use Prim.Native.Nat.{ℕ, _+_, _*_, _/_, _%_, _^_, _≤_, _<_}
-use mathlib.Core.Bool.{Bool, true, false, cond, _&&_, _||_}
+use Prim.Native.Nat.{ℕ, _+_, _*_, _/_, _%_, _≤_, _<_}
+use mathlib.Core.Bool.{Bool, true, false, cond, _&&_, and-false}
 use mathlib.Core.List.{List}
-use mathlib.Core.Path.{_≡_, refl, sym, ap, ap₂, _∙_, subst}
+use mathlib.Core.Path.{_≡_, refl, sym, ap, ap₂, _∙_}
 use native.Mathlib.Omega.{arith}
 use lib.Dec.{eqb, ltb}
-use lib.ListN.{length, getD, take, drop, length-drop}
-use lib.Seq.{ext-getD, getD-drop}
-use borrow.Author.Tests.{eqb-true, lt-ltb, le-ltb}
-use Rattle.base.specs.Lists.{values}
-use Rattle.base.proofs.Lists.{length-valuesFrom, at-values, values-ext}
+use lib.ListN.{length, drop, replicate}
+use borrow.Author.Tests.{eqb-true, eqb-false, lt-ltb, le-ltb, ltb-true, ltb-false}
 use Rattle.nodeset.specs.Words.{has, wordsOf}
-use Rattle.nodeset.proofs.Bits.{wordOf-ext}
-use Rattle.nodeset.proofs.Sets.{at-wordsOf, length-wordsOf, wordsOf-ext, has-of, has-drop, small-of, length-of, first-words, ltb-more}
-use Rattle.rows.specs.Rows.{between, rowsOf, columnOf, withColumn}
-use Rattle.rows.proofs.Columns.{own-values}
+use Rattle.nodeset.proofs.Sets.{length-wordsOf, wordsOf-ext, has-of, has-wordsOf, has-drop, length-of, zeros}
+use Rattle.rows.specs.Rows.{between, rowsOf, Within, columnOf, withColumn}
 
--- word i of the rows after the passes below j
-abbrev pub passed : ℕ → (ℕ → ℕ → Bool) → List ℕ → ℕ → ℕ → ℕ
-passed n r rows j i = cond (ltb (i % 16) j) (getD (columnOf n r (i % 16)) (i / 16) 0) (getD rows i 0)
+-- ---- rows
+pub rows-ext : (n : ℕ) (r q : ℕ → ℕ → Bool) (words : ℕ) → ((v w : ℕ) → w < n → r v w ≡ q v w) → rowsOf n r words ≡ rowsOf n q words
+unfolding rowsOf
+rows-ext n r q words h = wordsOf-ext (λ x. between n r (x / 1024) (x % 1024)) (λ x. between n q (x / 1024) (x % 1024)) words (λ x l. go (x / 1024) (x % 1024) (ltb (x % 1024) n) refl)
+  where
+    go : (v w : ℕ) (b : Bool) → ltb w n ≡ b → ((ltb v n && b) && r v w) ≡ ((ltb v n && b) && q v w)
+    go v w true e = ap (λ (c : Bool). (ltb v n && true) && c) (h v w (ltb-true w n e))
+    go v w false e = ap (λ (c : Bool). c && r v w) (and-false (ltb v n)) ∙ sym (ap (λ (c : Bool). c && q v w) (and-false (ltb v n)))
 
-module _ (n : ℕ) (r : ℕ → ℕ → Bool) (rows : List ℕ) where
-  pub passed-none : rows ≡ values (passed n r rows 0) (length rows)
-  passed-none = own-values rows (passed n r rows 0) (λ i. ap (λ (b : Bool). cond b (getD (columnOf n r (i % 16)) (i / 16) 0) (getD rows i 0)) (sym (le-ltb (i % 16) 0 (omega arith))))
+pub length-rows : (n : ℕ) (r : ℕ → ℕ → Bool) (words : ℕ) → length (rowsOf n r words) ≡ words
+unfolding rowsOf
+length-rows n r words = length-wordsOf (λ x. between n r (x / 1024) (x % 1024)) words
 
-  module _ (room : length rows ≡ 16384) {ws : List ℕ} (j : ℕ) (e : ws ≡ values (passed n r rows j) (length rows)) where
-    pub passed-more : withColumn ws j (columnOf n r j) ≡ values (passed n r rows (j + 1)) (length rows)
-    unfolding withColumn
-    passed-more =
-        ap (values (λ i. cond (eqb (i % 16) j && ltb (i / 16) 1024) (getD (columnOf n r j) (i / 16) 0) (getD ws i 0))) (ap length e ∙ length-valuesFrom (passed n r rows j) 0 (length rows))
-        ∙ values-ext (λ i. cond (eqb (i % 16) j && ltb (i / 16) 1024) (getD (columnOf n r j) (i / 16) 0) (getD ws i 0)) (passed n r rows (j + 1)) 0 (length rows) (λ i l. go i (omega arith) (eqb (i % 16) j) refl)
+-- nothing stands past the rows of a relation; nor past zeros
+pub within-rows : (n : ℕ) (r : ℕ → ℕ → Bool) (words : ℕ) {rows : List ℕ} → rows ≡ rowsOf n r words → Within n rows
+unfolding rowsOf
+within-rows n r words {rows} e =
+    e ∙ wordsOf-ext (λ x. between n r (x / 1024) (x % 1024)) (λ x. between n (λ v w. has rows (1024 * v + w)) (x / 1024) (x % 1024)) words (λ x l.
+    twice (ltb (x / 1024) n && ltb (x % 1024) n) (r (x / 1024) (x % 1024))
+    ∙ ap (λ (b : Bool). (ltb (x / 1024) n && ltb (x % 1024) n) && b) (sym (has-of (λ x. between n r (x / 1024) (x % 1024)) words e x l) ∙ ap (has rows) (let z : x ≡ 1024 * (x / 1024) + x % 1024 = omega arith in z)))
+    ∙ ap (rowsOf n (λ v w. has rows (1024 * v + w))) (sym (ap length e ∙ length-rows n r words))
+  where
+    twice : (a b : Bool) → (a && b) ≡ (a && (a && b))
+    twice true b = refl
+    twice false b = refl
+
+pub within-zeros : (n words : ℕ) {rows : List ℕ} → rows ≡ replicate words 0 → Within n rows
+unfolding rowsOf
+within-zeros n words e = within-rows n (λ v w. false) words (e ∙ zeros words ∙ wordsOf-ext (λ x. false) (λ x. between n (λ v w. false) (x / 1024) (x % 1024)) words (λ x l. sym (and-false (ltb (x / 1024) n && ltb (x % 1024) n))))
+
+-- ---- passes
+-- the relation after the passes below j: r to the targets below 64 * j, q to the others
+abbrev pub passed : (r q : ℕ → ℕ → Bool) → ℕ → ℕ → ℕ → Bool
+passed r q j v w = cond (ltb w (64 * j)) (r v w) (q v w)
+
+module _ (n : ℕ) (r q : ℕ → ℕ → Bool) (words : ℕ) where
+  pub passed-none : {ws : List ℕ} → ws ≡ rowsOf n q words → ws ≡ rowsOf n (passed r q 0) words
+  passed-none e = e ∙ rows-ext n q (passed r q 0) words (λ v w l. ap (λ (b : Bool). cond b (r v w) (q v w)) (sym (le-ltb w 0 (omega arith))))
+
+  module _ {ws : List ℕ} (j : ℕ) (e : ws ≡ rowsOf n (passed r q j) words) where
+    pub passed-more : n ≤ 1024 → j < 16 → withColumn ws j (columnOf n r j) n ≡ rowsOf n (passed r q (j + 1)) words
+    unfolding withColumn rowsOf columnOf
+    passed-more few low =
+        ap (wordsOf (λ x. cond (eqb (x / 64 % 16) j && ltb (x / 1024) n) (has (columnOf n r j) (x / 1024 * 64 + x % 64)) (has ws x))) (length-of (λ x. between n (passed r q j) (x / 1024) (x % 1024)) words e)
+        ∙ wordsOf-ext (λ x. cond (eqb (x / 64 % 16) j && ltb (x / 1024) n) (has (columnOf n r j) (x / 1024 * 64 + x % 64)) (has ws x)) (λ x. between n (passed r q (j + 1)) (x / 1024) (x % 1024)) words (λ x l. go x l (eqb (x / 64 % 16) j) refl (ltb (x / 1024) n) refl)
       where
-        go : (i : ℕ) → i < length rows → (b : Bool) → eqb (i % 16) j ≡ b → cond (b && ltb (i / 16) 1024) (getD (columnOf n r j) (i / 16) 0) (getD ws i 0) ≡ passed n r rows (j + 1) i
-        go i l true q =
-            let f : i % 16 ≡ j = eqb-true (i % 16) j q in
-            ap (λ (b : Bool). cond b (getD (columnOf n r j) (i / 16) 0) (getD ws i 0)) (lt-ltb (i / 16) 1024 (omega arith)) ∙ ap (λ (k : ℕ). getD (columnOf n r k) (i / 16) 0) (sym f)
-            ∙ ap (λ (b : Bool). cond b (getD (columnOf n r (i % 16)) (i / 16) 0) (getD rows i 0)) (sym (lt-ltb (i % 16) (j + 1) (omega arith)))
-        go i l false q =
-            ap (λ (x : List ℕ). getD x i 0) e ∙ at-values (passed n r rows j) (length rows) i 0 l
-            ∙ ap (λ (b : Bool). cond b (getD (columnOf n r (i % 16)) (i / 16) 0) (getD rows i 0)) (sym (ltb-more (i % 16) j ∙ ap (λ (b : Bool). ltb (i % 16) j || b) q ∙ mathlib.Core.Bool.or-false (ltb (i % 16) j)))
+        old : (x : ℕ) → x < 64 * words → has ws x ≡ between n (passed r q j) (x / 1024) (x % 1024)
+        old x l = has-of (λ x. between n (passed r q j) (x / 1024) (x % 1024)) words e x l
 
-    pub passed-all : j ≡ 16 → ws ≡ rowsOf n r
-    unfolding rowsOf columnOf
-    passed-all q = e ∙ ext-getD 0 (values (passed n r rows j) (length rows)) (rowsOf n r) (length-valuesFrom (passed n r rows j) 0 (length rows) ∙ room ∙ sym (length-wordsOf (λ x. between n r (x / 1024) (x % 1024)) 16384)) λ i l.
-        let l′ : i < length rows = subst (λ (k : ℕ). i < k) (length-valuesFrom (passed n r rows j) 0 (length rows)) l in
-        at-values (passed n r rows j) (length rows) i 0 l′ ∙ ap (λ (b : Bool). cond b (getD (columnOf n r (i % 16)) (i / 16) 0) (getD rows i 0)) (lt-ltb (i % 16) j (omega arith))
-        ∙ at-wordsOf (λ x. between n r (x / 64) (64 * (i % 16) + x % 64)) 1024 (i / 16) (omega arith)
-        ∙ wordOf-ext (λ d. between n r ((i / 16 * 64 + d) / 64) (64 * (i % 16) + (i / 16 * 64 + d) % 64)) (λ d. between n r ((i * 64 + d) / 1024) ((i * 64 + d) % 1024)) 64
-        (λ d ld. ap₂ (between n r) (let z : (i / 16 * 64 + d) / 64 ≡ (i * 64 + d) / 1024 = omega arith in z) (let z : 64 * (i % 16) + (i / 16 * 64 + d) % 64 ≡ (i * 64 + d) % 1024 = omega arith in z))
-        ∙ sym (at-wordsOf (λ x. between n r (x / 1024) (x % 1024)) 16384 i (omega arith))
+        go : (x : ℕ) → x < 64 * words → (b : Bool) → eqb (x / 64 % 16) j ≡ b → (c : Bool) → ltb (x / 1024) n ≡ c → cond (b && c) (has (columnOf n r j) (x / 1024 * 64 + x % 64)) (has ws x) ≡ ((c && ltb (x % 1024) n) && passed r q (j + 1) (x / 1024) (x % 1024))
+        go x l true f true g =
+            let h : x / 64 % 16 ≡ j = eqb-true (x / 64 % 16) j f in
+            let k : x / 1024 < n = ltb-true (x / 1024) n g in
+            has-wordsOf (λ x. between n r (x / 64) (64 * j + x % 64)) 1024 (x / 1024 * 64 + x % 64) (omega arith)
+            ∙ ap₂ (between n r) (let z : (x / 1024 * 64 + x % 64) / 64 ≡ x / 1024 = omega arith in z) (let z : 64 * j + (x / 1024 * 64 + x % 64) % 64 ≡ x % 1024 = omega arith in z)
+            ∙ ap₂ (λ (a b : Bool). (a && ltb (x % 1024) n) && cond b (r (x / 1024) (x % 1024)) (q (x / 1024) (x % 1024))) g (sym (lt-ltb (x % 1024) (64 * (j + 1)) (omega arith)))
+        go x l true f false g = old x l ∙ ap (λ (a : Bool). (a && ltb (x % 1024) n) && passed r q j (x / 1024) (x % 1024)) g
+        go x l false f c g =
+            let ne = eqb-false (x / 64 % 16) j f in
+            old x l ∙ ap₂ (λ (a b : Bool). (a && ltb (x % 1024) n) && cond b (r (x / 1024) (x % 1024)) (q (x / 1024) (x % 1024))) g (same x ne (ltb (x % 1024) (64 * j)) refl)
+          where
+            same : (x : ℕ) → (x / 64 % 16 ≡ j → ⊥) → (b : Bool) → ltb (x % 1024) (64 * j) ≡ b → b ≡ ltb (x % 1024) (64 * (j + 1))
+            same x ne true h = let a : x % 1024 < 64 * j = ltb-true (x % 1024) (64 * j) h in sym (lt-ltb (x % 1024) (64 * (j + 1)) (omega arith))
+            same x ne false h = let a : 64 * j ≤ x % 1024 = ltb-false (x % 1024) (64 * j) h in sym (le-ltb (x % 1024) (64 * (j + 1)) (omega (arith, ne)))
+
+    pub passed-all : n ≤ 64 * j → ws ≡ rowsOf n r words
+    passed-all l = e ∙ rows-ext n (passed r q j) r words (λ v w lw. ap (λ (b : Bool). cond b (r v w) (q v w)) (lt-ltb w (64 * j) (omega arith)))
 
 -- ---- one row
-module _ (n : ℕ) (r : ℕ → ℕ → Bool) {rows : List ℕ} (e : rows ≡ rowsOf n r) (v : ℕ) (l : v < 1024) where
+module _ (n : ℕ) (r : ℕ → ℕ → Bool) {rows : List ℕ} (words : ℕ) (e : rows ≡ rowsOf n r words) (v : ℕ) (room : 16 * v + 16 ≤ words) where
   -- what the words from row v on have, of the nodes
   pub has-row : (w : ℕ) → w < 1024 → has (drop (16 * v) rows) w ≡ between n r v w
   unfolding rowsOf
   has-row w lw =
-      has-drop rows (16 * v) w ∙ has-of (λ x. between n r (x / 1024) (x % 1024)) 16384 e (16 * v * 64 + w) (omega arith)
+      has-drop rows (16 * v) w ∙ has-of (λ x. between n r (x / 1024) (x % 1024)) words e (16 * v * 64 + w) (omega arith)
       ∙ ap₂ (between n r) (let z : (16 * v * 64 + w) / 1024 ≡ v = omega arith in z) (let z : (16 * v * 64 + w) % 1024 ≡ w = omega arith in z)
-
-  -- row v is the set of the nodes that v leads to
-  pub row-of : take 16 (drop (16 * v) rows) ≡ wordsOf (between n r v) 16
-  unfolding rowsOf
-  row-of =
-      first-words (drop (16 * v) rows) 16 (subst (λ (k : ℕ). 16 ≤ k) (sym (length-drop (16 * v) rows)) (omega (arith, length-of (λ x. between n r (x / 1024) (x % 1024)) 16384 e)))
-      (λ i. subst (λ (k : ℕ). k < 2 ^ 64) (sym (getD-drop (16 * v) rows i 0)) (small-of (λ x. between n r (x / 1024) (x % 1024)) 16384 e (16 * v + i)))
-      ∙ wordsOf-ext (has (drop (16 * v) rows)) (between n r v) 16 (λ w lw. has-row w lw)
-
-  -- a pair of nodes
-  pub row-has : (w : ℕ) → v < n → w < n → w < 1024 → has (drop (16 * v) rows) w ≡ r v w
-  row-has w lv lw h = has-row w h ∙ ap₂ (λ (a b : Bool). (a && b) && r v w) (lt-ltb v n lv) (lt-ltb w n lw)

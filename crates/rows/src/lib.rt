@@ -1,11 +1,11 @@
-// The ends from every node at once: rows of sixteen words, a row for each of 1,024 nodes.
+// The ends from every node at once: rows of sixteen words, a row for each of n nodes.
 //
-// Sixteen passes, each for 64 targets: a column holds one word for each node, and bit k of word v says that v leads to target
+// A pass for each 64 of the n targets: a column holds one word for each node, and bit k of word v says that v leads to target
 // 64 * j + k. Going from the targets backwards, a fact or-s the word of its object into the word of its subject. No function
 // scans the facts for each start node.
 //
 // For the crates above, which show that the facts lie between n nodes and that the path entries' tables are well formed:
-//   all_ends         the rows become the ends, whatever they held
+//   all_ends         the rows become the ends, where they held nothing past n nodes
 //   all_table_ends   the same over the facts of the tables
 use nodeset::insert;
 use nodeset::put_word;
@@ -26,9 +26,9 @@ ghost use Rattle.model.specs.Paths.{endsOf};
 ghost use Rattle.tables.specs.Layout.{nodeCount, cellCount};
 ghost use Rattle.tables.specs.Decode.{triplesAt};
 ghost use Rattle.tables.specs.WellFormed.{wellFormed};
-ghost use Rattle.paths.specs.Facts.{FactsOk, triplesOf};
+ghost use Rattle.paths.specs.Facts.{TableIndexed, FactsOk, triplesOf};
 ghost use Rattle.paths.specs.Ends.{endIn, endOk};
-ghost use Rattle.rows.specs.Rows.{rowsOf, columnOf, identityColumn, withColumn};
+ghost use Rattle.rows.specs.Rows.{rowsOf, Within, columnOf, identityColumn, withColumn};
 
 // An empty column becomes the one whose set k is the node 64 * j + k alone.
 fn identity(t: &mut [u64], j: usize)
@@ -40,12 +40,12 @@ fn identity(t: &mut [u64], j: usize)
     }
 }
 
-// Word j of each row becomes the row's word of the column m.
-fn store_column(rows: &mut [u64], j: usize, m: &[u64])
-    requires { ⌜ j < 16 ⌝ }
-    ensures { λ _. ⌜ now (rows .exit) ≡ withColumn (now (rows .entry)) j (now (m .entry)) ⌝ }
+// Word j of each of the n rows becomes the row's word of the column m.
+fn store_column(rows: &mut [u64], j: usize, m: &[u64], n: usize)
+    requires { ⌜ (j < 16) × (n ≤ 1024) ⌝ }
+    ensures { λ _. ⌜ now (rows .exit) ≡ withColumn (now (rows .entry)) j (now (m .entry)) n ⌝ }
 {
-    for v in 0..1024 {
+    for v in 0..n {
         put_word(rows, 16 * v + j, word(m, v));
     }
 }
@@ -59,20 +59,21 @@ fn pass(
     s: &[u16],
     p: &[u16],
     o: &[u16],
+    index: &[u16],
     len: usize,
     n: usize,
 )
-    requires { ⌜ FactsOk (now s) (now p) (now o) len n × (wellFormed (now cells) ≡ true) × (endOk (now cells) end ≡ true) × (j < 16) ⌝ }
-    ensures { λ _. ⌜ now (rows .exit) ≡ withColumn (now (rows .entry)) j (columnOf n (endsOf n (triplesOf (now (s .entry)) (now (p .entry)) (now (o .entry)) len) (endIn (now (cells .entry)) end)) j) ⌝ }
+    requires { ⌜ FactsOk (now s) (now p) (now o) (now index) len n × (wellFormed (now cells) ≡ true) × (endOk (now cells) end ≡ true) × (j < 16) ⌝ }
+    ensures { λ _. ⌜ now (rows .exit) ≡ withColumn (now (rows .entry)) j (columnOf n (endsOf n (triplesOf (now (s .entry)) (now (p .entry)) (now (o .entry)) len) (endIn (now (cells .entry)) end)) j) n ⌝ }
 {
     let mut t = [0u64; 1024];
     identity(&mut t, j);
     let mut m = [0u64; 1024];
-    follow(&mut m, end, true, true, &t, cells, s, p, o, len, n);
-    store_column(rows, j, &m);
+    follow(&mut m, end, true, true, &t, cells, s, p, o, index, len, n);
+    store_column(rows, j, &m, n);
 }
 
-// The rows of all nodes, whatever they held; no row past the last node has an end.
+// The rows of the n nodes become their ends. Nothing stands past them, before and after.
 pub fn all_ends(
     rows: &mut [u64],
     end: End,
@@ -80,26 +81,28 @@ pub fn all_ends(
     s: &[u16],
     p: &[u16],
     o: &[u16],
+    index: &[u16],
     len: usize,
     n: usize,
 )
-    requires { ⌜ FactsOk (now s) (now p) (now o) len n × (wellFormed (now cells) ≡ true) × (endOk (now cells) end ≡ true) × (length (now rows) ≡ 16384) ⌝ }
-    ensures { λ _. ⌜ now (rows .exit) ≡ rowsOf n (endsOf n (triplesOf (now (s .entry)) (now (p .entry)) (now (o .entry)) len) (endIn (now (cells .entry)) end)) ⌝ }
+    requires { ⌜ FactsOk (now s) (now p) (now o) (now index) len n × (wellFormed (now cells) ≡ true) × (endOk (now cells) end ≡ true) × Within n (now rows) ⌝ }
+    ensures { λ _. ⌜ now (rows .exit) ≡ rowsOf n (endsOf n (triplesOf (now (s .entry)) (now (p .entry)) (now (o .entry)) len) (endIn (now (cells .entry)) end)) (length (now (rows .entry))) ⌝ }
 {
-    for j in 0..16 {
-        pass(rows, j, end, cells, s, p, o, len, n);
+    let last = (n + 63) / 64;
+    for j in 0..last {
+        pass(rows, j, end, cells, s, p, o, index, len, n);
     }
 }
 
 // The same over the facts of the tables.
-pub fn all_table_ends(rows: &mut [u64], end: End, cells: &[u16])
-    requires { ⌜ (cellCount ≤ length (now cells)) × (wellFormed (now cells) ≡ true) × (endOk (now cells) end ≡ true) × (length (now rows) ≡ 16384) ⌝ }
-    ensures { λ _. ⌜ now (rows .exit) ≡ rowsOf (nodeCount (now (cells .entry))) (endsOf (nodeCount (now (cells .entry))) (triplesAt (now (cells .entry))) (endIn (now (cells .entry)) end)) ⌝ }
+pub fn all_table_ends(rows: &mut [u64], end: End, cells: &[u16], index: &[u16])
+    requires { ⌜ (cellCount ≤ length (now cells)) × (wellFormed (now cells) ≡ true) × (endOk (now cells) end ≡ true) × TableIndexed (now cells) (now index) × Within (nodeCount (now cells)) (now rows) ⌝ }
+    ensures { λ _. ⌜ now (rows .exit) ≡ rowsOf (nodeCount (now (cells .entry))) (endsOf (nodeCount (now (cells .entry))) (triplesAt (now (cells .entry))) (endIn (now (cells .entry)) end)) (length (now (rows .entry))) ⌝ }
 {
     let n = node_count(cells);
     let len = fact_count(cells);
     let s = &cells[SUBJECTS..PREDICATES];
     let p = &cells[PREDICATES..OBJECTS];
     let o = &cells[OBJECTS..PATH_CODES];
-    all_ends(rows, end, cells, s, p, o, len, n);
+    all_ends(rows, end, cells, s, p, o, index, len, n);
 }

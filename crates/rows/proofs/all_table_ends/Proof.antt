@@ -1,12 +1,13 @@
 -- `all_table_ends` meets its contract, by the laws of the tables' facts as lent parts.
 use Prim.Native.Nat.{ℕ}
 use mathlib.Core.List.{List}
-use mathlib.Core.Path.{ap₂, _∙_}
+use mathlib.Core.Path.{sym, ap₂, _∙_, subst}
+use lib.ListN.{length}
 use Rattle.model.specs.Graph.{Triple}
 use Rattle.model.specs.Paths.{endsOf}
 use Rattle.paths.specs.Ends.{endIn}
 use Rattle.paths.proofs.Parts.{lent-ok, lent-triples}
-use Rattle.rows.specs.Rows.{rowsOf}
+use Rattle.rows.specs.Rows.{rowsOf, Within}
 use borrow.Author.Needs.{needs}
 use Rattle.rows.proofs.all_table_ends.Statement.{statement}
 use Rattle.rows.proofs.all_table_ends.Tie as tie
@@ -46,18 +47,18 @@ part-o-end c = search needs
 
 all-ends-requires : tie.Need-all-ends-requires
 all-ends-requires c κs =
-    let pre = c .before .before .before .before .before .before .before .before .pre in
-    (lent-ok (c .before .before .before .before .before .before .before .before .args .cells .now) (pre .1) (pre .0) (c .before .before .before .before .before .node-count .ensures) (c .before .before .before .before .fact-count .ensures), pre .1, pre .2, pre .3)
+    let pre = c .before .before .before .before .before .before .before .before .before .pre in
+    (lent-ok (c .before .before .before .before .before .before .before .before .before .args .cells .now) (pre .1) (pre .0) (c .before .before .before .before .before .node-count .ensures) (c .before .before .before .before .fact-count .ensures) (pre .3), pre .1, pre .2, subst (λ (n : ℕ). Within n (c .before .before .before .before .before .before .before .before .before .args .rows .now)) (sym (c .before .before .before .before .before .node-count .ensures)) (pre .4))
 
 same-length : tie.Need-same-length
 same-length c = search needs
 
 returns : tie.Need-returns
 returns c =
-    let a = c .before .before .before .before .before .before .before .before .before .before .before .args in
+    let a = c .before .before .before .before .before .before .before .before .before .before .before .before .args in
     let cs = a .cells .now in
     c .before .before .all-ends .ensures
-    ∙ ap₂ (λ (n : ℕ) (ts : List Triple). rowsOf n (endsOf n ts (endIn cs (a .end)))) (c .before .before .before .before .before .before .before .before .node-count .ensures) (lent-triples cs (c .before .before .before .before .before .before .before .before .before .before .before .pre .1) (c .before .before .before .before .before .before .before .fact-count .ensures))
+    ∙ ap₂ (λ (n : ℕ) (ts : List Triple). rowsOf n (endsOf n ts (endIn cs (a .end))) (length (a .rows .now))) (c .before .before .before .before .before .before .before .before .node-count .ensures) (lent-triples cs (c .before .before .before .before .before .before .before .before .before .before .before .before .pre .1) (c .before .before .before .before .before .before .before .fact-count .ensures))
 
 pub all-table-ends-spec : {M : Type 1} → statement M
 all-table-ends-spec =

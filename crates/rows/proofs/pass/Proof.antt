@@ -1,4 +1,6 @@
 -- `pass` meets its contract: from the targets back.
+use Prim.Native.Nat.{ℕ}
+use mathlib.Core.List.{List}
 use mathlib.Core.Path.{ap, _∙_}
 use Rattle.model.specs.Paths.{endsOf}
 use Rattle.paths.specs.Facts.{triplesOf}
@@ -36,11 +38,11 @@ same-length c = search needs
 
 returns : tie.Need-returns
 returns c =
-    let a = c .before .before .before .before .before .before .before .before .before .before .before .before .before .before .before .before .before .args in
-    let ok = c .before .before .before .before .before .before .before .before .before .before .before .before .before .before .before .before .before .pre .0 in
+    let a = c .before .before .before .before .before .before .before .before .before .before .before .before .before .before .before .before .before .before .args in
+    let ok = c .before .before .before .before .before .before .before .before .before .before .before .before .before .before .before .before .before .before .pre .0 in
     c .before .before .store-column .ensures
-    ∙ ap (withColumn (a .rows .now) (a .j))
-    (column-of (a .n) (endsOf (a .n) (triplesOf (a .s .now) (a .p .now) (a .o .now) (a .len)) (endIn (a .cells .now) (a .end))) (a .j) (ok .nodes) (starts-node (a .s .now) (a .p .now) (a .o .now) (a .len) (a .n) ok (endIn (a .cells .now) (a .end))) (c .before .before .before .before .before .before .before .before .before .before .identity .ensures) (c .before .before .before .before .before .before .follow .ensures))
+    ∙ ap (λ (m : List ℕ). withColumn (a .rows .now) (a .j) m (a .n))
+    (column-of (a .n) (endsOf (a .n) (triplesOf (a .s .now) (a .p .now) (a .o .now) (a .len)) (endIn (a .cells .now) (a .end))) (a .j) (ok .nodes) (starts-node (a .s .now) (a .p .now) (a .o .now) (a .index .now) (a .len) (a .n) ok (endIn (a .cells .now) (a .end))) (c .before .before .before .before .before .before .before .before .before .before .identity .ensures) (c .before .before .before .before .before .before .follow .ensures))
 
 pub pass-spec : {M : Type 1} → statement M
 pass-spec =

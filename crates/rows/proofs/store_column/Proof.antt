@@ -4,19 +4,19 @@ use mathlib.Core.Path.{_≡_, refl, ap, _∙_}
 use native.Mathlib.Omega.{arith}
 use lib.ListN.{length, set}
 use borrow.Author.Needs.{needs}
-use Rattle.base.specs.Lists.{values}
+use Rattle.nodeset.specs.Words.{wordsOf}
 use Rattle.rows.proofs.Columns.{stored, stored-none, stored-more, stored-all}
 use Rattle.rows.proofs.store_column.Statement.{statement}
 use Rattle.rows.proofs.store_column.Tie as tie
 
 abbrev Inv-loop : tie.InvT-loop
-Inv-loop rows₀ j m v₀ rows v = (v ≤ 1024) × (length rows ≡ length rows₀) × (rows ≡ values (stored rows₀ j m v) (length rows₀))
+Inv-loop rows₀ j m n v₀ rows v = (v ≤ n) × (length rows ≡ length rows₀) × (rows ≡ wordsOf (stored rows₀ j m v) (length rows₀))
 
 abbrev μ-loop : tie.MeasureT-loop
-μ-loop rows₀ j m v₀ rows v = 1024 - v
+μ-loop rows₀ j m n v₀ rows v = n - v
 
 loop-holds : tie.Need-loop-holds Inv-loop μ-loop
-loop-holds c = let a = c .before .before .args in (search needs, refl, stored-none (a .rows .now) (a .j) (a .m .now))
+loop-holds c = let a = c .before .before .args in (search needs, refl, stored-none (a .rows .now) (a .j) (a .m .now) (λ i. c .before .slice-known .given i .fits))
 
 mul-put-word : tie.Need-mul-put-word Inv-loop μ-loop
 mul-put-word c = search needs
@@ -40,13 +40,13 @@ loop-again : tie.Need-loop-again Inv-loop μ-loop
 loop-again c =
     let a = c .before .before .before .before .before .before .before .before .before .args in
     let t = c .before .before .before .before .before .before .loop in
-    (search needs, c .before .before .put-word .kept .0 ∙ t .inv .1, c .before .before .put-word .ensures ∙ ap (set (t .rows) (16 * t .v + a .j)) (c .before .before .before .word .ensures) ∙ stored-more (a .rows .now) (a .j) (a .m .now) (t .v) (c .before .before .before .before .before .before .before .before .before .pre) (t .inv .2))
+    (search needs, c .before .before .put-word .kept .0 ∙ t .inv .1, c .before .before .put-word .ensures ∙ ap (set (t .rows) (16 * t .v + a .j)) (c .before .before .before .word .ensures) ∙ stored-more (a .rows .now) (a .j) (a .m .now) (t .v) (c .before .before .before .before .before .before .before .before .before .pre .0) (c .before .before .before .before .before .before .before .shared-slice-known .given (t .v) .fits) (t .inv .2))
 
 same-length : tie.Need-same-length Inv-loop μ-loop
 same-length c = search needs
 
 returns : tie.Need-returns Inv-loop μ-loop
-returns c = let a = c .before .before .before .before .args in stored-all (a .rows .now) (a .j) (a .m .now) (c .before .loop .v) (omega arith) (c .before .loop .inv .2)
+returns c = let a = c .before .before .before .before .args in stored-all (a .rows .now) (a .j) (a .m .now) (c .before .loop .v) (a .n) (omega arith) (c .before .loop .inv .2)
 
 pub store-column-spec : {M : Type 1} → statement M
 store-column-spec =
