@@ -18,7 +18,7 @@ use Rattle.tables.specs.Decode.{graphAt, pathAt, endAt, shapeOf, entryAt, shape
 use Rattle.tables.specs.WellFormed.{entryOk, endOk, upperOk}
 use Rattle.tables.proofs.WellFormed.{Sound, sound}
 use Rattle.tables.proofs.Decode.{shape-at}
-use Rattle.entries.specs.Tables.{Tables}
+use Rattle.paths.specs.Facts.{Tables}
 
 -- END that is not `id` is a path entry
 pub end-below : (cs : List ℕ) (p : ℕ) → (p ≡ 65535 → ⊥) → endOk cs p ≡ true → ltb p (pathCount cs) ≡ true

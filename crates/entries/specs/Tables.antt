@@ -1,26 +1,18 @@
 -- What is asked of lent tables, and the end of a path condition as the code has it.
-use Prim.Native.Nat.{ℕ, _≤_, _<_}
+use Prim.Native.Nat.{ℕ, _<_}
 use mathlib.Core.List.{List}
 use mathlib.Core.Bool.{true}
 use mathlib.Core.Path.{_≡_}
-use lib.ListN.{length}
 use Rattle.model.specs.Paths as model
-use Rattle.tables.specs.Layout.{cellCount, nodeCount, formCount}
+use Rattle.tables.specs.Layout.{nodeCount, formCount}
 use Rattle.tables.specs.Decode.{endAt}
-use Rattle.tables.specs.WellFormed.{wellFormed}
 use Rattle.tables.specs.WellFormed as tables
-use Rattle.paths.specs.Facts.{TableIndexed}
+use Rattle.paths.specs.Facts.{Tables}
 use Rattle.paths.specs.Ends as paths
 use Rattle.paths.specs.Ends.{endIn}
 use Rattle.paths.specs.declared.End.{End}
 
--- well-formed tables, with the index of their facts
-pub record Tables (cs index : List ℕ) : Type 0 where
-  pub room : cellCount ≤ length cs
-  pub ok : wellFormed cs ≡ true
-  pub indexed : TableIndexed cs index
-
--- with a form entry and a node
+-- well-formed tables and the index of their facts, with a form entry and a node
 pub record Asked (cs index : List ℕ) (e v : ℕ) : Type 0 where
   pub tables : Tables cs index
   pub entry : e < formCount cs

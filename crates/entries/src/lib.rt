@@ -34,9 +34,10 @@ ghost use Rattle.model.specs.Paths.{ends, endsOf};
 ghost use Rattle.model.specs.Shapes.{within, conforms};
 ghost use Rattle.tables.specs.Layout.{nodeCount, formCodeAt, formFirstAt, formThirdAt, formFourthAt};
 ghost use Rattle.tables.specs.Decode.{triplesAt, graphAt, pathAt, upperOf, shapeAt};
+ghost use Rattle.paths.specs.Facts.{Tables};
 ghost use Rattle.paths.specs.Images.{image};
 ghost use Rattle.paths.specs.Ends.{endIn, endOk};
-ghost use Rattle.entries.specs.Tables.{Tables, Asked, EndFor};
+ghost use Rattle.entries.specs.Tables.{Asked, EndFor};
 
 // All ends from the members of a set.
 pub fn ends_from(cells: &[u16], index: &[u16], end: End, from: &[u64]) -> NodeSet

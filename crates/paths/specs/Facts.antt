@@ -9,7 +9,8 @@ use Rattle.base.specs.Bounded.{some, every}
 use Rattle.base.specs.Lists.{values}
 use Rattle.chains.specs.Chains.{Chained}
 use Rattle.model.specs.Graph.{Triple}
-use Rattle.tables.specs.Layout.{factCount, predicateAt}
+use Rattle.tables.specs.Layout.{cellCount, factCount, predicateAt}
+use Rattle.tables.specs.WellFormed.{wellFormed}
 
 module _ (ss ps os : List ℕ) where
   -- fact i
@@ -36,9 +37,15 @@ Indexed ps count index = Chained (λ i. getD ps i 0) count 256 0 256 index
 abbrev pub TableIndexed : List ℕ → List ℕ → Type 0
 TableIndexed cs index = Chained (predicateAt cs) (factCount cs) 256 0 256 index
 
--- how long it is
+-- how long it is, at most
 abbrev pub indexCount : ℕ
 indexCount = 4352
+
+-- well-formed tables, with the index of their facts
+pub record Tables (cs index : List ℕ) : Type 0 where
+  pub room : cellCount ≤ length cs
+  pub ok : wellFormed cs ≡ true
+  pub indexed : TableIndexed cs index
 
 -- count facts between n nodes, and their index
 pub record FactsOk (ss ps os index : List ℕ) (count n : ℕ) : Type 0 where

@@ -40,9 +40,12 @@ ghost use Rattle.tables.specs.Layout.{nodeCount, pathCount, cellCount};
 ghost use Rattle.tables.specs.Decode.{triplesAt, pathAt};
 ghost use Rattle.tables.specs.WellFormed.{wellFormed};
 ghost use Rattle.base.specs.Bounded.{every};
-ghost use Rattle.paths.specs.Facts.{Indexed, TableIndexed, indexCount, FactsOk, triplesOf, edges};
+ghost use Rattle.paths.specs.Facts.{Indexed, TableIndexed, indexCount, Tables, FactsOk, triplesOf, edges};
 ghost use Rattle.paths.specs.Ends.{endIn, endOk};
 ghost use Rattle.paths.specs.Images.{converseIf, setCount, withImage, withImages, joined, withEnds};
+
+// How many cells the index of the facts takes: a chain for each of 256 links, and 4,096 facts.
+pub const INDEX_CELLS: usize = 4352;
 
 // What the ends are ends of: `id`, the node itself; a link; a path entry.
 pub enum End {
@@ -263,7 +266,7 @@ pub fn add_table_ends(
     cells: &[u16],
     index: &[u16],
 )
-    requires { ⌜ (cellCount ≤ length (now cells)) × (wellFormed (now cells) ≡ true) × (endOk (now cells) end ≡ true) × TableIndexed (now cells) (now index) ⌝ }
+    requires { ⌜ Tables (now cells) (now index) × (endOk (now cells) end ≡ true) ⌝ }
     ensures { λ _. ⌜ now (into .exit) ≡ withImage (nodeCount (now (cells .entry))) (converseIf back (endsOf (nodeCount (now (cells .entry))) (triplesAt (now (cells .entry))) (endIn (now (cells .entry)) end))) (now (from .entry)) (now (into .entry)) ⌝ }
 {
     let n = node_count(cells);

@@ -23,10 +23,10 @@ ghost use mathlib.Core.Bool.{true};
 ghost use Prim.Native.Nat.{_*_, _<_, _≤_};
 ghost use lib.ListN.{length, replicate};
 ghost use Rattle.model.specs.Paths.{endsOf};
-ghost use Rattle.tables.specs.Layout.{nodeCount, cellCount};
+ghost use Rattle.tables.specs.Layout.{nodeCount};
 ghost use Rattle.tables.specs.Decode.{triplesAt};
 ghost use Rattle.tables.specs.WellFormed.{wellFormed};
-ghost use Rattle.paths.specs.Facts.{TableIndexed, FactsOk, triplesOf};
+ghost use Rattle.paths.specs.Facts.{Tables, FactsOk, triplesOf};
 ghost use Rattle.paths.specs.Ends.{endIn, endOk};
 ghost use Rattle.rows.specs.Rows.{rowsOf, Within, columnOf, identityColumn, withColumn};
 
@@ -96,7 +96,7 @@ pub fn all_ends(
 
 // The same over the facts of the tables.
 pub fn all_table_ends(rows: &mut [u64], end: End, cells: &[u16], index: &[u16])
-    requires { ⌜ (cellCount ≤ length (now cells)) × (wellFormed (now cells) ≡ true) × (endOk (now cells) end ≡ true) × TableIndexed (now cells) (now index) × Within (nodeCount (now cells)) (now rows) ⌝ }
+    requires { ⌜ Tables (now cells) (now index) × (endOk (now cells) end ≡ true) × Within (nodeCount (now cells)) (now rows) ⌝ }
     ensures { λ _. ⌜ now (rows .exit) ≡ rowsOf (nodeCount (now (cells .entry))) (endsOf (nodeCount (now (cells .entry))) (triplesAt (now (cells .entry))) (endIn (now (cells .entry)) end)) (length (now (rows .entry))) ⌝ }
 {
     let n = node_count(cells);

@@ -6,6 +6,7 @@
 //   path_set      .. on the ends of a path and the set of a step
 //   lang_set      .. that no two ends of a path have the same language
 //   ends_set      .. on two end sets
+// (the ends of all nodes stand in lent rows, which are kept for the next step)
 //   facts_set     the nodes that the facts pick, in one pass over them
 //   closed_set    the nodes of which every fact has a listed link
 //   both_set, either_set   the nodes in both of two sets, in one of them
@@ -38,16 +39,20 @@ use tables::reads::wide;
 ghost use mathlib.Core.Path.{_≡_};
 ghost use mathlib.Core.Bool.{true, false, not, cond, _&&_, _||_};
 ghost use Prim.Native.Nat.{ℕ, _*_, _<_, _≤_};
-ghost use lib.ListN.{length, drop};
+ghost use lib.ListN.{drop};
 ghost use Rattle.nodeset.specs.Words.{has};
 ghost use Rattle.model.specs.Shapes.{within, from, objects, starts};
-ghost use Rattle.tables.specs.Layout.{nodeCount, pathCount, cellCount};
+ghost use Rattle.tables.specs.Layout.{nodeCount, pathCount};
 ghost use Rattle.tables.specs.Decode.{graphAt, pathAt, endAt, upperOf};
 ghost use Rattle.tables.specs.WellFormed.{wellFormed, endOk};
+ghost use Rattle.paths.specs.Facts.{Tables};
 ghost use Rattle.conditions.specs.Pairs.{unlikeLangs};
 ghost use Rattle.stepsets.specs.Asks.{nodesOf, orNot, asked, askOk};
-ghost use Rattle.stepsets.specs.Ends.{EndOf};
+ghost use Rattle.stepsets.specs.Ends.{EndOf, numberOk, Held};
 ghost use Rattle.stepsets.specs.Picks.{nodeOf, picks, picked};
+
+// Ends have numbers: `id` and path entries those of the tables, links those from here on.
+const FIRST_LINK: usize = 65536;
 
 // What is asked of each node: that it is a node; that it meets the test of a form entry; how many of its ends are in a set,
 // that all are; that two end sets are equal, are apart, that each pair is less, or at most; that no two ends in a set share a language.
@@ -154,63 +159,94 @@ pub fn plain_set(ask: Ask, breaks: bool, cells: &[u16], values: &[i64]) -> NodeS
     nodes_where(ask, breaks, cells, values, &none, &none, false)
 }
 
+// The ends that number x names: below 65,536 `id` or a path entry, from there on a link.
+fn end_of(x: usize) -> End
+    ensures { λ r. ⌜ EndOf x r ⌝ }
+{
+    if x == wide(NO_NUMBER) {
+        return End::Itself;
+    }
+    if x < FIRST_LINK {
+        return End::Path(x);
+    }
+    End::Link(LinkNo((x % 65536) as u16))
+}
+
+// The rows become those of number x, where they are not these already; held is the number of what they hold.
+fn keep_ends(rows: &mut [u64], held: &mut usize, x: usize, cells: &[u16], index: &[u16])
+    requires { ⌜ Tables (now cells) (now index) × (numberOk (now cells) x ≡ true) × Held (now cells) (now held) (now rows) ⌝ }
+    ensures { λ _. ⌜ Held (now (cells .entry)) x (now (rows .exit)) ⌝ }
+    ensures { λ _. ⌜ now (held .exit) ≡ x ⌝ }
+{
+    if *held != x {
+        all_table_ends(rows, end_of(x), cells, index);
+        *held = x;
+    }
+}
+
 // A condition on the ends of path entry p, and the set of step j in the work space.
 pub fn path_set(
+    first: &mut [u64],
+    end: &mut usize,
     ask: Ask,
     breaks: bool,
     cells: &[u16],
+    index: &[u16],
     values: &[i64],
     p: usize,
     work: &[u64],
     j: usize,
 ) -> NodeSet
-    requires { ⌜ (cellCount ≤ length (now cells)) × (wellFormed (now cells) ≡ true) × (p < pathCount (now cells)) × (j < 65536) × (askOk (now cells) ask ≡ true) ⌝ }
+    requires { ⌜ Tables (now cells) (now index) × (p < pathCount (now cells)) × (j < 65536) × (askOk (now cells) ask ≡ true) × Held (now cells) (now end) (now first) ⌝ }
     ensures { λ r. ⌜ r .words ≡ nodesOf (λ v. orNot breaks (asked (now (cells .entry)) (now (values .entry)) ask (from (graphAt (now (cells .entry)) (now (values .entry))) (pathAt (now (cells .entry)) p) v) (has (drop (16 * j) (now (work .entry)))) v)) (nodeCount (now (cells .entry))) ⌝ }
+    ensures { λ _. ⌜ Held (now (cells .entry)) (now (end .exit)) (now (first .exit)) ⌝ }
 {
-    let mut rows = [0u64; 16384];
-    all_table_ends(&mut rows, End::Path(p), cells);
-    nodes_where(ask, breaks, cells, values, &rows, part(work, 16 * j), false)
+    keep_ends(first, end, p, cells, index);
+    nodes_where(ask, breaks, cells, values, &first[..], part(work, 16 * j), false)
 }
 
 // That no two ends of path entry p have the same language. Only ends that have one are looked at.
-pub fn lang_set(breaks: bool, cells: &[u16], values: &[i64], p: usize) -> NodeSet
-    requires { ⌜ (cellCount ≤ length (now cells)) × (wellFormed (now cells) ≡ true) × (p < pathCount (now cells)) ⌝ }
+pub fn lang_set(
+    first: &mut [u64],
+    end: &mut usize,
+    breaks: bool,
+    cells: &[u16],
+    index: &[u16],
+    values: &[i64],
+    p: usize,
+) -> NodeSet
+    requires { ⌜ Tables (now cells) (now index) × (p < pathCount (now cells)) × Held (now cells) (now end) (now first) ⌝ }
     ensures { λ r. ⌜ r .words ≡ nodesOf (λ v. orNot breaks (unlikeLangs (now (cells .entry)) (now (values .entry)) (from (graphAt (now (cells .entry)) (now (values .entry))) (pathAt (now (cells .entry)) p) v))) (nodeCount (now (cells .entry))) ⌝ }
+    ensures { λ _. ⌜ Held (now (cells .entry)) (now (end .exit)) (now (first .exit)) ⌝ }
 {
-    let mut rows = [0u64; 16384];
-    all_table_ends(&mut rows, End::Path(p), cells);
+    keep_ends(first, end, p, cells, index);
     let set = languages(cells);
     let words = set.words;
-    nodes_where(Ask::OneLang, breaks, cells, values, &rows, &words, false)
-}
-
-// END of a pair condition: 65,535 is `id`, another number a path entry.
-fn end_of(f: usize) -> End
-    ensures { λ r. ⌜ EndOf f r ⌝ }
-{
-    if f == wide(NO_NUMBER) {
-        return End::Itself;
-    }
-    End::Path(f)
+    nodes_where(Ask::OneLang, breaks, cells, values, &first[..], &words, false)
 }
 
 // A condition on the ends of END f and those of link l.
 pub fn ends_set(
+    first: &mut [u64],
+    end: &mut usize,
+    second: &mut [u64],
+    link: &mut usize,
     ask: Ask,
     breaks: bool,
     cells: &[u16],
+    index: &[u16],
     values: &[i64],
     f: usize,
     l: LinkNo,
 ) -> NodeSet
-    requires { ⌜ (cellCount ≤ length (now cells)) × (wellFormed (now cells) ≡ true) × (endOk (now cells) f ≡ true) × (askOk (now cells) ask ≡ true) ⌝ }
+    requires { ⌜ Tables (now cells) (now index) × (endOk (now cells) f ≡ true) × (askOk (now cells) ask ≡ true) × Held (now cells) (now end) (now first) × Held (now cells) (now link) (now second) ⌝ }
     ensures { λ r. ⌜ r .words ≡ nodesOf (λ v. orNot breaks (asked (now (cells .entry)) (now (values .entry)) ask (starts (graphAt (now (cells .entry)) (now (values .entry))) (endAt (now (cells .entry)) f) v) (objects (graphAt (now (cells .entry)) (now (values .entry))) (l .0) v) v)) (nodeCount (now (cells .entry))) ⌝ }
+    ensures { λ _. ⌜ Held (now (cells .entry)) (now (end .exit)) (now (first .exit)) ⌝ }
+    ensures { λ _. ⌜ Held (now (cells .entry)) (now (link .exit)) (now (second .exit)) ⌝ }
 {
-    let mut first = [0u64; 16384];
-    all_table_ends(&mut first, end_of(f), cells);
-    let mut second = [0u64; 16384];
-    all_table_ends(&mut second, End::Link(l), cells);
-    nodes_where(ask, breaks, cells, values, &first, &second, true)
+    keep_ends(first, end, f, cells, index);
+    keep_ends(second, link, FIRST_LINK + wide(l.0), cells, index);
+    nodes_where(ask, breaks, cells, values, &first[..], &second[..], true)
 }
 
 // The node that fact i picks, where it picks one.

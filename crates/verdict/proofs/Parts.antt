@@ -18,7 +18,7 @@ use Rattle.tables.specs.Entries.{entryOf}
 use Rattle.tables.specs.Decode.{triplesAt, pathAt}
 use Rattle.tables.specs.WellFormed.{entryOk, upperOk}
 use Rattle.paths.specs.Images.{image}
-use Rattle.entries.specs.Tables.{Tables}
+use Rattle.paths.specs.Facts.{Tables}
 use Rattle.entries.proofs.Codes.{right-by, nodes-le, count-path, all-path}
 use Rattle.verdict.specs.Parts.{endsCode, partsCode, firstBy, secondBy, looksAtEnds, hasParts, firstPart, secondPart, looksAt, PartsKnown}
 use Rattle.verdict.proofs.Memo.{settled-grows}

@@ -17,7 +17,7 @@ use Rattle.model.specs.Shapes.{conforms}
 use Rattle.tables.specs.Layout.{nodeCount, formCount}
 use Rattle.tables.specs.Decode.{graphAt, shapeAt}
 use Rattle.conditions.proofs.Members.{Passed, passed-none, passed-more, passed-all}
-use Rattle.entries.specs.Tables.{Tables}
+use Rattle.paths.specs.Facts.{Tables}
 use Rattle.entries.proofs.Codes.{nodes-le, sound-of}
 use Rattle.verdict.specs.Memo.{yesPlace, noPlace, settled, Right, Ready, Settled}
 use Rattle.verdict.specs.Parts.{firstPart, secondPart, looksAt, PartsKnown}

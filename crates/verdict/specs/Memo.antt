@@ -10,7 +10,7 @@ use Rattle.nodeset.specs.Words.{has}
 use Rattle.model.specs.Shapes.{conforms}
 use Rattle.tables.specs.Layout.{nodeCount, formCount}
 use Rattle.tables.specs.Decode.{graphAt, shapeAt}
-use Rattle.entries.specs.Tables.{Tables}
+use Rattle.paths.specs.Facts.{Tables}
 
 -- the number that says that node v conforms to entry e, and the one that says that it does not
 abbrev pub yesPlace : ℕ → ℕ → ℕ

@@ -19,6 +19,7 @@ use nodeset::load;
 use nodeset::next_member;
 use nodeset::test;
 use paths::End;
+use paths::INDEX_CELLS;
 use paths::index_table;
 use tables::layout::CELLS;
 use tables::layout::VALUES;
@@ -41,7 +42,7 @@ ghost use Rattle.model.specs.Shapes.{conforms};
 ghost use Rattle.tables.specs.Layout.{cellCount, nodeCount, formCount};
 ghost use Rattle.tables.specs.Decode.{graphAt, shapeAt};
 ghost use Rattle.tables.specs.WellFormed.{wellFormed};
-ghost use Rattle.entries.specs.Tables.{Tables};
+ghost use Rattle.paths.specs.Facts.{Tables};
 ghost use Rattle.verdict.specs.Answers.{decisionOf, judgedOn, judged, isGiven, tallied};
 ghost use Rattle.verdict.specs.Memo.{yesPlace, noPlace, Ready, Settled};
 ghost use Rattle.verdict.specs.Parts.{looksAtEnds, hasParts, firstPart, secondPart, looksAt, PartsKnown, Enough};
@@ -223,7 +224,7 @@ fn conforming(cells: &[u16], values: &[i64], e: usize, v: usize) -> bool
     ensures { λ r. ⌜ r ≡ conforms (graphAt (now (cells .entry)) (now (values .entry))) (shapeAt (now (cells .entry)) (now (values .entry)) e) v ⌝ }
 {
     // the chains of the facts, made once
-    let mut index = [0u16; 4352];
+    let mut index = [0u16; INDEX_CELLS];
     index_table(&mut index, cells);
     // 32 words for each of 112 entries
     let mut memo = [0u64; 3584];

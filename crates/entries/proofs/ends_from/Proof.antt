@@ -13,7 +13,7 @@ slice-aggregate-add-table-ends : tie.Need-slice-aggregate-add-table-ends
 slice-aggregate-add-table-ends c = search needs
 
 add-table-ends-requires : tie.Need-add-table-ends-requires
-add-table-ends-requires c κs = let p = c .before .before .before .before .pre in (p .0 .room, p .0 .ok, p .1, p .0 .indexed)
+add-table-ends-requires c κs = let p = c .before .before .before .before .pre in p
 
 returns : tie.Need-returns
 returns c = let a = c .before .before .before .before .before .before .args in let cs = a .cells .now in c .before .add-table-ends .ensures ∙ image-zeros (nodeCount cs) (endsOf (nodeCount cs) (triplesAt cs) (endIn cs (a .end))) (a .from .now)

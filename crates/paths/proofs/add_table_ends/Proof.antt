@@ -47,7 +47,7 @@ part-o-end c = search needs
 add-ends-requires : tie.Need-add-ends-requires
 add-ends-requires c κs =
     let pre = c .before .before .before .before .before .before .before .before .before .before .pre in
-    (lent-ok (c .before .before .before .before .before .before .before .before .before .before .args .cells .now) (pre .1) (pre .0) (c .before .before .before .before .before .node-count .ensures) (c .before .before .before .before .fact-count .ensures) (pre .3), pre .1, pre .2)
+    (lent-ok (c .before .before .before .before .before .before .before .before .before .before .args .cells .now) (pre .0 .ok) (pre .0 .room) (c .before .before .before .before .before .node-count .ensures) (c .before .before .before .before .fact-count .ensures) (pre .0 .indexed), pre .0 .ok, pre .1)
 
 same-length : tie.Need-same-length
 same-length c = search needs
@@ -57,7 +57,7 @@ returns c =
     let a = c .before .before .before .before .before .before .before .before .before .before .before .before .before .args in
     let cs = a .cells .now in
     c .before .before .add-ends .ensures
-    ∙ ap₂ (λ (n : ℕ) (ts : List Triple). withImage n (converseIf (a .back) (endsOf n ts (endIn cs (a .end)))) (a .from .now) (a .into .now)) (c .before .before .before .before .before .before .before .before .node-count .ensures) (lent-triples cs (c .before .before .before .before .before .before .before .before .before .before .before .before .before .pre .1) (c .before .before .before .before .before .before .before .fact-count .ensures))
+    ∙ ap₂ (λ (n : ℕ) (ts : List Triple). withImage n (converseIf (a .back) (endsOf n ts (endIn cs (a .end)))) (a .from .now) (a .into .now)) (c .before .before .before .before .before .before .before .before .node-count .ensures) (lent-triples cs (c .before .before .before .before .before .before .before .before .before .before .before .before .before .pre .0 .ok) (c .before .before .before .before .before .before .before .fact-count .ensures))
 
 pub add-table-ends-spec : {M : Type 1} → statement M
 add-table-ends-spec =

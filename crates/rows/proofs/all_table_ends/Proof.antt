@@ -48,7 +48,7 @@ part-o-end c = search needs
 all-ends-requires : tie.Need-all-ends-requires
 all-ends-requires c κs =
     let pre = c .before .before .before .before .before .before .before .before .before .pre in
-    (lent-ok (c .before .before .before .before .before .before .before .before .before .args .cells .now) (pre .1) (pre .0) (c .before .before .before .before .before .node-count .ensures) (c .before .before .before .before .fact-count .ensures) (pre .3), pre .1, pre .2, subst (λ (n : ℕ). Within n (c .before .before .before .before .before .before .before .before .before .args .rows .now)) (sym (c .before .before .before .before .before .node-count .ensures)) (pre .4))
+    (lent-ok (c .before .before .before .before .before .before .before .before .before .args .cells .now) (pre .0 .ok) (pre .0 .room) (c .before .before .before .before .before .node-count .ensures) (c .before .before .before .before .fact-count .ensures) (pre .0 .indexed), pre .0 .ok, pre .1, subst (λ (n : ℕ). Within n (c .before .before .before .before .before .before .before .before .before .args .rows .now)) (sym (c .before .before .before .before .before .node-count .ensures)) (pre .2))
 
 same-length : tie.Need-same-length
 same-length c = search needs
@@ -58,7 +58,7 @@ returns c =
     let a = c .before .before .before .before .before .before .before .before .before .before .before .before .args in
     let cs = a .cells .now in
     c .before .before .all-ends .ensures
-    ∙ ap₂ (λ (n : ℕ) (ts : List Triple). rowsOf n (endsOf n ts (endIn cs (a .end))) (length (a .rows .now))) (c .before .before .before .before .before .before .before .before .node-count .ensures) (lent-triples cs (c .before .before .before .before .before .before .before .before .before .before .before .before .pre .1) (c .before .before .before .before .before .before .before .fact-count .ensures))
+    ∙ ap₂ (λ (n : ℕ) (ts : List Triple). rowsOf n (endsOf n ts (endIn cs (a .end))) (length (a .rows .now))) (c .before .before .before .before .before .before .before .before .node-count .ensures) (lent-triples cs (c .before .before .before .before .before .before .before .before .before .before .before .before .pre .0 .ok) (c .before .before .before .before .before .before .before .fact-count .ensures))
 
 pub all-table-ends-spec : {M : Type 1} → statement M
 all-table-ends-spec =
