@@ -38,7 +38,7 @@ use tables::reads::subject;
 use tables::reads::wide;
 ghost use mathlib.Core.Path.{_≡_};
 ghost use mathlib.Core.Bool.{true, false, not, cond, _&&_, _||_};
-ghost use Prim.Native.Nat.{ℕ, _*_, _<_, _≤_};
+ghost use Prim.Native.Nat.{ℕ, _+_, _*_, _<_, _≤_};
 ghost use lib.ListN.{drop};
 ghost use Rattle.nodeset.specs.Words.{has};
 ghost use Rattle.model.specs.Shapes.{within, from, objects, starts};
@@ -172,6 +172,13 @@ fn end_of(x: usize) -> End
     End::Link(LinkNo((x % 65536) as u16))
 }
 
+// The number of the ends of link l.
+fn link_number(l: u16) -> usize
+    ensures { λ r. ⌜ (r ≡ 65536 + l) × (l < 65536) ⌝ }
+{
+    FIRST_LINK + wide(l)
+}
+
 // The rows become those of number x, where they are not these already; held is the number of what they hold.
 fn keep_ends(rows: &mut [u64], held: &mut usize, x: usize, cells: &[u16], index: &[u16])
     requires { ⌜ Tables (now cells) (now index) × (numberOk (now cells) x ≡ true) × Held (now cells) (now held) (now rows) ⌝ }
@@ -202,7 +209,15 @@ pub fn path_set(
     ensures { λ _. ⌜ Held (now (cells .entry)) (now (end .exit)) (now (first .exit)) ⌝ }
 {
     keep_ends(first, end, p, cells, index);
-    nodes_where(ask, breaks, cells, values, &first[..], part(work, 16 * j), false)
+    nodes_where(
+        ask,
+        breaks,
+        cells,
+        values,
+        &first[..],
+        part(work, 16 * j),
+        false,
+    )
 }
 
 // That no two ends of path entry p have the same language. Only ends that have one are looked at.
@@ -222,7 +237,15 @@ pub fn lang_set(
     keep_ends(first, end, p, cells, index);
     let set = languages(cells);
     let words = set.words;
-    nodes_where(Ask::OneLang, breaks, cells, values, &first[..], &words, false)
+    nodes_where(
+        Ask::OneLang,
+        breaks,
+        cells,
+        values,
+        &first[..],
+        &words,
+        false,
+    )
 }
 
 // A condition on the ends of END f and those of link l.
@@ -245,7 +268,7 @@ pub fn ends_set(
     ensures { λ _. ⌜ Held (now (cells .entry)) (now (link .exit)) (now (second .exit)) ⌝ }
 {
     keep_ends(first, end, f, cells, index);
-    keep_ends(second, link, FIRST_LINK + wide(l.0), cells, index);
+    keep_ends(second, link, link_number(l.0), cells, index);
     nodes_where(ask, breaks, cells, values, &first[..], &second[..], true)
 }
 
