@@ -38,6 +38,7 @@ use Rattle.stepsets.specs.declared.Ask.{Ask}
 use Rattle.stepsets.specs.declared.Ask.the-variants.{Is, Test, Count, Every, Equal, Apart, Less, LessEq}
 use Rattle.stepsets.specs.declared.Pick.the-variants.{From, Into, Typed, Open}
 use Rattle.stepsets.proofs.Nodes.{nodes-ext, nodes-all, nodes-never}
+use Rattle.paths.specs.Facts.{Tables}
 use Rattle.stepsets.proofs.Rows.{ends-low}
 use Rattle.stepsets.proofs.Picks.{picked-from, picked-into, picked-typed, picked-open}
 use Rattle.runner.specs.Steps.{stepFrom}
@@ -61,7 +62,8 @@ pub record Read : Type 0 where
   pub third : lo ≡ stepThirdAt ps k
   pub fourth : hi ≡ stepFourthAt ps k
   pub same : code ≡ stepCodeAt ps k
-  pub room : cellCount ≤ length cs
+  pub index : List ℕ
+  pub tables : Tables cs index
   pub ok : wellFormed cs ≡ true
   pub low : k < 512
   pub right : stepOk cs k (stepAt ps k) ≡ true
@@ -179,7 +181,7 @@ module _ (h : Read) where
       ap (within lo (upperOf hi)) (ap (size q) (let z : 1024 ≡ n + (1024 - n) = omega (arith, few) in z) ∙ size-beyond q n (1024 - n) (λ w m. past v l w m)))
     where
       past : (v : ℕ) → v < n → (w : ℕ) → n ≤ w → (from (graphAt cs vs) (pathAt cs a) v w && has (drop (16 * b) ws) w) ≡ false
-      past v l w m = bool-cases (λ t. from (graphAt cs vs) (pathAt cs a) v w ≡ t → (t && has (drop (16 * b) ws) w) ≡ false) (from (graphAt cs vs) (pathAt cs a) v w) (λ _ q. let z : w < n = ends-low cs (h .room) (h .ok) (along (pathAt cs a)) v w l q in absurd (omega arith)) (λ _ q. refl) refl
+      past v l w m = bool-cases (λ t. from (graphAt cs vs) (pathAt cs a) v w ≡ t → (t && has (drop (16 * b) ws) w) ≡ false) (from (graphAt cs vs) (pathAt cs a) v w) (λ _ q. let z : w < n = ends-low cs (h .index) (h .tables) (along (pathAt cs a)) v w l q in absurd (omega arith)) (λ _ q. refl) refl
 
   pub every-arm : nodesOf (λ v. orNot false (asked cs vs Every (from (graphAt cs vs) (pathAt cs a) v) (has (drop (16 * b) ws)) v)) n ≡ by 9
   unfolding stepOf inStep asked subset graphAt

@@ -6,6 +6,8 @@
 use model::Refusal;
 use nodeset::NodeSet;
 use nodeset::store;
+use paths::INDEX_CELLS;
+use paths::index_table;
 use plan::PLAN_CELLS;
 use plancheck::plan_well_formed;
 use plancheck::reads::step_code;
@@ -18,6 +20,7 @@ use plancheck::reads::step_second;
 use plancheck::reads::step_second_link;
 use plancheck::reads::step_third;
 use stepsets::Ask;
+use stepsets::NO_END;
 use stepsets::Pick;
 use stepsets::both_set;
 use stepsets::closed_set;
@@ -36,8 +39,10 @@ ghost use mathlib.Core.Path.{_≡_};
 ghost use mathlib.Core.Bool.{true, _&&_};
 ghost use Prim.Native.Nat.{_+_, _*_, _<_, _≤_};
 ghost use lib.ListN.{length};
-ghost use Rattle.tables.specs.Layout.{cellCount};
+ghost use Rattle.tables.specs.Layout.{cellCount, nodeCount};
 ghost use Rattle.tables.specs.WellFormed.{wellFormed};
+ghost use Rattle.paths.specs.Facts.{Tables};
+ghost use Rattle.stepsets.specs.Ends.{Held, Empty};
 ghost use Rattle.plan.specs.Layout.{stepAt};
 ghost use Rattle.plan.specs.WellFormed.{stepOk, planWellFormed};
 ghost use Rattle.runner.specs.Run.{workCount, saidOf, filled, lentLong, runSaid, workAfter};
@@ -52,10 +57,24 @@ pub enum Ran {
     Refused(Refusal),
 }
 
-// The set of step k, from the sets of the steps before it.
-fn step_set(cells: &[u16], values: &[i64], plan: &[u16], work: &[u64], k: usize) -> NodeSet
-    requires { ⌜ (cellCount ≤ length (now cells)) × (wellFormed (now cells) ≡ true) × (k < 512) × (stepOk (now cells) k (stepAt (now plan) k) ≡ true) ⌝ }
+// The set of step k, from the sets of the steps before it. The rows of ends that it looks at are kept for the next step: first
+// holds those of number end, second those of number link.
+fn step_set(
+    first: &mut [u64],
+    end: &mut usize,
+    second: &mut [u64],
+    link: &mut usize,
+    cells: &[u16],
+    index: &[u16],
+    values: &[i64],
+    plan: &[u16],
+    work: &[u64],
+    k: usize,
+) -> NodeSet
+    requires { ⌜ Tables (now cells) (now index) × (k < 512) × (stepOk (now cells) k (stepAt (now plan) k) ≡ true) × Held (now cells) (now end) (now first) × Held (now cells) (now link) (now second) ⌝ }
     ensures { λ r. ⌜ r .words ≡ stepFrom (now (cells .entry)) (now (values .entry)) (now (plan .entry)) (now (work .entry)) k ⌝ }
+    ensures { λ _. ⌜ Held (now (cells .entry)) (now (end .exit)) (now (first .exit)) ⌝ }
+    ensures { λ _. ⌜ Held (now (cells .entry)) (now (link .exit)) (now (second .exit)) ⌝ }
 {
     let n = node_count(cells);
     let a = step_first(plan, k);
@@ -74,20 +93,138 @@ fn step_set(cells: &[u16], values: &[i64], plan: &[u16], work: &[u64], k: usize)
         5 => plain_set(Ask::Test(a), true, cells, values),
         6 => both_set(work, a, b, n),
         7 => either_set(work, a, b, n),
-        8 => path_set(Ask::Count(lo, hi), false, cells, values, a, work, b),
-        9 => path_set(Ask::Every, false, cells, values, a, work, b),
-        10 => ends_set(Ask::Equal, false, cells, values, a, l),
-        11 => ends_set(Ask::Equal, true, cells, values, a, l),
-        12 => ends_set(Ask::Apart, false, cells, values, a, l),
-        13 => ends_set(Ask::Apart, true, cells, values, a, l),
+        8 => path_set(
+            first,
+            end,
+            Ask::Count(lo, hi),
+            false,
+            cells,
+            index,
+            values,
+            a,
+            work,
+            b,
+        ),
+        9 => path_set(
+            first,
+            end,
+            Ask::Every,
+            false,
+            cells,
+            index,
+            values,
+            a,
+            work,
+            b,
+        ),
+        10 => ends_set(
+            first,
+            end,
+            second,
+            link,
+            Ask::Equal,
+            false,
+            cells,
+            index,
+            values,
+            a,
+            l,
+        ),
+        11 => ends_set(
+            first,
+            end,
+            second,
+            link,
+            Ask::Equal,
+            true,
+            cells,
+            index,
+            values,
+            a,
+            l,
+        ),
+        12 => ends_set(
+            first,
+            end,
+            second,
+            link,
+            Ask::Apart,
+            false,
+            cells,
+            index,
+            values,
+            a,
+            l,
+        ),
+        13 => ends_set(
+            first,
+            end,
+            second,
+            link,
+            Ask::Apart,
+            true,
+            cells,
+            index,
+            values,
+            a,
+            l,
+        ),
         14 => closed_set(cells, a),
         15 => facts_set(Pick::Open(a), cells),
-        16 => ends_set(Ask::Less, false, cells, values, a, l),
-        17 => ends_set(Ask::Less, true, cells, values, a, l),
-        18 => ends_set(Ask::LessEq, false, cells, values, a, l),
-        19 => ends_set(Ask::LessEq, true, cells, values, a, l),
-        20 => lang_set(false, cells, values, a),
-        21 => lang_set(true, cells, values, a),
+        16 => ends_set(
+            first,
+            end,
+            second,
+            link,
+            Ask::Less,
+            false,
+            cells,
+            index,
+            values,
+            a,
+            l,
+        ),
+        17 => ends_set(
+            first,
+            end,
+            second,
+            link,
+            Ask::Less,
+            true,
+            cells,
+            index,
+            values,
+            a,
+            l,
+        ),
+        18 => ends_set(
+            first,
+            end,
+            second,
+            link,
+            Ask::LessEq,
+            false,
+            cells,
+            index,
+            values,
+            a,
+            l,
+        ),
+        19 => ends_set(
+            first,
+            end,
+            second,
+            link,
+            Ask::LessEq,
+            true,
+            cells,
+            index,
+            values,
+            a,
+            l,
+        ),
+        20 => lang_set(first, end, false, cells, index, values, a),
+        21 => lang_set(first, end, true, cells, index, values, a),
         22 => facts_set(Pick::From(p), cells),
         23 => facts_set(Pick::Into(p), cells),
         24 => facts_set(Pick::Typed(c), cells),
@@ -96,23 +233,101 @@ fn step_set(cells: &[u16], values: &[i64], plan: &[u16], work: &[u64], k: usize)
 }
 
 // Step k writes its own sixteen words.
-fn run_step(work: &mut [u64], cells: &[u16], values: &[i64], plan: &[u16], k: usize)
-    requires { ⌜ (cellCount ≤ length (now cells)) × (wellFormed (now cells) ≡ true) × (k < 512) × (stepOk (now cells) k (stepAt (now plan) k) ≡ true) × (workCount ≤ length (now work)) ⌝ }
+fn run_step(
+    work: &mut [u64],
+    first: &mut [u64],
+    end: &mut usize,
+    second: &mut [u64],
+    link: &mut usize,
+    cells: &[u16],
+    index: &[u16],
+    values: &[i64],
+    plan: &[u16],
+    k: usize,
+)
+    requires { ⌜ Tables (now cells) (now index) × (k < 512) × (stepOk (now cells) k (stepAt (now plan) k) ≡ true) × Held (now cells) (now end) (now first) × Held (now cells) (now link) (now second) × (workCount ≤ length (now work)) ⌝ }
     ensures { λ _. ⌜ now (work .exit) ≡ put (now (work .entry)) k (stepFrom (now (cells .entry)) (now (values .entry)) (now (plan .entry)) (now (work .entry)) k) ⌝ }
+    ensures { λ _. ⌜ Held (now (cells .entry)) (now (end .exit)) (now (first .exit)) ⌝ }
+    ensures { λ _. ⌜ Held (now (cells .entry)) (now (link .exit)) (now (second .exit)) ⌝ }
 {
-    let set = step_set(cells, values, plan, &work[..], k);
+    let set = step_set(
+        first,
+        end,
+        second,
+        link,
+        cells,
+        index,
+        values,
+        plan,
+        &work[..],
+        k,
+    );
     let at = 16 * k;
     store(&mut work[at..], set);
 }
 
-// All steps, in their order.
+// All steps, in their order, with rows for all nodes that hold nothing yet.
+fn run_all(
+    work: &mut [u64],
+    first: &mut [u64],
+    second: &mut [u64],
+    cells: &[u16],
+    index: &[u16],
+    values: &[i64],
+    plan: &[u16],
+)
+    requires { ⌜ Tables (now cells) (now index) × (planWellFormed (now cells) (now plan) ≡ true) × (workCount ≤ length (now work)) × Empty (now cells) (now first) × Empty (now cells) (now second) ⌝ }
+    ensures { λ _. ⌜ now (work .exit) ≡ filled (now (cells .entry)) (now (values .entry)) (now (plan .entry)) (now (work .entry)) ⌝ }
+{
+    let mut end = NO_END;
+    let mut link = NO_END;
+    let count = step_count(plan);
+    for k in 0..count {
+        run_step(
+            work,
+            first,
+            &mut end,
+            second,
+            &mut link,
+            cells,
+            index,
+            values,
+            plan,
+            k,
+        );
+    }
+}
+
+// All steps, with rows for at most 64 nodes; for as many as there may be. Few nodes need not clear the many rows.
+fn run_few(work: &mut [u64], cells: &[u16], index: &[u16], values: &[i64], plan: &[u16])
+    requires { ⌜ Tables (now cells) (now index) × (planWellFormed (now cells) (now plan) ≡ true) × (workCount ≤ length (now work)) × (nodeCount (now cells) ≤ 64) ⌝ }
+    ensures { λ _. ⌜ now (work .exit) ≡ filled (now (cells .entry)) (now (values .entry)) (now (plan .entry)) (now (work .entry)) ⌝ }
+{
+    let mut first = [0u64; 1024];
+    let mut second = [0u64; 1024];
+    run_all(work, &mut first, &mut second, cells, index, values, plan);
+}
+
+fn run_many(work: &mut [u64], cells: &[u16], index: &[u16], values: &[i64], plan: &[u16])
+    requires { ⌜ Tables (now cells) (now index) × (planWellFormed (now cells) (now plan) ≡ true) × (workCount ≤ length (now work)) ⌝ }
+    ensures { λ _. ⌜ now (work .exit) ≡ filled (now (cells .entry)) (now (values .entry)) (now (plan .entry)) (now (work .entry)) ⌝ }
+{
+    let mut first = [0u64; 16384];
+    let mut second = [0u64; 16384];
+    run_all(work, &mut first, &mut second, cells, index, values, plan);
+}
+
+// All steps, over well-formed tables and a plan that is.
 fn run_steps(work: &mut [u64], cells: &[u16], values: &[i64], plan: &[u16])
     requires { ⌜ (cellCount ≤ length (now cells)) × (wellFormed (now cells) ≡ true) × (planWellFormed (now cells) (now plan) ≡ true) × (workCount ≤ length (now work)) ⌝ }
     ensures { λ _. ⌜ now (work .exit) ≡ filled (now (cells .entry)) (now (values .entry)) (now (plan .entry)) (now (work .entry)) ⌝ }
 {
-    let count = step_count(plan);
-    for k in 0..count {
-        run_step(work, cells, values, plan, k);
+    let mut index = [0u16; INDEX_CELLS];
+    index_table(&mut index, cells);
+    if node_count(cells) <= 64 {
+        run_few(work, cells, &index, values, plan);
+    } else {
+        run_many(work, cells, &index, values, plan);
     }
 }
 

@@ -7,9 +7,9 @@ use mathlib.Core.Path.{_≡_, refl, sym, ap, ap₂, _∙_, subst}
 use native.Mathlib.Omega.{arith}
 use lib.Dec.{eqb, ltb, leb}
 use lib.IntN.{ℤ}
-use lib.ListN.{length, drop}
+use lib.ListN.{length, drop, replicate, length-replicate}
 use borrow.Author.Tests.{eq-eqb, ne-eqb, eqb-true, lt-ltb, le-ltb, ltb-true, le-leb, leb-true}
-use Rattle.base.proofs.Bools.{same-test, and-right, or-cases}
+use Rattle.base.proofs.Bools.{same-test, and-right, or-cases, never-both}
 use Rattle.nodeset.specs.Words.{has}
 use Rattle.model.specs.declared.LinkNo.{LinkNo}
 use Rattle.model.specs.Graph.{Triple}
@@ -19,6 +19,7 @@ use Rattle.model.specs.Shapes.{from, objects, starts}
 use Rattle.tables.specs.Layout as tables-layout
 use Rattle.tables.specs.Layout.{nodeCount, pathCount, subjects, predicates, noNumber}
 use Rattle.tables.specs.Decode.{triplesAt, graphAt, pathAt, endAt}
+use Rattle.tables.specs.WellFormed.{wellFormed}
 use Rattle.tables.specs.WellFormed as tables
 use Rattle.tables.proofs.WellFormed.{sound}
 use Rattle.paths.specs.Facts.{Tables}
@@ -28,8 +29,8 @@ use Rattle.paths.specs.declared.End.the-variants.{Itself, Link, Path}
 use Rattle.paths.proofs.Parts.{part, lent-ok, lent-triples}
 use Rattle.paths.proofs.Nodes.{ends-nodes}
 use Rattle.rows.specs.Rows.{rowsOf}
-use Rattle.rows.proofs.Passes.{length-rows, within-rows, has-row}
-use Rattle.stepsets.specs.Ends.{endNumbered, numberOk, EndOf, endRows, Held}
+use Rattle.rows.proofs.Passes.{length-rows, within-rows, within-zeros, has-row}
+use Rattle.stepsets.specs.Ends.{endNumbered, numberOk, EndOf, endRows, Held, Empty}
 
 -- ---- the ends that a number names
 -- a number below 65,536 is END f of the tables; one from there on a link
@@ -70,6 +71,14 @@ unfolding endIn endOk endNumbered
 end-link x p l e = record { same = λ cs. ap (λ (k : ℕ). along (predicate k)) e ∙ sym (ap (λ (b : Bool). cond b (endAt cs x) (along (predicate (x % 65536)))) (le-ltb x 65536 l)); right = λ cs w. refl }
 
 -- ---- rows that are kept
+-- no END has number 65,534, so that rows with nothing past them may stand for it; zeros are such rows
+pub held-none : (cs : List ℕ) {rows : List ℕ} → wellFormed cs ≡ true → Empty cs rows → Held cs 65534 rows
+unfolding numberOk tables.endOk
+held-none cs {rows} ok h = record { room = h .room; within = h .within; ends = λ w. absurd (never-both w (ap (λ (b : Bool). b || eqb 65534 noNumber) (le-ltb 65534 (pathCount cs) (omega (arith, sound cs ok .paths))))) }
+
+pub empty-zeros : (cs : List ℕ) (words : ℕ) {rows : List ℕ} → 16 * nodeCount cs ≤ words → rows ≡ replicate words 0 → Empty cs rows
+empty-zeros cs words l e = record { room = subst (λ (k : ℕ). 16 * nodeCount cs ≤ k) (sym (ap length e ∙ length-replicate {A = ℕ} words 0)) l; within = within-zeros (nodeCount cs) words e }
+
 -- filled anew
 pub held-anew : (cs : List ℕ) (x y : ℕ) {end : End} {rows now : List ℕ} → Held cs y rows → EndOf x end → now ≡ rowsOf (nodeCount cs) (endsOf (nodeCount cs) (triplesAt cs) (endIn cs end)) (length rows) → Held cs x now
 unfolding endRows

@@ -54,6 +54,9 @@ ghost use Rattle.stepsets.specs.Picks.{nodeOf, picks, picked};
 // Ends have numbers: `id` and path entries those of the tables, links those from here on.
 const FIRST_LINK: usize = 65536;
 
+// A number that no end has: rows that hold nothing.
+pub const NO_END: usize = 65534;
+
 // What is asked of each node: that it is a node; that it meets the test of a form entry; how many of its ends are in a set,
 // that all are; that two end sets are equal, are apart, that each pair is less, or at most; that no two ends in a set share a language.
 pub enum Ask {

@@ -1,11 +1,11 @@
-use Rattle.runner.proofs.Work.{put-tail, length-step}
-use mathlib.Core.Path.{_∙_, ap, refl}
-use mathlib.Core.List.{List}
+-- `run_step` meets its contract: the step's words are stored from 16 times its number on.
 use Prim.Native.Nat.{ℕ, _*_, _-_}
+use mathlib.Core.List.{List}
+use mathlib.Core.Path.{refl, ap, _∙_}
 use native.Mathlib.Omega.{arith}
-use denote.Ref.{now}
 use lib.ListN.{length}
 use Rattle.runner.specs.Steps.{put}
+use Rattle.runner.proofs.Work.{put-tail, length-step}
 use borrow.Author.Needs.{needs}
 use Rattle.runner.proofs.run_step.Statement.{statement}
 use Rattle.runner.proofs.run_step.Tie as tie
@@ -34,13 +34,22 @@ store-requires c κs = search needs
 same-length : tie.Need-same-length
 same-length c = search needs
 
+same-length-2 : tie.Need-same-length-2
+same-length-2 c = search needs
+
+same-length-3 : tie.Need-same-length-3
+same-length-3 c = search needs
+
 returns : tie.Need-returns
 returns c =
-    let ws : List ℕ = now (c .before .before .before .before .before .before .before .before .before .args .work) in
-    let set : List ℕ = c .before .before .before .before .step-set .result .words in
-    let e = c .before .before .before .before .step-set .ensures in
-    put-tail ws set (c .before .before .before .before .before .before .before .before .before .args .k) (length ws - 16 * c .before .before .before .before .before .before .before .before .before .args .k) (length-step (now (c .before .before .before .before .before .before .before .before .before .args .cells)) (now (c .before .before .before .before .before .before .before .before .before .args .values)) (now (c .before .before .before .before .before .before .before .before .before .args .plan)) ws (c .before .before .before .before .before .before .before .before .before .args .k) e) (omega (arith, c .before .before .before .before .before .before .before .before .before .pre .2, c .before .before .before .before .before .before .before .before .before .pre .4)) refl (c .before .before .store .ensures)
-    ∙ ap (put ws (c .before .before .before .before .before .before .before .before .before .args .k)) e
+    let a = c .before .before .before .before .before .before .before .before .before .before .before .before .before .before .before .before .before .before .before .before .args in
+    let pre = c .before .before .before .before .before .before .before .before .before .before .before .before .before .before .before .before .before .before .before .before .pre in
+    let ws : List ℕ = a .work .now in
+    let s = c .before .before .before .before .before .before .before .before .step-set in (
+      put-tail ws (s .result .words) (a .k) (length ws - 16 * a .k) (length-step (a .cells .now) (a .values .now) (a .plan .now) ws (a .k) (s .ensures .0)) (omega (arith, pre .1, pre .5)) refl (c .before .before .store .ensures)
+          ∙ ap (put ws (a .k)) (s .ensures .0),
+      (s .ensures .1 .0, s .ensures .1 .1),
+    )
 
 pub run-step-spec : {M : Type 1} → statement M
 run-step-spec =
@@ -54,4 +63,6 @@ run-step-spec =
     part-store-end
     store-requires
     same-length
+    same-length-2
+    same-length-3
     returns)
