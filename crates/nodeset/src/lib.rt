@@ -19,6 +19,7 @@ ghost use mathlib.Core.Bool.{false};
 ghost use Prim.Native.Nat.{ℕ, _+_, _*_};
 ghost use lib.ListN.{getD, set};
 ghost use lib.Dec.{ltb};
+ghost use lib.Count.{ones};
 ghost use Rattle.base.specs.Bounded.{size};
 ghost use Rattle.nodeset.specs.Words.{bit, has, both, wordOf, wordsOf, with, union, intersection, difference, stored};
 ghost use Rattle.nodeset.specs.Members.{nextFrom};
@@ -104,13 +105,23 @@ pub fn subtract_into(into: &mut [u64], from: &[u64])
     combine_into(into, from, Operation::Difference);
 }
 
+// The ones of a word. Most words have none, and counting is dear on machines without an instruction for it.
+fn ones_of(x: u64) -> usize
+    ensures { λ r. ⌜ r ≡ ones x ⌝ }
+{
+    if x == 0 {
+        return 0;
+    }
+    u64::count_ones(x) as usize
+}
+
 // How many numbers below 1,024 are in both sets: the ones of sixteen ANDed words.
 pub fn count_both(a: &[u64], b: &[u64]) -> usize
     ensures { λ r. ⌜ r ≡ size (both (now (a .entry)) (now (b .entry))) 1024 ⌝ }
 {
     let mut total: usize = 0;
     for i in 0..16 {
-        total += u64::count_ones(word(a, i) & word(b, i)) as usize;
+        total += ones_of(word(a, i) & word(b, i));
     }
     total
 }

@@ -17,18 +17,18 @@ Inv-loop a b total₀ i₀ total i = (i ≤ 16) × (total ≡ onesBoth a b i)
 abbrev μ-loop : tie.MeasureT-loop
 μ-loop a b total₀ i₀ total i = 16 - i
 
-abbrev args : tie.After-word2 Inv-loop μ-loop → tie.Start Inv-loop μ-loop
-args c = c .before .before .before .before .before .before
+abbrev args : tie.After-ones-of Inv-loop μ-loop → tie.Start Inv-loop μ-loop
+args c = c .before .before .before .before .before .before .before
 
 -- the words counted, one word more, and how many ones that can be
-grown : (c : tie.After-word2 Inv-loop μ-loop) → c .before .before .before .loop .total + ones (bitAnd (c .before .word .result) (c .word2 .result)) ≡ onesBoth (args c .args .a .now) (args c .args .b .now) (c .before .before .before .loop .i + 1)
+grown : (c : tie.After-ones-of Inv-loop μ-loop) → c .before .before .before .before .loop .total + c .ones-of .result ≡ onesBoth (args c .args .a .now) (args c .args .b .now) (c .before .before .before .before .loop .i + 1)
 unfolding onesBoth
 grown c =
-    ap₂ (λ (x y : ℕ). x + y) (c .before .before .before .loop .inv .1) (ap₂ (λ (x y : ℕ). ones (bitAnd x y)) (c .before .word .ensures) (c .word2 .ensures))
-    ∙ ap (onesBoth (args c .args .a .now) (args c .args .b .now)) (sym (add-one (c .before .before .before .loop .i)))
+    ap₂ (λ (x y : ℕ). x + y) (c .before .before .before .before .loop .inv .1) (c .ones-of .ensures ∙ ap₂ (λ (x y : ℕ). ones (bitAnd x y)) (c .before .before .word .ensures) (c .before .word2 .ensures))
+    ∙ ap (onesBoth (args c .args .a .now) (args c .args .b .now)) (sym (add-one (c .before .before .before .before .loop .i)))
 
-bound : (c : tie.After-word2 Inv-loop μ-loop) → onesBoth (args c .args .a .now) (args c .args .b .now) (c .before .before .before .loop .i + 1) ≤ (c .before .before .before .loop .i + 1) * 64
-bound c = onesBoth-le (args c .args .a .now) (args c .args .b .now) (c .before .before .before .loop .i + 1) (λ i. c .before .before .before .before .shared-slice-known2 .given i .fits)
+bound : (c : tie.After-ones-of Inv-loop μ-loop) → onesBoth (args c .args .a .now) (args c .args .b .now) (c .before .before .before .before .loop .i + 1) ≤ (c .before .before .before .before .loop .i + 1) * 64
+bound c = onesBoth-le (args c .args .a .now) (args c .args .b .now) (c .before .before .before .before .loop .i + 1) (λ i. c .before .before .before .before .before .shared-slice-known2 .given i .fits)
 
 loop-holds : tie.Need-loop-holds Inv-loop μ-loop
 unfolding onesBoth
@@ -40,8 +40,8 @@ word-requires c κs = search needs
 word-requires-2 : tie.Need-word-requires-2 Inv-loop μ-loop
 word-requires-2 c κs = search needs
 
-cast-total : tie.Need-cast-total Inv-loop μ-loop
-cast-total c = omega (arith, bound c, grown c)
+ones-of-requires : tie.Need-ones-of-requires Inv-loop μ-loop
+ones-of-requires c κs = search needs
 
 add-total : tie.Need-add-total Inv-loop μ-loop
 add-total c = omega (arith, bound c, grown c)
@@ -70,7 +70,7 @@ count-both-spec =
     loop-holds
     word-requires
     word-requires-2
-    cast-total
+    ones-of-requires
     add-total
     add-i
     loop-less
