@@ -1,5 +1,5 @@
 -- Single items, case by case: what the reading gives, by the tests that the code makes.
-use Prim.Native.Nat.{ℕ, zero, suc, _+_, _-_, _*_, _/_, _<_, _≤_}
+use Prim.Native.Nat.{ℕ, zero, suc, _+_, _-_, _*_, _<_, _≤_}
 use mathlib.Core.Path.{_≡_, refl, sym, ap, subst, _∙_}
 use mathlib.Core.List.{List, [], _∷_, map}
 use mathlib.Core.Bool.{Bool, true, false, not, cond}
@@ -85,15 +85,6 @@ pool-within n code.Pool.Links l = omega arith
 pool-within n code.Pool.Types l = omega arith
 pool-within n code.Pool.Langs l = omega arith
 pool-within n code.Pool.Shapes l = omega arith
-
--- and its places in the index are few
-pub pool-places : (n : Counts) (p : code.Pool) → Limits n → (poolBase (poolOf p) / 32 + capacity (poolOf p) ≤ 65536) × (1408 + poolBase (poolOf p) / 32 + countOf n (poolOf p) ≤ 65536) × (0 < capacity (poolOf p))
-unfolding poolBase capacity
-pool-places n code.Pool.Nodes l = (omega arith, omega arith, omega arith)
-pool-places n code.Pool.Links l = (omega arith, omega arith, omega arith)
-pool-places n code.Pool.Types l = (omega arith, omega arith, omega arith)
-pool-places n code.Pool.Langs l = (omega arith, omega arith, omega arith)
-pool-places n code.Pool.Shapes l = (omega arith, omega arith, omega arith)
 
 pub count-limit : (n : Counts) (p : Pool) → Limits n → countOf n p ≤ 1024
 count-limit n nodes l = omega arith

@@ -1,7 +1,8 @@
 use native.Mathlib.Omega.{arith}
 use borrow.Author.Needs.{needs}
 use Rattle.itemreader.specs.Answers.{poolOf}
-use Rattle.itemreader.proofs.Items.{pool-within, pool-places}
+use Rattle.itemreader.proofs.Items.{pool-within}
+use Rattle.itemreader.proofs.Places.{pool-inside, count-within}
 use Rattle.itemreader.proofs.look_up.Statement.{statement}
 use Rattle.itemreader.proofs.look_up.Tie as tie
 
@@ -21,9 +22,11 @@ find-chained-requires : tie.Need-find-chained-requires
 find-chained-requires c κs =
     let s = c .before .before .before .before .before .before in
     let w = pool-within (s .args .counts) (s .args .pool) (s .pre .4) in
-    let l = pool-places (s .args .counts) (s .args .pool) (s .pre .4) in
+    let l = pool-inside (poolOf (s .args .pool)) in
+    let f = l .0 in
+    let k = count-within (s .args .counts) (poolOf (s .args .pool)) (s .pre .4) in
     let n = s .pre .3 in
-    rw (c .before .before .base .ensures, c .before .count .ensures, c .most .ensures) (s .pre .0, s .pre .1, s .pre .2, omega arith, l .0, l .1, l .2, s .pre .5 .chains (poolOf (s .args .pool)))
+    rw (c .before .before .base .ensures, c .before .count .ensures, c .most .ensures) (s .pre .0, s .pre .1, s .pre .2, omega arith, omega arith, omega arith, l .1, s .pre .5 .chains (poolOf (s .args .pool)))
 
 returns : tie.Need-returns
 returns c = rw (c .find-chained .ensures, c .before .before .before .base .ensures, c .before .before .count .ensures)
