@@ -120,7 +120,7 @@ fn index_pool(index: &mut [u16], names: &[u8], before: Counts, after: Counts, po
     }
 }
 
-// Of each pool.
+// The new names of all pools join their chains.
 fn index_new(index: &mut [u16], names: &[u8], before: Counts, after: Counts)
     requires { ⌜ (2816 ≤ length (now index)) × (45056 ≤ length (now names)) × Limits after ⌝ }
     ensures { λ _. ⌜ now (index .exit) ≡ joinedAll (now (names .entry)) before after (now (index .entry)) ⌝ }
