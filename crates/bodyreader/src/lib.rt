@@ -32,7 +32,7 @@ ghost use Rattle.model.specs.Shapes.{Shape};
 ghost use Rattle.model.specs.Books.{Book, shape};
 ghost use Rattle.grammar.specs.Syntax.{linkL, shapeL, lineFamily};
 ghost use Rattle.grammar.specs.Reading.{lineAt};
-ghost use Rattle.itemreader.specs.Held.{Limits, Held, Kinds};
+ghost use Rattle.itemreader.specs.Held.{Limits, Held, Kinds, Indexed};
 ghost use Rattle.linereader.specs.Storing.{lineEnd, lineBody, Done, Fits};
 ghost use Rattle.bodyreader.specs.Storing.{shaped, FormHeld};
 
@@ -79,14 +79,15 @@ fn shape_line(
     names: &mut [u8],
     cells: &mut [u16],
     values: &mut [i64],
+    index: &[u16],
     counts: Counts,
     book: &[u8],
     at: usize,
 ) -> LineAnswer
-    requires { ⌜ (at ≤ length (now book)) × (45056 ≤ length (now names)) × (16602 ≤ length (now cells)) × (1136 ≤ length (now values)) × Limits counts × Fits counts × ((a : Book) × Held (now names) counts a) ⌝ }
+    requires { ⌜ (at ≤ length (now book)) × (45056 ≤ length (now names)) × (16602 ≤ length (now cells)) × (1136 ≤ length (now values)) × Limits counts × Fits counts × ((a : Book) × Held (now names) counts a) × Indexed (now names) counts (now index) ⌝ }
     ensures { λ r. ⌜ ((a : Book) → Held (now (names .entry)) counts a → Done a counts (lineBody (now (book .entry)) a shapeL at) r (now (names .entry)) (now (names .exit)) (now (cells .entry)) (now (cells .exit)) (now (values .entry)) (now (values .exit))) ⌝ }
 {
-    let new = read_new(names, counts, Pool::Shapes, book, at);
+    let new = read_new(names, index, counts, Pool::Shapes, book, at);
     let Item::Is(_, end) = new else {
         return LineAnswer::No(refusal(new));
     };
@@ -95,7 +96,7 @@ fn shape_line(
         paths: counts.paths,
         items: counts.items,
     };
-    match read_form(cells, values, names, counts, book, end, 31, n, 0) {
+    match read_form(cells, values, names, index, counts, book, end, 31, n, 0) {
         Form::No(k) => LineAnswer::No(k),
         Form::Is(m, last) => shape_end(names, cells, counts, book, at, end, m, last),
     }
@@ -106,26 +107,27 @@ fn read_body(
     names: &mut [u8],
     cells: &mut [u16],
     values: &mut [i64],
+    index: &[u16],
     counts: Counts,
     k: usize,
     book: &[u8],
     at: usize,
 ) -> LineAnswer
-    requires { ⌜ (at ≤ length (now book)) × (k < 11) × (45056 ≤ length (now names)) × (16602 ≤ length (now cells)) × (1136 ≤ length (now values)) × Limits counts × Fits counts × ((a : Book) × Held (now names) counts a) ⌝ }
+    requires { ⌜ (at ≤ length (now book)) × (k < 11) × (45056 ≤ length (now names)) × (16602 ≤ length (now cells)) × (1136 ≤ length (now values)) × Limits counts × Fits counts × ((a : Book) × Held (now names) counts a) × Indexed (now names) counts (now index) ⌝ }
     ensures { λ r. ⌜ ((a : Book) → Held (now (names .entry)) counts a → Kinds (now (cells .entry)) a → Done a counts (lineBody (now (book .entry)) a (getD (lineFamily .codes) k linkL) at) r (now (names .entry)) (now (names .exit)) (now (cells .entry)) (now (cells .exit)) (now (values .entry)) (now (values .exit))) ⌝ }
 {
     match k {
-        0 => name_line(names, counts, Pool::Links, book, at),
-        1 => name_line(names, counts, Pool::Types, book, at),
-        2 => name_line(names, counts, Pool::Langs, book, at),
-        3 => resource_line(names, cells, values, counts, 0, book, at),
-        4 => resource_line(names, cells, values, counts, 1, book, at),
-        5 => number_line(names, cells, values, counts, book, at),
-        6 => text_line(names, cells, values, counts, book, at),
-        7 => words_line(names, cells, values, counts, book, at),
-        8 => fact_line(cells, names, counts, book, at),
-        9 => shape_line(names, cells, values, counts, book, at),
-        _ => rule_line(cells, names, counts, book, at),
+        0 => name_line(names, index, counts, Pool::Links, book, at),
+        1 => name_line(names, index, counts, Pool::Types, book, at),
+        2 => name_line(names, index, counts, Pool::Langs, book, at),
+        3 => resource_line(names, cells, values, index, counts, 0, book, at),
+        4 => resource_line(names, cells, values, index, counts, 1, book, at),
+        5 => number_line(names, cells, values, index, counts, book, at),
+        6 => text_line(names, cells, values, index, counts, book, at),
+        7 => words_line(names, cells, values, index, counts, book, at),
+        8 => fact_line(cells, names, index, counts, book, at),
+        9 => shape_line(names, cells, values, index, counts, book, at),
+        _ => rule_line(cells, names, index, counts, book, at),
     }
 }
 
@@ -134,16 +136,17 @@ pub fn read_line(
     names: &mut [u8],
     cells: &mut [u16],
     values: &mut [i64],
+    index: &[u16],
     counts: Counts,
     book: &[u8],
     at: usize,
 ) -> LineAnswer
-    requires { ⌜ (at ≤ length (now book)) × (45056 ≤ length (now names)) × (16602 ≤ length (now cells)) × (1136 ≤ length (now values)) × Limits counts × Fits counts × ((a : Book) × Held (now names) counts a) ⌝ }
+    requires { ⌜ (at ≤ length (now book)) × (45056 ≤ length (now names)) × (16602 ≤ length (now cells)) × (1136 ≤ length (now values)) × Limits counts × Fits counts × ((a : Book) × Held (now names) counts a) × Indexed (now names) counts (now index) ⌝ }
     ensures { λ r. ⌜ ((a : Book) → Held (now (names .entry)) counts a → Kinds (now (cells .entry)) a → Done a counts (lineAt (now (book .entry)) a at) r (now (names .entry)) (now (names .exit)) (now (cells .entry)) (now (cells .exit)) (now (values .entry)) (now (values .exit))) ⌝ }
 {
     match line_head(book, at, 1, false) {
         Head::Bare => LineAnswer::No(2),
         Head::No(k) => LineAnswer::No(k),
-        Head::Word(k, end) => read_body(names, cells, values, counts, k, book, end),
+        Head::Word(k, end) => read_body(names, cells, values, index, counts, k, book, end),
     }
 }

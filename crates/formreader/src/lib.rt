@@ -25,7 +25,7 @@ ghost use Rattle.model.specs.Books.{Book};
 ghost use Rattle.grammar.specs.Syntax.{path, form};
 ghost use Rattle.grammar.specs.Reading.{Begun, formBegun, argAt, readersAt};
 ghost use Rattle.itemreader.specs.Answers.{restAt};
-ghost use Rattle.itemreader.specs.Held.{Limits, Held};
+ghost use Rattle.itemreader.specs.Held.{Limits, Held, Indexed};
 ghost use Rattle.leafreader.specs.Forms.{begunOf, FormRead, closedForm, Within, formBody};
 ghost use Rattle.formreader.specs.Frames.{Quantifier, quantify, codeOf, lowOf, highOf, OpenRead, Opened, putChild};
 
@@ -50,6 +50,7 @@ pub enum Opening {
 fn open_path(
     cells: &mut [u16],
     names: &[u8],
+    index: &[u16],
     counts: Counts,
     book: &[u8],
     at: usize,
@@ -60,13 +61,13 @@ fn open_path(
     low: u16,
     high: u16,
 ) -> Opening
-    requires { ⌜ (at ≤ length (now book)) × (45056 ≤ length (now names)) × (16602 ≤ length (now cells)) × (0 < left) × (n .forms + up < 112) × (n .paths ≤ 128) × Limits counts ⌝ }
+    requires { ⌜ (at ≤ length (now book)) × (45056 ≤ length (now names)) × (16602 ≤ length (now cells)) × (0 < left) × (n .forms + up < 112) × (n .paths ≤ 128) × Limits counts × Indexed (now names) counts (now index) ⌝ }
     ensures { λ r. ⌜ ((a : Book) → Held (now (names .entry)) counts a → (b : Begun) → b .paths ≡ n .paths → (q : Quantifier) → code ≡ codeOf q → low ≡ lowOf q → high ≡ highOf q → (vs : List ℤ) → OpenRead (now (book .entry)) a (readersAt (now (book .entry)) a (left - 1)) b (restAt (now (book .entry)) a (readersAt (now (book .entry)) a (left - 1)) true (path ∷ form ∷ []) (λ xs. quantify q (xs .0) (xs .1 .0)) b at) (begunOf n) (now (cells .entry)) (now (cells .exit)) vs vs r) ⌝ }
     ensures { λ r. ⌜ Opened left up (length (now (book .entry))) n r ⌝ }
     ensures { λ _. ⌜ drop 16602 (now (cells .exit)) ≡ drop 16602 (now (cells .entry)) ⌝ }
 {
     let paths = n.paths;
-    match read_path(cells, names, counts, book, at, left - 1, paths, 0) {
+    match read_path(cells, names, index, counts, book, at, left - 1, paths, 0) {
         Item::No(k) => Opening::Whole(Form::No(k)),
         Item::Is(m, next) => Opening::Part(Front {
             code: code,
@@ -83,6 +84,7 @@ fn open_path(
 fn open_count(
     cells: &mut [u16],
     names: &[u8],
+    index: &[u16],
     counts: Counts,
     book: &[u8],
     at: usize,
@@ -90,7 +92,7 @@ fn open_count(
     n: Ended,
     up: usize,
 ) -> Opening
-    requires { ⌜ (at ≤ length (now book)) × (45056 ≤ length (now names)) × (16602 ≤ length (now cells)) × (0 < left) × (n .forms + up < 112) × (n .paths ≤ 128) × Limits counts ⌝ }
+    requires { ⌜ (at ≤ length (now book)) × (45056 ≤ length (now names)) × (16602 ≤ length (now cells)) × (0 < left) × (n .forms + up < 112) × (n .paths ≤ 128) × Limits counts × Indexed (now names) counts (now index) ⌝ }
     ensures { λ r. ⌜ ((a : Book) → Held (now (names .entry)) counts a → (b : Begun) → b .paths ≡ n .paths → (vs : List ℤ) → OpenRead (now (book .entry)) a (readersAt (now (book .entry)) a (left - 1)) b (formBody (now (book .entry)) a (left - 1) 12 b at) (begunOf n) (now (cells .entry)) (now (cells .exit)) vs vs r) ⌝ }
     ensures { λ r. ⌜ Opened left up (length (now (book .entry))) n r ⌝ }
     ensures { λ _. ⌜ drop 16602 (now (cells .exit)) ≡ drop 16602 (now (cells .entry)) ⌝ }
@@ -102,6 +104,7 @@ fn open_count(
             Item::Is(high, next) => open_path(
                 cells,
                 names,
+                index,
                 counts,
                 book,
                 next,
@@ -121,6 +124,7 @@ fn open_word(
     cells: &mut [u16],
     values: &mut [i64],
     names: &[u8],
+    index: &[u16],
     counts: Counts,
     book: &[u8],
     code: usize,
@@ -129,7 +133,7 @@ fn open_word(
     n: Ended,
     up: usize,
 ) -> Opening
-    requires { ⌜ (at ≤ length (now book)) × (45056 ≤ length (now names)) × (16602 ≤ length (now cells)) × (1136 ≤ length (now values)) × (0 < left) × (n .forms + up < 112) × (n .paths ≤ 128) × (n .items ≤ 128) × Limits counts × (code < 20) ⌝ }
+    requires { ⌜ (at ≤ length (now book)) × (45056 ≤ length (now names)) × (16602 ≤ length (now cells)) × (1136 ≤ length (now values)) × (0 < left) × (n .forms + up < 112) × (n .paths ≤ 128) × (n .items ≤ 128) × Limits counts × (code < 20) × Indexed (now names) counts (now index) ⌝ }
     ensures { λ r. ⌜ ((a : Book) → Held (now (names .entry)) counts a → (b : Begun) → b .paths ≡ n .paths → b .items ≡ n .items → OpenRead (now (book .entry)) a (readersAt (now (book .entry)) a (left - 1)) b (formBody (now (book .entry)) a (left - 1) code b at) (begunOf n) (now (cells .entry)) (now (cells .exit)) (now (values .entry)) (now (values .exit)) r) ⌝ }
     ensures { λ r. ⌜ Opened left up (length (now (book .entry))) n r ⌝ }
     ensures { λ _. ⌜ drop 16602 (now (cells .exit)) ≡ drop 16602 (now (cells .entry)) ⌝ }
@@ -144,12 +148,13 @@ fn open_word(
             paths: n.paths,
             next: at,
         }),
-        12 => open_count(cells, names, counts, book, at, left, n, up),
-        13 => open_path(cells, names, counts, book, at, left, n, up, 14, 0, 0),
+        12 => open_count(cells, names, index, counts, book, at, left, n, up),
+        13 => open_path(cells, names, index, counts, book, at, left, n, up, 14, 0, 0),
         _ => Opening::Whole(read_leaf(
             cells,
             values,
             names,
+            index,
             counts,
             book,
             code,
@@ -166,6 +171,7 @@ fn open_form(
     cells: &mut [u16],
     values: &mut [i64],
     names: &[u8],
+    index: &[u16],
     counts: Counts,
     book: &[u8],
     at: usize,
@@ -173,7 +179,7 @@ fn open_form(
     n: Ended,
     up: usize,
 ) -> Opening
-    requires { ⌜ (at ≤ length (now book)) × (45056 ≤ length (now names)) × (16602 ≤ length (now cells)) × (1136 ≤ length (now values)) × (n .forms + up ≤ 112) × (n .paths ≤ 128) × (n .items ≤ 128) × Limits counts ⌝ }
+    requires { ⌜ (at ≤ length (now book)) × (45056 ≤ length (now names)) × (16602 ≤ length (now cells)) × (1136 ≤ length (now values)) × (n .forms + up ≤ 112) × (n .paths ≤ 128) × (n .items ≤ 128) × Limits counts × Indexed (now names) counts (now index) ⌝ }
     ensures { λ r. ⌜ ((a : Book) → Held (now (names .entry)) counts a → (b : Begun) → b .forms ≡ n .forms + up → b .paths ≡ n .paths → b .items ≡ n .items → OpenRead (now (book .entry)) a (readersAt (now (book .entry)) a (left - 1)) (formBegun b) (argAt (now (book .entry)) a (readersAt (now (book .entry)) a left) form b at) (begunOf n) (now (cells .entry)) (now (cells .exit)) (now (values .entry)) (now (values .exit)) r) ⌝ }
     ensures { λ r. ⌜ Opened left up (length (now (book .entry))) n r ⌝ }
     ensures { λ _. ⌜ drop 16602 (now (cells .exit)) ≡ drop 16602 (now (cells .entry)) ⌝ }
@@ -187,7 +193,19 @@ fn open_form(
         Head::Bare => Opening::Whole(read_true(cells, book, at + 1, n, up)),
         Head::No(k) => Opening::Whole(Form::No(k)),
         Head::Word(code, end) => {
-            open_word(cells, values, names, counts, book, code, end, left, n, up)
+            open_word(
+                cells,
+                values,
+                names,
+                index,
+                counts,
+                book,
+                code,
+                end,
+                left,
+                n,
+                up,
+            )
         }
     }
 }
@@ -220,6 +238,7 @@ pub fn read_form(
     cells: &mut [u16],
     values: &mut [i64],
     names: &[u8],
+    index: &[u16],
     counts: Counts,
     book: &[u8],
     at: usize,
@@ -227,13 +246,13 @@ pub fn read_form(
     n: Ended,
     up: usize,
 ) -> Form
-    requires { ⌜ (at ≤ length (now book)) × (45056 ≤ length (now names)) × (16602 ≤ length (now cells)) × (1136 ≤ length (now values)) × (n .forms + up ≤ 112) × (n .paths ≤ 128) × (n .items ≤ 128) × Limits counts ⌝ }
+    requires { ⌜ (at ≤ length (now book)) × (45056 ≤ length (now names)) × (16602 ≤ length (now cells)) × (1136 ≤ length (now values)) × (n .forms + up ≤ 112) × (n .paths ≤ 128) × (n .items ≤ 128) × Limits counts × Indexed (now names) counts (now index) ⌝ }
     ensures { λ r. ⌜ ((a : Book) → Held (now (names .entry)) counts a → (b : Begun) → b .forms ≡ n .forms + up → b .paths ≡ n .paths → b .items ≡ n .items → FormRead (argAt (now (book .entry)) a (readersAt (now (book .entry)) a left) form b at) (begunOf n) (now (cells .entry)) (now (cells .exit)) (now (values .entry)) (now (values .exit)) r) ⌝ }
     ensures { λ r. ⌜ Within (n .forms) up (length (now (book .entry))) r ⌝ }
     ensures { λ _. ⌜ drop 16602 (now (cells .exit)) ≡ drop 16602 (now (cells .entry)) ⌝ }
     ensures { λ _. ⌜ drop 1136 (now (values .exit)) ≡ drop 1136 (now (values .entry)) ⌝ }
 {
-    match open_form(cells, values, names, counts, book, at, left, n, up) {
+    match open_form(cells, values, names, index, counts, book, at, left, n, up) {
         Opening::Whole(form) => form,
         Opening::Part(p) => {
             let m = Ended {
@@ -241,16 +260,16 @@ pub fn read_form(
                 paths: p.paths,
                 items: n.items,
             };
-            let depth = left - 1;
-            let begun = up + 1;
-            let first = read_form(cells, values, names, counts, book, p.next, depth, m, begun);
+            let d = left - 1;
+            let u = up + 1;
+            let first = read_form(cells, values, names, index, counts, book, p.next, d, m, u);
             let Form::Is(l, next) = first else {
                 return first;
             };
             if 4 < p.code {
                 return close_child(cells, book, next, l, p);
             }
-            let second = read_form(cells, values, names, counts, book, next, depth, l, begun);
+            let second = read_form(cells, values, names, index, counts, book, next, d, l, u);
             let Form::Is(k, last) = second else {
                 return second;
             };

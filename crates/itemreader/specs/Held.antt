@@ -1,15 +1,16 @@
 -- The names and counts that the reader holds, for the lines that it has read.
-use Prim.Native.Nat.{ℕ, _+_, _≤_, _<_}
+use Prim.Native.Nat.{ℕ, _+_, _/_, _≤_, _<_}
 use mathlib.Core.Path.{_≡_}
 use mathlib.Core.List.{List}
 use mathlib.Core.Bool.{true}
 use lib.Dec.{leb}
 use lib.ListN.{length, getD}
-use Rattle.text.specs.Pool.{find, indexOf}
+use Rattle.chains.specs.Chains.{Chained}
+use Rattle.text.specs.Pool.{find, indexOf, nameKey}
 use Rattle.model.specs.Graph.{iri}
 use Rattle.model.specs.Books.{Name, Book, Pool, nodes, links, types, langs, shapes, names, collect, newTerms, newTriples, rules}
 use Rattle.model.specs.Sizes.{formsIn, pathsIn, itemsIn}
-use Rattle.model.specs.Valid.{isResource}
+use Rattle.model.specs.Valid.{capacity, isResource}
 use Rattle.tables.specs.Layout.{nodeKinds}
 use Rattle.grammar.specs.Valid.{wellNamed}
 use Rattle.stores.specs.Lines.{poolBase}
@@ -43,3 +44,8 @@ pub record Held (ns : List ℕ) (n : Counts) (above : Book) : Type 0 where
 -- the kinds of the nodes among the cells: 0 and 1 are things and blank nodes
 abbrev pub Kinds : List ℕ → Book → Type 0
 Kinds cs above = (v : ℕ) → v < length (names nodes above) → leb (getD cs (nodeKinds + v) 0) 1 ≡ isResource (getD (collect newTerms above) v iri)
+
+-- the names of each pool in chains by their keys: where the chains begin, at the pool's place among 1,408 names, and what
+-- follows each name 1,408 after its place
+pub record Indexed (ns : List ℕ) (n : Counts) (index : List ℕ) : Type 0 where
+  pub chains : (p : Pool) → Chained (nameKey ns (poolBase p) (capacity p)) (countOf n p) (capacity p) (poolBase p / 32) (1408 + poolBase p / 32) index

@@ -5,6 +5,7 @@ use text::Found;
 use text::Number;
 use text::bound_at;
 use text::byte;
+use text::find_chained;
 use text::find_name;
 use text::is_name;
 use text::is_word;
@@ -27,7 +28,7 @@ ghost use Rattle.model.specs.Valid.{capacity};
 ghost use Rattle.encoding.specs.Flatten.{kindCode, upperNumber};
 ghost use Rattle.stores.specs.Lines.{poolBase};
 ghost use Rattle.itemreader.specs.Answers.{poolOf, same, itemOf, valueOf, Reads, Below, Counted, Inside, itemsAfter, Listed, headAt, Headed, wordsOf};
-ghost use Rattle.itemreader.specs.Held.{countOf, Limits, Held, Kinds};
+ghost use Rattle.itemreader.specs.Held.{countOf, Limits, Held, Kinds, Indexed};
 
 pub enum Pool {
     Nodes,
@@ -125,16 +126,43 @@ fn is_well_named(pool: Pool, book: &[u8], at: usize, end: usize) -> bool
 }
 
 // The number of the name from at to end in its pool.
-fn look_up(names: &[u8], counts: Counts, pool: Pool, book: &[u8], at: usize, end: usize) -> Found
-    requires { ⌜ (at ≤ end) × (end ≤ length (now book)) × (end - at ≤ 31) × (45056 ≤ length (now names)) × Limits counts ⌝ }
+fn look_up(
+    names: &[u8],
+    index: &[u16],
+    counts: Counts,
+    pool: Pool,
+    book: &[u8],
+    at: usize,
+    end: usize,
+) -> Found
+    requires { ⌜ (at ≤ end) × (end ≤ length (now book)) × (end - at ≤ 31) × (45056 ≤ length (now names)) × Limits counts × Indexed (now names) counts (now index) ⌝ }
     ensures { λ r. ⌜ r ≡ find (now (names .entry)) (poolBase (poolOf pool)) (countOf counts (poolOf pool)) (slice at end (now (book .entry))) ⌝ }
 {
-    find_name(names, base(pool), count(counts, pool), book, at, end)
+    let first = base(pool);
+    find_chained(
+        names,
+        first,
+        count(counts, pool),
+        index,
+        first / 32,
+        1408 + first / 32,
+        most(pool),
+        book,
+        at,
+        end,
+    )
 }
 
 // A name used: a space, and a name of the pool that is defined above.
-pub fn read_used(names: &[u8], counts: Counts, pool: Pool, book: &[u8], at: usize) -> Item
-    requires { ⌜ (at ≤ length (now book)) × (45056 ≤ length (now names)) × Limits counts ⌝ }
+pub fn read_used(
+    names: &[u8],
+    index: &[u16],
+    counts: Counts,
+    pool: Pool,
+    book: &[u8],
+    at: usize,
+) -> Item
+    requires { ⌜ (at ≤ length (now book)) × (45056 ≤ length (now names)) × Limits counts × Indexed (now names) counts (now index) ⌝ }
     ensures { λ r. ⌜ ((a : Book) → Held (now (names .entry)) counts a → Reads (now (book .entry)) a (used (poolOf pool)) same at r) ⌝ }
     ensures { λ r. ⌜ Below (countOf counts (poolOf pool)) (length (now (book .entry))) r ⌝ }
 {
@@ -145,15 +173,22 @@ pub fn read_used(names: &[u8], counts: Counts, pool: Pool, book: &[u8], at: usiz
     if !is_well_named(pool, book, at + 1, end) {
         return Item::No(2);
     }
-    match look_up(names, counts, pool, book, at + 1, end) {
+    match look_up(names, index, counts, pool, book, at + 1, end) {
         Found::At(k) => Item::Is(k, end),
         Found::Nothing => Item::No(5),
     }
 }
 
 // A name that is new in its pool: a space and the name, by its length.
-pub fn read_new(names: &[u8], counts: Counts, pool: Pool, book: &[u8], at: usize) -> Item
-    requires { ⌜ (at ≤ length (now book)) × (45056 ≤ length (now names)) × Limits counts ⌝ }
+pub fn read_new(
+    names: &[u8],
+    index: &[u16],
+    counts: Counts,
+    pool: Pool,
+    book: &[u8],
+    at: usize,
+) -> Item
+    requires { ⌜ (at ≤ length (now book)) × (45056 ≤ length (now names)) × Limits counts × Indexed (now names) counts (now index) ⌝ }
     ensures { λ r. ⌜ ((a : Book) → Held (now (names .entry)) counts a → Reads (now (book .entry)) a (new (poolOf pool)) length at r) ⌝ }
     ensures { λ r. ⌜ Below 32 (length (now (book .entry))) r ⌝ }
 {
@@ -164,7 +199,7 @@ pub fn read_new(names: &[u8], counts: Counts, pool: Pool, book: &[u8], at: usize
     if !is_well_named(pool, book, at + 1, end) {
         return Item::No(2);
     }
-    if let Found::At(_) = look_up(names, counts, pool, book, at + 1, end) {
+    if let Found::At(_) = look_up(names, index, counts, pool, book, at + 1, end) {
         return Item::No(6);
     }
     if most(pool) <= count(counts, pool) {
@@ -174,12 +209,19 @@ pub fn read_new(names: &[u8], counts: Counts, pool: Pool, book: &[u8], at: usize
 }
 
 // A node that is a thing or blank.
-pub fn read_subject(names: &[u8], cells: &[u16], counts: Counts, book: &[u8], at: usize) -> Item
-    requires { ⌜ (at ≤ length (now book)) × (45056 ≤ length (now names)) × (16602 ≤ length (now cells)) × Limits counts ⌝ }
+pub fn read_subject(
+    names: &[u8],
+    index: &[u16],
+    cells: &[u16],
+    counts: Counts,
+    book: &[u8],
+    at: usize,
+) -> Item
+    requires { ⌜ (at ≤ length (now book)) × (45056 ≤ length (now names)) × (16602 ≤ length (now cells)) × Limits counts × Indexed (now names) counts (now index) ⌝ }
     ensures { λ r. ⌜ ((a : Book) → Held (now (names .entry)) counts a → Kinds (now (cells .entry)) a → Reads (now (book .entry)) a subject same at r) ⌝ }
     ensures { λ r. ⌜ Below (counts .nodes) (length (now (book .entry))) r ⌝ }
 {
-    let used = read_used(names, counts, Pool::Nodes, book, at);
+    let used = read_used(names, index, counts, Pool::Nodes, book, at);
     let Item::Is(v, next) = used else {
         return used;
     };
@@ -190,12 +232,12 @@ pub fn read_subject(names: &[u8], cells: &[u16], counts: Counts, book: &[u8], at
 }
 
 // A type other than `langstring`.
-pub fn read_type(names: &[u8], counts: Counts, book: &[u8], at: usize) -> Item
-    requires { ⌜ (at ≤ length (now book)) × (45056 ≤ length (now names)) × Limits counts ⌝ }
+pub fn read_type(names: &[u8], index: &[u16], counts: Counts, book: &[u8], at: usize) -> Item
+    requires { ⌜ (at ≤ length (now book)) × (45056 ≤ length (now names)) × Limits counts × Indexed (now names) counts (now index) ⌝ }
     ensures { λ r. ⌜ ((a : Book) → Held (now (names .entry)) counts a → Reads (now (book .entry)) a literalType same at r) ⌝ }
     ensures { λ r. ⌜ Below (counts .types) (length (now (book .entry))) r ⌝ }
 {
-    let used = read_used(names, counts, Pool::Types, book, at);
+    let used = read_used(names, index, counts, Pool::Types, book, at);
     let Item::Is(t, next) = used else {
         return used;
     };
@@ -292,13 +334,14 @@ pub fn read_kind(book: &[u8], at: usize) -> Item
 pub fn read_list(
     cells: &mut [u16],
     names: &[u8],
+    index: &[u16],
     counts: Counts,
     pool: Pool,
     book: &[u8],
     at: usize,
     i: usize,
 ) -> Item
-    requires { ⌜ (at ≤ length (now book)) × (45056 ≤ length (now names)) × (16602 ≤ length (now cells)) × (i ≤ 128) × Limits counts ⌝ }
+    requires { ⌜ (at ≤ length (now book)) × (45056 ≤ length (now names)) × (16602 ≤ length (now cells)) × (i ≤ 128) × Limits counts × Indexed (now names) counts (now index) ⌝ }
     ensures { λ r. ⌜ ((a : Book) → Held (now (names .entry)) counts a → r ≡ itemOf (itemsAfter i) (listAt (now (book .entry)) a (poolOf pool) (128 - i) at)) ⌝ }
     ensures { λ _. ⌜ ((a : Book) → Held (now (names .entry)) counts a → Listed (listAt (now (book .entry)) a (poolOf pool) (128 - i) at) i (now (cells .entry)) (now (cells .exit))) ⌝ }
     ensures { λ r. ⌜ Counted i 128 (length (now (book .entry))) r ⌝ }
@@ -307,7 +350,7 @@ pub fn read_list(
     if byte(book, at) != 32 {
         return Item::Is(i, at);
     }
-    let used = read_used(names, counts, pool, book, at);
+    let used = read_used(names, index, counts, pool, book, at);
     let Item::Is(k, next) = used else {
         return used;
     };
@@ -315,7 +358,7 @@ pub fn read_list(
         return Item::No(7);
     }
     cells[16314 + i] = k as u16;
-    read_list(cells, names, counts, pool, book, next, i + 1)
+    read_list(cells, names, index, counts, pool, book, next, i + 1)
 }
 
 // What stands at a place for a bracket, by a table of count padded words.

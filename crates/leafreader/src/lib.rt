@@ -27,7 +27,7 @@ ghost use Rattle.grammar.specs.Syntax.{used, value, path, end, list};
 ghost use Rattle.grammar.specs.Reading.{Readers, Begun, trueAt, readersAt};
 ghost use Rattle.stores.specs.Entries.{putForm};
 ghost use Rattle.itemreader.specs.Answers.{poolOf, Below, restAt};
-ghost use Rattle.itemreader.specs.Held.{Limits, Held};
+ghost use Rattle.itemreader.specs.Held.{Limits, Held, Indexed};
 ghost use Rattle.leafreader.specs.Forms.{begunOf, FormRead, closedForm, Within, childrenOf, formBody, putItem, ItemForm, UsedShape, ListShape, ValueShape, EndShape, PathShape, endNumber};
 
 // How many form entries, path entries and list items have ended.
@@ -133,6 +133,7 @@ fn item_form(
 fn used_form(
     cells: &mut [u16],
     names: &[u8],
+    index: &[u16],
     counts: Counts,
     pool: Pool,
     book: &[u8],
@@ -141,12 +142,12 @@ fn used_form(
     up: usize,
     code: u16,
 ) -> Form
-    requires { ⌜ (at ≤ length (now book)) × (45056 ≤ length (now names)) × (16602 ≤ length (now cells)) × (n .forms + up < 112) × (n .paths ≤ 128) × (n .items ≤ 128) × Limits counts ⌝ }
+    requires { ⌜ (at ≤ length (now book)) × (45056 ≤ length (now names)) × (16602 ≤ length (now cells)) × (n .forms + up < 112) × (n .paths ≤ 128) × (n .items ≤ 128) × Limits counts × Indexed (now names) counts (now index) ⌝ }
     ensures { λ r. ⌜ ((a : Book) → Held (now (names .entry)) counts a → (R : Readers) (b : Begun) (f : ℕ → Shape) → UsedShape f code → (vs : List ℤ) → FormRead (restAt (now (book .entry)) a R true (used (poolOf pool) ∷ []) (λ xs. f (xs .0)) b at) (begunOf n) (now (cells .entry)) (now (cells .exit)) vs vs r) ⌝ }
     ensures { λ r. ⌜ Within (n .forms) up (length (now (book .entry))) r ⌝ }
     ensures { λ _. ⌜ drop 16602 (now (cells .exit)) ≡ drop 16602 (now (cells .entry)) ⌝ }
 {
-    let item = read_used(names, counts, pool, book, at);
+    let item = read_used(names, index, counts, pool, book, at);
     item_form(cells, book, item, n, up, code, 0, true)
 }
 
@@ -154,6 +155,7 @@ fn used_form(
 fn list_form(
     cells: &mut [u16],
     names: &[u8],
+    index: &[u16],
     counts: Counts,
     pool: Pool,
     book: &[u8],
@@ -162,13 +164,13 @@ fn list_form(
     up: usize,
     code: u16,
 ) -> Form
-    requires { ⌜ (at ≤ length (now book)) × (45056 ≤ length (now names)) × (16602 ≤ length (now cells)) × (n .forms + up < 112) × (n .paths ≤ 128) × (n .items ≤ 128) × Limits counts ⌝ }
+    requires { ⌜ (at ≤ length (now book)) × (45056 ≤ length (now names)) × (16602 ≤ length (now cells)) × (n .forms + up < 112) × (n .paths ≤ 128) × (n .items ≤ 128) × Limits counts × Indexed (now names) counts (now index) ⌝ }
     ensures { λ r. ⌜ ((a : Book) → Held (now (names .entry)) counts a → (R : Readers) (b : Begun) → b .items ≡ n .items → (f : List ℕ → Shape) → ListShape f code → (vs : List ℤ) → FormRead (restAt (now (book .entry)) a R true (list (poolOf pool) ∷ []) (λ xs. f (xs .0)) b at) (begunOf n) (now (cells .entry)) (now (cells .exit)) vs vs r) ⌝ }
     ensures { λ r. ⌜ Within (n .forms) up (length (now (book .entry))) r ⌝ }
     ensures { λ _. ⌜ drop 16602 (now (cells .exit)) ≡ drop 16602 (now (cells .entry)) ⌝ }
 {
     let items = n.items;
-    match read_list(cells, names, counts, pool, book, at, items) {
+    match read_list(cells, names, index, counts, pool, book, at, items) {
         Item::No(k) => Form::No(k),
         Item::Is(m, next) => {
             let l = Ended {
@@ -233,6 +235,7 @@ fn end_number(before: usize, after: usize) -> u16
 fn end_form(
     cells: &mut [u16],
     names: &[u8],
+    index: &[u16],
     counts: Counts,
     book: &[u8],
     at: usize,
@@ -241,16 +244,16 @@ fn end_form(
     up: usize,
     code: u16,
 ) -> Form
-    requires { ⌜ (at ≤ length (now book)) × (45056 ≤ length (now names)) × (16602 ≤ length (now cells)) × (n .forms + up < 112) × (n .paths ≤ 128) × (n .items ≤ 128) × Limits counts ⌝ }
+    requires { ⌜ (at ≤ length (now book)) × (45056 ≤ length (now names)) × (16602 ≤ length (now cells)) × (n .forms + up < 112) × (n .paths ≤ 128) × (n .items ≤ 128) × Limits counts × Indexed (now names) counts (now index) ⌝ }
     ensures { λ r. ⌜ ((a : Book) → Held (now (names .entry)) counts a → (b : Begun) → b .paths ≡ n .paths → (f : End → ℕ → Shape) → EndShape f code → (vs : List ℤ) → FormRead (restAt (now (book .entry)) a (readersAt (now (book .entry)) a left) true (end ∷ used links ∷ []) (λ xs. f (xs .0) (xs .1 .0)) b at) (begunOf n) (now (cells .entry)) (now (cells .exit)) vs vs r) ⌝ }
     ensures { λ r. ⌜ Within (n .forms) up (length (now (book .entry))) r ⌝ }
     ensures { λ _. ⌜ drop 16602 (now (cells .exit)) ≡ drop 16602 (now (cells .entry)) ⌝ }
 {
     let paths = n.paths;
-    match read_end(cells, names, counts, book, at, left, paths) {
+    match read_end(cells, names, index, counts, book, at, left, paths) {
         Item::No(k) => Form::No(k),
         Item::Is(m, next) => {
-            let item = read_used(names, counts, Pool::Links, book, next);
+            let item = read_used(names, index, counts, Pool::Links, book, next);
             let l = Ended {
                 forms: n.forms,
                 paths: m,
@@ -265,6 +268,7 @@ fn end_form(
 fn less_form(
     cells: &mut [u16],
     names: &[u8],
+    index: &[u16],
     counts: Counts,
     book: &[u8],
     at: usize,
@@ -273,16 +277,16 @@ fn less_form(
     up: usize,
     code: u16,
 ) -> Form
-    requires { ⌜ (at ≤ length (now book)) × (45056 ≤ length (now names)) × (16602 ≤ length (now cells)) × (n .forms + up < 112) × (n .paths ≤ 128) × (n .items ≤ 128) × Limits counts ⌝ }
+    requires { ⌜ (at ≤ length (now book)) × (45056 ≤ length (now names)) × (16602 ≤ length (now cells)) × (n .forms + up < 112) × (n .paths ≤ 128) × (n .items ≤ 128) × Limits counts × Indexed (now names) counts (now index) ⌝ }
     ensures { λ r. ⌜ ((a : Book) → Held (now (names .entry)) counts a → (b : Begun) → b .paths ≡ n .paths → (f : Path → ℕ → Shape) → PathShape f code → (vs : List ℤ) → FormRead (restAt (now (book .entry)) a (readersAt (now (book .entry)) a left) true (path ∷ used links ∷ []) (λ xs. f (xs .0) (xs .1 .0)) b at) (begunOf n) (now (cells .entry)) (now (cells .exit)) vs vs r) ⌝ }
     ensures { λ r. ⌜ Within (n .forms) up (length (now (book .entry))) r ⌝ }
     ensures { λ _. ⌜ drop 16602 (now (cells .exit)) ≡ drop 16602 (now (cells .entry)) ⌝ }
 {
     let paths = n.paths;
-    match read_path(cells, names, counts, book, at, left, paths, 0) {
+    match read_path(cells, names, index, counts, book, at, left, paths, 0) {
         Item::No(k) => Form::No(k),
         Item::Is(m, next) => {
-            let item = read_used(names, counts, Pool::Links, book, next);
+            let item = read_used(names, index, counts, Pool::Links, book, next);
             let l = Ended {
                 forms: n.forms,
                 paths: m,
@@ -297,6 +301,7 @@ fn less_form(
 fn onelang_form(
     cells: &mut [u16],
     names: &[u8],
+    index: &[u16],
     counts: Counts,
     book: &[u8],
     at: usize,
@@ -304,13 +309,13 @@ fn onelang_form(
     n: Ended,
     up: usize,
 ) -> Form
-    requires { ⌜ (at ≤ length (now book)) × (45056 ≤ length (now names)) × (16602 ≤ length (now cells)) × (n .forms + up < 112) × (n .paths ≤ 128) × (n .items ≤ 128) × Limits counts ⌝ }
+    requires { ⌜ (at ≤ length (now book)) × (45056 ≤ length (now names)) × (16602 ≤ length (now cells)) × (n .forms + up < 112) × (n .paths ≤ 128) × (n .items ≤ 128) × Limits counts × Indexed (now names) counts (now index) ⌝ }
     ensures { λ r. ⌜ ((a : Book) → Held (now (names .entry)) counts a → (b : Begun) → b .paths ≡ n .paths → (vs : List ℤ) → FormRead (restAt (now (book .entry)) a (readersAt (now (book .entry)) a left) true (path ∷ []) (λ xs. uniqueLang (xs .0)) b at) (begunOf n) (now (cells .entry)) (now (cells .exit)) vs vs r) ⌝ }
     ensures { λ r. ⌜ Within (n .forms) up (length (now (book .entry))) r ⌝ }
     ensures { λ _. ⌜ drop 16602 (now (cells .exit)) ≡ drop 16602 (now (cells .entry)) ⌝ }
 {
     let paths = n.paths;
-    match read_path(cells, names, counts, book, at, left, paths, 0) {
+    match read_path(cells, names, index, counts, book, at, left, paths, 0) {
         Item::No(k) => Form::No(k),
         Item::Is(m, next) => {
             let l = Ended {
@@ -354,6 +359,7 @@ pub fn read_leaf(
     cells: &mut [u16],
     values: &mut [i64],
     names: &[u8],
+    index: &[u16],
     counts: Counts,
     book: &[u8],
     code: usize,
@@ -362,27 +368,49 @@ pub fn read_leaf(
     n: Ended,
     up: usize,
 ) -> Form
-    requires { ⌜ (at ≤ length (now book)) × (45056 ≤ length (now names)) × (16602 ≤ length (now cells)) × (1136 ≤ length (now values)) × (n .forms + up < 112) × (n .paths ≤ 128) × (n .items ≤ 128) × Limits counts × (code < 20) × (childrenOf code ≡ 0) ⌝ }
+    requires { ⌜ (at ≤ length (now book)) × (45056 ≤ length (now names)) × (16602 ≤ length (now cells)) × (1136 ≤ length (now values)) × (n .forms + up < 112) × (n .paths ≤ 128) × (n .items ≤ 128) × Limits counts × (code < 20) × (childrenOf code ≡ 0) × Indexed (now names) counts (now index) ⌝ }
     ensures { λ r. ⌜ ((a : Book) → Held (now (names .entry)) counts a → (b : Begun) → b .paths ≡ n .paths → b .items ≡ n .items → FormRead (formBody (now (book .entry)) a left code b at) (begunOf n) (now (cells .entry)) (now (cells .exit)) (now (values .entry)) (now (values .exit)) r) ⌝ }
     ensures { λ r. ⌜ Within (n .forms) up (length (now (book .entry))) r ⌝ }
     ensures { λ _. ⌜ drop 16602 (now (cells .exit)) ≡ drop 16602 (now (cells .entry)) ⌝ }
     ensures { λ _. ⌜ drop 1136 (now (values .exit)) ≡ drop 1136 (now (values .entry)) ⌝ }
 {
     match code {
-        0 => used_form(cells, names, counts, Pool::Nodes, book, at, n, up, 1),
-        1 => used_form(cells, names, counts, Pool::Shapes, book, at, n, up, 2),
+        0 => used_form(cells, names, index, counts, Pool::Nodes, book, at, n, up, 1),
+        1 => used_form(
+            cells,
+            names,
+            index,
+            counts,
+            Pool::Shapes,
+            book,
+            at,
+            n,
+            up,
+            2,
+        ),
         5 => item_form(cells, book, read_kind(book, at), n, up, 6, 0, true),
-        6 => used_form(cells, names, counts, Pool::Types, book, at, n, up, 7),
-        7 => list_form(cells, names, counts, Pool::Langs, book, at, n, up, 8),
+        6 => used_form(cells, names, index, counts, Pool::Types, book, at, n, up, 7),
+        7 => list_form(cells, names, index, counts, Pool::Langs, book, at, n, up, 8),
         8 => value_form(cells, values, book, at, n, up, 9),
         9 => value_form(cells, values, book, at, n, up, 10),
         10 => value_form(cells, values, book, at, n, up, 11),
         11 => value_form(cells, values, book, at, n, up, 12),
-        14 => end_form(cells, names, counts, book, at, left, n, up, 15),
-        15 => end_form(cells, names, counts, book, at, left, n, up, 16),
-        16 => list_form(cells, names, counts, Pool::Links, book, at, n, up, 17),
-        17 => less_form(cells, names, counts, book, at, left, n, up, 18),
-        18 => less_form(cells, names, counts, book, at, left, n, up, 19),
-        _ => onelang_form(cells, names, counts, book, at, left, n, up),
+        14 => end_form(cells, names, index, counts, book, at, left, n, up, 15),
+        15 => end_form(cells, names, index, counts, book, at, left, n, up, 16),
+        16 => list_form(
+            cells,
+            names,
+            index,
+            counts,
+            Pool::Links,
+            book,
+            at,
+            n,
+            up,
+            17,
+        ),
+        17 => less_form(cells, names, index, counts, book, at, left, n, up, 18),
+        18 => less_form(cells, names, index, counts, book, at, left, n, up, 19),
+        _ => onelang_form(cells, names, index, counts, book, at, left, n, up),
     }
 }

@@ -39,7 +39,7 @@ ghost use Rattle.grammar.specs.Syntax.{target, numberL, textL, wordsL, factL, r
 ghost use Rattle.grammar.specs.Reading.{Begun, argAt, readersAt};
 ghost use Rattle.stores.specs.Lines.{poolBase, putName};
 ghost use Rattle.itemreader.specs.Answers.{poolOf};
-ghost use Rattle.itemreader.specs.Held.{countOf, Limits, Held, Kinds};
+ghost use Rattle.itemreader.specs.Held.{countOf, Limits, Held, Kinds, Indexed};
 ghost use Rattle.linereader.specs.Storing.{named, endedWith, lineEnd, lineBody, Done, Lone, loneCode, resourceCode, Row, Fits, counted, refusalOf, operandPool, targetAnswer, Targeted, put₃};
 
 // The position after a line and the counts with it; or the number of a refusal.
@@ -129,11 +129,18 @@ fn put_row(cells: &mut [u16], i: usize, j: usize, k: usize, x: u16, y: u16, z: u
 }
 
 // `(link N)`, `(type N)`, `(lang N)`, from the end of the word.
-pub fn name_line(names: &mut [u8], counts: Counts, pool: Pool, book: &[u8], at: usize) -> LineAnswer
-    requires { ⌜ (at ≤ length (now book)) × (45056 ≤ length (now names)) × Limits counts × ((a : Book) × Held (now names) counts a) × Lone (poolOf pool) ⌝ }
+pub fn name_line(
+    names: &mut [u8],
+    index: &[u16],
+    counts: Counts,
+    pool: Pool,
+    book: &[u8],
+    at: usize,
+) -> LineAnswer
+    requires { ⌜ (at ≤ length (now book)) × (45056 ≤ length (now names)) × Limits counts × ((a : Book) × Held (now names) counts a) × Lone (poolOf pool) × Indexed (now names) counts (now index) ⌝ }
     ensures { λ r. ⌜ ((a : Book) (cs : List ℕ) (vs : List ℤ) → Held (now (names .entry)) counts a → Done a counts (lineBody (now (book .entry)) a (loneCode (poolOf pool)) at) r (now (names .entry)) (now (names .exit)) cs cs vs vs) ⌝ }
 {
-    let new = read_new(names, counts, pool, book, at);
+    let new = read_new(names, index, counts, pool, book, at);
     let Item::Is(_, end) = new else {
         return LineAnswer::No(refusal(new));
     };
@@ -202,15 +209,16 @@ pub fn resource_line(
     names: &mut [u8],
     cells: &mut [u16],
     values: &mut [i64],
+    index: &[u16],
     counts: Counts,
     kind: u16,
     book: &[u8],
     at: usize,
 ) -> LineAnswer
-    requires { ⌜ (at ≤ length (now book)) × (kind ≤ 1) × (45056 ≤ length (now names)) × (16602 ≤ length (now cells)) × (1136 ≤ length (now values)) × Limits counts × ((a : Book) × Held (now names) counts a) ⌝ }
+    requires { ⌜ (at ≤ length (now book)) × (kind ≤ 1) × (45056 ≤ length (now names)) × (16602 ≤ length (now cells)) × (1136 ≤ length (now values)) × Limits counts × ((a : Book) × Held (now names) counts a) × Indexed (now names) counts (now index) ⌝ }
     ensures { λ r. ⌜ ((a : Book) → Held (now (names .entry)) counts a → Done a counts (lineBody (now (book .entry)) a (resourceCode kind) at) r (now (names .entry)) (now (names .exit)) (now (cells .entry)) (now (cells .exit)) (now (values .entry)) (now (values .exit))) ⌝ }
 {
-    let new = read_new(names, counts, Pool::Nodes, book, at);
+    let new = read_new(names, index, counts, Pool::Nodes, book, at);
     let Item::Is(_, end) = new else {
         return LineAnswer::No(refusal(new));
     };
@@ -227,18 +235,19 @@ pub fn number_line(
     names: &mut [u8],
     cells: &mut [u16],
     values: &mut [i64],
+    index: &[u16],
     counts: Counts,
     book: &[u8],
     at: usize,
 ) -> LineAnswer
-    requires { ⌜ (at ≤ length (now book)) × (45056 ≤ length (now names)) × (16602 ≤ length (now cells)) × (1136 ≤ length (now values)) × Limits counts × ((a : Book) × Held (now names) counts a) ⌝ }
+    requires { ⌜ (at ≤ length (now book)) × (45056 ≤ length (now names)) × (16602 ≤ length (now cells)) × (1136 ≤ length (now values)) × Limits counts × ((a : Book) × Held (now names) counts a) × Indexed (now names) counts (now index) ⌝ }
     ensures { λ r. ⌜ ((a : Book) → Held (now (names .entry)) counts a → Done a counts (lineBody (now (book .entry)) a numberL at) r (now (names .entry)) (now (names .exit)) (now (cells .entry)) (now (cells .exit)) (now (values .entry)) (now (values .exit))) ⌝ }
 {
-    let new = read_new(names, counts, Pool::Nodes, book, at);
+    let new = read_new(names, index, counts, Pool::Nodes, book, at);
     let Item::Is(_, end) = new else {
         return LineAnswer::No(refusal(new));
     };
-    let datatype = read_type(names, counts, book, end);
+    let datatype = read_type(names, index, counts, book, end);
     let Item::Is(t, after) = datatype else {
         return LineAnswer::No(refusal(datatype));
     };
@@ -260,18 +269,19 @@ pub fn text_line(
     names: &mut [u8],
     cells: &mut [u16],
     values: &mut [i64],
+    index: &[u16],
     counts: Counts,
     book: &[u8],
     at: usize,
 ) -> LineAnswer
-    requires { ⌜ (at ≤ length (now book)) × (45056 ≤ length (now names)) × (16602 ≤ length (now cells)) × (1136 ≤ length (now values)) × Limits counts × ((a : Book) × Held (now names) counts a) ⌝ }
+    requires { ⌜ (at ≤ length (now book)) × (45056 ≤ length (now names)) × (16602 ≤ length (now cells)) × (1136 ≤ length (now values)) × Limits counts × ((a : Book) × Held (now names) counts a) × Indexed (now names) counts (now index) ⌝ }
     ensures { λ r. ⌜ ((a : Book) → Held (now (names .entry)) counts a → Done a counts (lineBody (now (book .entry)) a textL at) r (now (names .entry)) (now (names .exit)) (now (cells .entry)) (now (cells .exit)) (now (values .entry)) (now (values .exit))) ⌝ }
 {
-    let new = read_new(names, counts, Pool::Nodes, book, at);
+    let new = read_new(names, index, counts, Pool::Nodes, book, at);
     let Item::Is(_, end) = new else {
         return LineAnswer::No(refusal(new));
     };
-    let datatype = read_type(names, counts, book, end);
+    let datatype = read_type(names, index, counts, book, end);
     let Item::Is(t, last) = datatype else {
         return LineAnswer::No(refusal(datatype));
     };
@@ -288,18 +298,19 @@ pub fn words_line(
     names: &mut [u8],
     cells: &mut [u16],
     values: &mut [i64],
+    index: &[u16],
     counts: Counts,
     book: &[u8],
     at: usize,
 ) -> LineAnswer
-    requires { ⌜ (at ≤ length (now book)) × (45056 ≤ length (now names)) × (16602 ≤ length (now cells)) × (1136 ≤ length (now values)) × Limits counts × ((a : Book) × Held (now names) counts a) ⌝ }
+    requires { ⌜ (at ≤ length (now book)) × (45056 ≤ length (now names)) × (16602 ≤ length (now cells)) × (1136 ≤ length (now values)) × Limits counts × ((a : Book) × Held (now names) counts a) × Indexed (now names) counts (now index) ⌝ }
     ensures { λ r. ⌜ ((a : Book) → Held (now (names .entry)) counts a → Done a counts (lineBody (now (book .entry)) a wordsL at) r (now (names .entry)) (now (names .exit)) (now (cells .entry)) (now (cells .exit)) (now (values .entry)) (now (values .exit))) ⌝ }
 {
-    let new = read_new(names, counts, Pool::Nodes, book, at);
+    let new = read_new(names, index, counts, Pool::Nodes, book, at);
     let Item::Is(_, end) = new else {
         return LineAnswer::No(refusal(new));
     };
-    let lang = read_used(names, counts, Pool::Langs, book, end);
+    let lang = read_used(names, index, counts, Pool::Langs, book, end);
     let Item::Is(l, last) = lang else {
         return LineAnswer::No(refusal(lang));
     };
@@ -315,22 +326,23 @@ pub fn words_line(
 pub fn fact_line(
     cells: &mut [u16],
     names: &[u8],
+    index: &[u16],
     counts: Counts,
     book: &[u8],
     at: usize,
 ) -> LineAnswer
-    requires { ⌜ (at ≤ length (now book)) × (45056 ≤ length (now names)) × (16602 ≤ length (now cells)) × Limits counts × Fits counts ⌝ }
+    requires { ⌜ (at ≤ length (now book)) × (45056 ≤ length (now names)) × (16602 ≤ length (now cells)) × Limits counts × Fits counts × Indexed (now names) counts (now index) ⌝ }
     ensures { λ r. ⌜ ((a : Book) (vs : List ℤ) → Held (now (names .entry)) counts a → Kinds (now (cells .entry)) a → Done a counts (lineBody (now (book .entry)) a factL at) r (now (names .entry)) (now (names .entry)) (now (cells .entry)) (now (cells .exit)) vs vs) ⌝ }
 {
-    let subject = read_subject(names, cells, counts, book, at);
+    let subject = read_subject(names, index, cells, counts, book, at);
     let Item::Is(s, i) = subject else {
         return LineAnswer::No(refusal(subject));
     };
-    let predicate = read_used(names, counts, Pool::Links, book, i);
+    let predicate = read_used(names, index, counts, Pool::Links, book, i);
     let Item::Is(p, j) = predicate else {
         return LineAnswer::No(refusal(predicate));
     };
-    let object = read_used(names, counts, Pool::Nodes, book, j);
+    let object = read_used(names, index, counts, Pool::Nodes, book, j);
     let Item::Is(o, k) = object else {
         return LineAnswer::No(refusal(object));
     };
@@ -363,8 +375,8 @@ fn operand_pool(k: usize) -> Pool
 }
 
 // TARGET, a space before it.
-fn read_target(names: &[u8], counts: Counts, book: &[u8], at: usize) -> TargetAnswer
-    requires { ⌜ (at ≤ length (now book)) × (45056 ≤ length (now names)) × Limits counts ⌝ }
+fn read_target(names: &[u8], index: &[u16], counts: Counts, book: &[u8], at: usize) -> TargetAnswer
+    requires { ⌜ (at ≤ length (now book)) × (45056 ≤ length (now names)) × Limits counts × Indexed (now names) counts (now index) ⌝ }
     ensures { λ r. ⌜ ((a : Book) (b : Begun) → Held (now (names .entry)) counts a → r ≡ targetAnswer (argAt (now (book .entry)) a (readersAt (now (book .entry)) a 31) target b at)) ⌝ }
     ensures { λ r. ⌜ Targeted 1024 (length (now (book .entry))) r ⌝ }
 {
@@ -375,7 +387,7 @@ fn read_target(names: &[u8], counts: Counts, book: &[u8], at: usize) -> TargetAn
         Head::Bare => TargetAnswer::No(2),
         Head::No(k) => TargetAnswer::No(k),
         Head::Word(k, end) => {
-            let used = read_used(names, counts, operand_pool(k), book, end);
+            let used = read_used(names, index, counts, operand_pool(k), book, end);
             let Item::Is(x, last) = used else {
                 return TargetAnswer::No(refusal(used));
             };
@@ -391,18 +403,19 @@ fn read_target(names: &[u8], counts: Counts, book: &[u8], at: usize) -> TargetAn
 pub fn rule_line(
     cells: &mut [u16],
     names: &[u8],
+    index: &[u16],
     counts: Counts,
     book: &[u8],
     at: usize,
 ) -> LineAnswer
-    requires { ⌜ (at ≤ length (now book)) × (45056 ≤ length (now names)) × (16602 ≤ length (now cells)) × Limits counts × Fits counts ⌝ }
+    requires { ⌜ (at ≤ length (now book)) × (45056 ≤ length (now names)) × (16602 ≤ length (now cells)) × Limits counts × Fits counts × Indexed (now names) counts (now index) ⌝ }
     ensures { λ r. ⌜ ((a : Book) (vs : List ℤ) → Held (now (names .entry)) counts a → Done a counts (lineBody (now (book .entry)) a ruleL at) r (now (names .entry)) (now (names .entry)) (now (cells .entry)) (now (cells .exit)) vs vs) ⌝ }
 {
-    let shape = read_used(names, counts, Pool::Shapes, book, at);
+    let shape = read_used(names, index, counts, Pool::Shapes, book, at);
     let Item::Is(s, i) = shape else {
         return LineAnswer::No(refusal(shape));
     };
-    match read_target(names, counts, book, i) {
+    match read_target(names, index, counts, book, i) {
         TargetAnswer::No(k) => LineAnswer::No(k),
         TargetAnswer::Is(code, x, last) => {
             let n = counts.rules;

@@ -19,7 +19,7 @@ ghost use Rattle.model.specs.Books.{Book};
 ghost use Rattle.grammar.specs.Syntax.{path, end};
 ghost use Rattle.grammar.specs.Reading.{Begun, argAt, spaceAt, linkAt, readersAt};
 ghost use Rattle.stores.specs.Entries.{putPath};
-ghost use Rattle.itemreader.specs.Held.{Limits, Held};
+ghost use Rattle.itemreader.specs.Held.{Limits, Held, Indexed};
 ghost use Rattle.pathreader.specs.Paths.{PathRead, EndRead, Grown, closed};
 
 // Path entry e.
@@ -58,18 +58,19 @@ fn close_path(
 fn read_link(
     cells: &mut [u16],
     names: &[u8],
+    index: &[u16],
     counts: Counts,
     book: &[u8],
     at: usize,
     n: usize,
     up: usize,
 ) -> Item
-    requires { ⌜ (at ≤ length (now book)) × (45056 ≤ length (now names)) × (16602 ≤ length (now cells)) × (n + up ≤ 128) × Limits counts ⌝ }
+    requires { ⌜ (at ≤ length (now book)) × (45056 ≤ length (now names)) × (16602 ≤ length (now cells)) × (n + up ≤ 128) × Limits counts × Indexed (now names) counts (now index) ⌝ }
     ensures { λ r. ⌜ ((a : Book) → Held (now (names .entry)) counts a → PathRead (spaceAt (now (book .entry)) a at (linkAt (now (book .entry)) a (leb 128 (n + up)))) n (now (cells .entry)) (now (cells .exit)) r) ⌝ }
     ensures { λ r. ⌜ Grown (n + 1) up (length (now (book .entry))) r ⌝ }
     ensures { λ _. ⌜ drop 16602 (now (cells .exit)) ≡ drop 16602 (now (cells .entry)) ⌝ }
 {
-    let used = read_used(names, counts, Pool::Links, book, at);
+    let used = read_used(names, index, counts, Pool::Links, book, at);
     let Item::Is(p, next) = used else {
         return used;
     };
@@ -85,6 +86,7 @@ fn read_link(
 pub fn read_path(
     cells: &mut [u16],
     names: &[u8],
+    index: &[u16],
     counts: Counts,
     book: &[u8],
     at: usize,
@@ -92,7 +94,7 @@ pub fn read_path(
     n: usize,
     up: usize,
 ) -> Item
-    requires { ⌜ (at ≤ length (now book)) × (45056 ≤ length (now names)) × (16602 ≤ length (now cells)) × (n + up ≤ 128) × Limits counts ⌝ }
+    requires { ⌜ (at ≤ length (now book)) × (45056 ≤ length (now names)) × (16602 ≤ length (now cells)) × (n + up ≤ 128) × Limits counts × Indexed (now names) counts (now index) ⌝ }
     ensures { λ r. ⌜ ((a : Book) → Held (now (names .entry)) counts a → (b : Begun) → b .paths ≡ n + up → PathRead (argAt (now (book .entry)) a (readersAt (now (book .entry)) a left) path b at) n (now (cells .entry)) (now (cells .exit)) r) ⌝ }
     ensures { λ r. ⌜ Grown (n + 1) up (length (now (book .entry))) r ⌝ }
     ensures { λ _. ⌜ drop 16602 (now (cells .exit)) ≡ drop 16602 (now (cells .entry)) ⌝ }
@@ -101,17 +103,17 @@ pub fn read_path(
         return Item::No(2);
     }
     match path_head(book, at + 1, left, 128 <= n + up) {
-        Head::Bare => read_link(cells, names, counts, book, at, n, up),
+        Head::Bare => read_link(cells, names, index, counts, book, at, n, up),
         Head::No(k) => Item::No(k),
         Head::Word(code, end) => {
-            let first = read_path(cells, names, counts, book, end, left - 1, n, up + 1);
+            let first = read_path(cells, names, index, counts, book, end, left - 1, n, up + 1);
             let Item::Is(m, next) = first else {
                 return first;
             };
             if code == 0 {
                 return close_path(cells, book, next, m, 1, (m - 1) as u16, 0);
             }
-            let second = read_path(cells, names, counts, book, next, left - 1, m, up + 1);
+            let second = read_path(cells, names, index, counts, book, next, left - 1, m, up + 1);
             let Item::Is(l, last) = second else {
                 return second;
             };
@@ -132,13 +134,14 @@ pub fn read_path(
 pub fn read_end(
     cells: &mut [u16],
     names: &[u8],
+    index: &[u16],
     counts: Counts,
     book: &[u8],
     at: usize,
     left: usize,
     n: usize,
 ) -> Item
-    requires { ⌜ (at ≤ length (now book)) × (45056 ≤ length (now names)) × (16602 ≤ length (now cells)) × (n ≤ 128) × Limits counts ⌝ }
+    requires { ⌜ (at ≤ length (now book)) × (45056 ≤ length (now names)) × (16602 ≤ length (now cells)) × (n ≤ 128) × Limits counts × Indexed (now names) counts (now index) ⌝ }
     ensures { λ r. ⌜ ((a : Book) → Held (now (names .entry)) counts a → (b : Begun) → b .paths ≡ n → EndRead (argAt (now (book .entry)) a (readersAt (now (book .entry)) a left) end b at) n (now (cells .entry)) (now (cells .exit)) r) ⌝ }
     ensures { λ r. ⌜ Grown n 0 (length (now (book .entry))) r ⌝ }
     ensures { λ _. ⌜ drop 16602 (now (cells .exit)) ≡ drop 16602 (now (cells .entry)) ⌝ }
@@ -150,5 +153,5 @@ pub fn read_end(
     if is_word(book, at + 1, end, b"id") {
         return Item::Is(n, end);
     }
-    read_path(cells, names, counts, book, at, left, n, 0)
+    read_path(cells, names, index, counts, book, at, left, n, 0)
 }

@@ -25,19 +25,21 @@ use Rattle.grammar.specs.Reading.{Read, got, refused, lineAt, Outcome, accepted
 use Rattle.grammar.proofs.Lines.{line-sound}
 use Rattle.grammar.proofs.Books.{Sane, sane-start, sane-more, pools-of, fit-of, longer}
 use Rattle.stores.specs.Lines.{lineNames, lineCells, lineValues, linesNames, linesCells, linesValues, cleared}
-use Rattle.stores.proofs.Prefixes.{Prefix, prefix-start, prefix-valid}
+use Rattle.stores.proofs.Prefixes.{Prefix, prefix-start, prefix-more, prefix-valid}
 use Rattle.stores.proofs.Entries.{cellTable, valueTable}
 use Rattle.stores.proofs.Lines.{soFar, line-cells, line-values}
 use Rattle.stores.proofs.Names.{line-names}
 use Rattle.stores.proofs.Lookups.{find-name, resource-held}
 use Rattle.stores.proofs.Books.{lines-names, lines-cells, lines-values, cells-cleared, values-cleared}
 use Rattle.itemreader.specs.declared.Counts.{Counts}
-use Rattle.itemreader.specs.Held.{countOf, Limits, Held, Kinds}
+use Rattle.itemreader.specs.Held.{countOf, Limits, Held, Kinds, Indexed}
 use Rattle.linereader.specs.declared.LineAnswer.{LineAnswer}
 use Rattle.linereader.specs.Storing.{counted, Fits, Done}
 use Rattle.reader.specs.declared.LinesAnswer.{LinesAnswer}
 use Rattle.reader.specs.Answers.{countsIn}
-use Rattle.reader.specs.Running.{Started, Ran}
+use Rattle.reader.specs.Running.{Started, builtInCounts, Ran}
+use Rattle.reader.specs.Indexing.{joinedAll}
+use Rattle.reader.proofs.Indexing.{line-indexed}
 use Rattle.reader.proofs.Outcomes.{counts-limits, counts-fit}
 
 le-one : (k : ℕ) → leb k 1 ≡ ltb k 2
@@ -122,7 +124,7 @@ module _ (s ns₀ cs₀ : List ℕ) (vs₀ : List ℤ) where
     pub few : line ≤ at
     pub rest : linesFrom s (length s) 0 0 [] ≡ linesFrom s (length s - line) at line above
 
-  pub runs-start : Started ns₀ cs₀ vs₀ → Runs ns₀ cs₀ vs₀ (record { nodes = 0; links = 1; types = 1; langs = 0; shapes = 0; facts = 0; paths = 0; forms = 0; items = 0; rules = 0 }) 0 0
+  pub runs-start : Started ns₀ cs₀ vs₀ → Runs ns₀ cs₀ vs₀ builtInCounts 0 0
   unfolding names builtIn collect rules formsIn pathsIn itemsIn sumOver cleared
   runs-start S =
       record {
@@ -175,7 +177,7 @@ module _ (s ns₀ cs₀ : List ℕ) (vs₀ : List ℤ) where
 
     -- one line more
     module _ (r : LineAnswer) (ns′ cs′ : List ℕ) (vs′ : List ℤ) (h : at < length s) (d : Done (R .above) n (lineAt s (R .above) at) r ns ns′ cs cs′ vs vs′) where
-      pub runs-more : (next : ℕ) (m : Counts) → r ≡ LineAnswer.Next next m → (at < next) × Runs ns′ cs′ vs′ m next (line + 1)
+      pub runs-more : (next : ℕ) (m : Counts) → r ≡ LineAnswer.Next next m → (at < next) × Runs ns′ cs′ vs′ m next (line + 1) × ((index : List ℕ) → 2816 ≤ length index → Indexed ns n index → Indexed ns′ m (joinedAll ns′ n m index))
       runs-more next m e =
           let a = R .above in
           let S = R .sane in
@@ -184,19 +186,23 @@ module _ (s ns₀ cs₀ : List ℕ) (vs₀ : List ℤ) where
           let u = line-sound s a (pools-of a S) (fit-of s a S) at (R .within) l next (w .read) in
           let ok = u .1 in
           let past = longer s at next (writeLine a l) (u .0) in
+          let P = prefix-more a l prefix ok in
+          let c = w .counts ∙ ap (counted l) (R .counts) ∙ counts-more a l in
+          let e = w .names ∙ ap (lineNames a l) (R .names-held) ∙ line-names a prefix (drop nameCount ns₀) l ok in
           let few = R .few in (
             past,
             record {
               above = a ++ (l ∷ []);
               sane = sane-more a l S ok;
-              counts = w .counts ∙ ap (counted l) (R .counts) ∙ counts-more a l;
-              names-held = w .names ∙ ap (lineNames a l) (R .names-held) ∙ line-names a prefix (drop nameCount ns₀) l ok;
+              counts = c;
+              names-held = e;
               cells-held = w .cells ∙ ap (lineCells a l) (R .cells-held) ∙ line-cells a l ok (drop cellCount cs₀);
               values-held = w .values ∙ ap (lineValues a l) (R .values-held) ∙ line-values a l ok (drop valueCount vs₀);
               within = u .0 .within;
               few = omega arith;
               rest = R .rest ∙ lines-step s at line a (R .few) h ∙ ap (λ (x : Read Line). follow (line + 1) x (λ l next. linesFrom s (length s - (line + 1)) next (line + 1) (a ++ (l ∷ [])))) (w .read);
             },
+            λ index long I. line-indexed a l prefix P (drop nameCount ns₀) (R .names-held) e in-pool (w .counts) (subst Limits (sym c) (counts-limits (a ++ (l ∷ [])) (P .admissible-above))) long I,
           )
 
       names-past : drop nameCount ns ≡ drop nameCount ns₀

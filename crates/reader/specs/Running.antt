@@ -18,6 +18,10 @@ pub record Started (ns cs : List ℕ) (vs : List ℤ) : Type 0 where
   pub cells-start : cs ≡ cleared cellCount 0 cs
   pub values-start : vs ≡ cleared valueCount (pos 0) vs
 
+-- their counts
+abbrev pub builtInCounts : Counts
+builtInCounts = record { nodes = 0; links = 1; types = 1; langs = 0; shapes = 0; facts = 0; paths = 0; forms = 0; items = 0; rules = 0 }
+
 -- the answer r for what the reading of the lines gives, then each table before and after; a refusal leaves the tables free up
 -- to their limits
 abbrev pub Ran : Outcome → LinesAnswer → (ns ns′ cs cs′ : List ℕ) (vs vs′ : List ℤ) → Type 0

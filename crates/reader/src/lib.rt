@@ -1,7 +1,12 @@
 // The reader: from the bytes of a book to its tables, or the refusal with its line.
 // Operation: read.
 use bodyreader::read_line;
+use chains::link;
 use itemreader::Counts;
+use itemreader::Pool;
+use itemreader::base;
+use itemreader::count;
+use itemreader::most;
 use linereader::LineAnswer;
 use model::MAX_BYTES;
 use model::Refusal;
@@ -11,6 +16,7 @@ use tables::lent::clear_cells;
 use tables::lent::clear_names;
 use tables::lent::clear_values;
 use tables::lent::enough;
+use text::hash;
 use text::put_name;
 ghost use mathlib.Core.Path.{_≡_};
 ghost use mathlib.Core.List.{[]};
@@ -23,10 +29,12 @@ ghost use Rattle.model.specs.Refusals.{codeOf, lineOf};
 ghost use Rattle.tables.specs.Layout.{nameCount, cellCount, valueCount};
 ghost use Rattle.grammar.specs.Reading.{linesFrom, reading};
 ghost use Rattle.stores.specs.Lines.{putName, putCounts, cleared};
-ghost use Rattle.itemreader.specs.Held.{Limits};
+ghost use Rattle.itemreader.specs.Answers.{poolOf};
+ghost use Rattle.itemreader.specs.Held.{Limits, Indexed};
 ghost use Rattle.linereader.specs.Storing.{Fits};
 ghost use Rattle.reader.specs.Answers.{answerOf, answered, namesLeft, cellsLeft, valuesLeft, readAnswer, namesOf, cellsOf, valuesOf};
-ghost use Rattle.reader.specs.Running.{Started, Ran, countList};
+ghost use Rattle.reader.specs.Running.{Started, builtInCounts, Ran, countList};
+ghost use Rattle.reader.specs.Indexing.{joined, joinedAll};
 
 // The counts of an accepted book; or why it is refused.
 pub enum ReadAnswer {
@@ -93,15 +101,77 @@ fn put_counts(cells: &mut [u16], counts: Counts)
     cells[9] = counts.rules as u16;
 }
 
-// Line after line, on tables that hold the built-in names alone.
+// Where there is a name more of the pool after than before, it joins its chain in the index.
+fn index_pool(index: &mut [u16], names: &[u8], before: Counts, after: Counts, pool: Pool)
+    requires { ⌜ (2816 ≤ length (now index)) × (45056 ≤ length (now names)) × Limits after ⌝ }
+    ensures { λ _. ⌜ now (index .exit) ≡ joined (now (names .entry)) before after (poolOf pool) (now (index .entry)) ⌝ }
+{
+    let i = count(before, pool);
+    if i < count(after, pool) {
+        let first = base(pool);
+        let at = first + i * 32;
+        link(
+            index,
+            first / 32,
+            1408 + first / 32,
+            hash(names, at, at + 32) % most(pool),
+            i,
+        );
+    }
+}
+
+// The new names of all pools join their chains.
+fn index_new(index: &mut [u16], names: &[u8], before: Counts, after: Counts)
+    requires { ⌜ (2816 ≤ length (now index)) × (45056 ≤ length (now names)) × Limits after ⌝ }
+    ensures { λ _. ⌜ now (index .exit) ≡ joinedAll (now (names .entry)) before after (now (index .entry)) ⌝ }
+{
+    index_pool(index, names, before, after, Pool::Nodes);
+    index_pool(index, names, before, after, Pool::Links);
+    index_pool(index, names, before, after, Pool::Types);
+    index_pool(index, names, before, after, Pool::Langs);
+    index_pool(index, names, before, after, Pool::Shapes);
+}
+
+// Line after line, on tables and an index that hold the built-in names alone; start: their counts.
+fn read_from(
+    names: &mut [u8],
+    cells: &mut [u16],
+    values: &mut [i64],
+    index: &mut [u16],
+    start: Counts,
+    book: &[u8],
+) -> LinesAnswer
+    requires { ⌜ (45056 ≤ length (now names)) × (16602 ≤ length (now cells)) × (1136 ≤ length (now values)) × Started (now names) (now cells) (now values) × (2816 ≤ length (now index)) × (start ≡ builtInCounts) × Indexed (now names) start (now index) ⌝ }
+    ensures { λ r. ⌜ Ran (linesFrom (now (book .entry)) (length (now (book .entry))) 0 0 []) r (now (names .entry)) (now (names .exit)) (now (cells .entry)) (now (cells .exit)) (now (values .entry)) (now (values .exit)) ⌝ }
+{
+    let mut counts = start;
+    let mut at = 0;
+    let mut line = 0;
+    while at < book.len() {
+        line += 1;
+        match read_line(names, cells, values, index, counts, book, at) {
+            LineAnswer::No(k) => {
+                return LinesAnswer::No(k, line);
+            }
+            LineAnswer::Next(next, after) => {
+                index_new(index, names, counts, after);
+                at = next;
+                counts = after;
+            }
+        }
+    }
+    LinesAnswer::Read(counts)
+}
+
+// The lines of a book, on tables that hold the built-in names alone.
 fn read_lines(names: &mut [u8], cells: &mut [u16], values: &mut [i64], book: &[u8]) -> LinesAnswer
     requires { ⌜ (45056 ≤ length (now names)) × (16602 ≤ length (now cells)) × (1136 ≤ length (now values)) × Started (now names) (now cells) (now values) ⌝ }
     ensures { λ r. ⌜ Ran (linesFrom (now (book .entry)) (length (now (book .entry))) 0 0 []) r (now (names .entry)) (now (names .exit)) (now (cells .entry)) (now (cells .exit)) (now (values .entry)) (now (values .exit)) ⌝ }
 {
-    let mut counts = Counts {
+    let none = Counts {
         nodes: 0,
-        links: 1,
-        types: 1,
+        links: 0,
+        types: 0,
         langs: 0,
         shapes: 0,
         facts: 0,
@@ -110,21 +180,12 @@ fn read_lines(names: &mut [u8], cells: &mut [u16], values: &mut [i64], book: &[u
         items: 0,
         rules: 0,
     };
-    let mut at = 0;
-    let mut line = 0;
-    while at < book.len() {
-        line += 1;
-        match read_line(names, cells, values, counts, book, at) {
-            LineAnswer::No(k) => {
-                return LinesAnswer::No(k, line);
-            }
-            LineAnswer::Next(next, after) => {
-                at = next;
-                counts = after;
-            }
-        }
-    }
-    LinesAnswer::Read(counts)
+    let mut start = none;
+    start.links = 1;
+    start.types = 1;
+    let mut index = [0u16; 2816];
+    index_new(&mut index, names, none, start);
+    read_from(names, cells, values, &mut index, start, book)
 }
 
 // A book that is not too long, into tables that are long enough.

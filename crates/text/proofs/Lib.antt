@@ -5,4 +5,5 @@ pub mod Pool
 pub mod Spans
 pub mod Words
 pub mod Places
+pub mod Hashes
 pub mod Inverse

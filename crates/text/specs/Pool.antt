@@ -1,5 +1,5 @@
 -- Pools of names: 32 bytes a name, the name and then zeros, in the order in which they were added.
-use Prim.Native.Nat.{ℕ, zero, suc, _+_, _-_, _*_}
+use Prim.Native.Nat.{ℕ, zero, suc, _+_, _-_, _*_, _%_}
 use mathlib.Core.List.{List, [], _∷_, _++_}
 use mathlib.Core.Bool.{Bool, true, cond, _&&_}
 use lib.ListN.{length, getD, take, drop, replicate}
@@ -35,6 +35,15 @@ indexOf ws w = firstFrom (λ k. eql w (getD ws k [])) (length ws) 0
 -- the 32 bytes of number k in the pool that starts at base
 abbrev pub place : List ℕ → ℕ → ℕ → List ℕ
 place names base k = slice (base + k * 32) (base + k * 32 + 32) names
+
+-- a number below 65,536 for a name, by all its bytes; zeros after it add nothing
+unfoldable pub hashOf : List ℕ → ℕ
+hashOf [] = 0
+hashOf (x ∷ xs) = (x + 131 * hashOf xs) % 65536
+
+-- the key of number k in the pool that starts at base, below slots
+abbrev pub nameKey : List ℕ → ℕ → ℕ → ℕ → ℕ
+nameKey names base slots k = hashOf (place names base k) % slots
 
 -- the number of w in the pool of count names that starts at base
 unfoldable pub find : List ℕ → ℕ → ℕ → List ℕ → Found

@@ -1,15 +1,18 @@
 // The bytes of a book: items, names, decimals, and pools of names in 32 bytes each.
 // Functions for the crates above, on positions of a text that these have shown to lie within it. Operations: none.
+use chains::entry;
 ghost use mathlib.Core.Path.{_≡_};
-ghost use mathlib.Core.Bool.{true};
+ghost use mathlib.Core.Bool.{true, cond};
 ghost use Prim.Native.Nat.{_≤_, _<_, _+_, _*_, _-_};
 ghost use lib.ListN.{length, getD};
 ghost use lib.Seq.{slice};
 ghost use Rattle.base.specs.Lists.{allb};
 ghost use Rattle.base.specs.Bytes.{eql};
+ghost use Rattle.chains.specs.Chains.{Chained};
 ghost use Rattle.text.specs.Items.{edge, itemEnd, nameByte, isName};
 ghost use Rattle.text.specs.Decimals.{digit, isMag, magOf, valueFrom, positiveOf, negativeOf, numberOf, boundOf};
-ghost use Rattle.text.specs.Pool.{padded, find, store};
+ghost use Rattle.text.specs.Pool.{padded, hashOf, nameKey, find, store};
+ghost use Rattle.text.specs.declared.Found.the-variants.{At};
 
 // A signed decimal of the 64-bit range; a well written decimal out of it; anything else.
 pub enum Number {
@@ -272,6 +275,53 @@ pub fn find_name(
         k += 1;
     }
     Found::Nothing
+}
+
+// The number of the bytes from at to end by which a chain is chosen.
+pub fn hash(book: &[u8], at: usize, end: usize) -> usize
+    requires { ⌜ (at ≤ end) × (end ≤ length (now book)) ⌝ }
+    ensures { λ r. ⌜ r ≡ hashOf (slice at end (now (book .entry))) ⌝ }
+{
+    let mut h = 0;
+    let mut i = end;
+    while at < i {
+        i -= 1;
+        h = (book[i] as usize + 131 * h) % 65536;
+    }
+    h
+}
+
+// Number i where it is the same, else what was found before.
+fn found_if(same: bool, i: usize, found: Found) -> Found
+    ensures { λ r. ⌜ r ≡ cond same (At i) found ⌝ }
+{
+    if same { Found::At(i) } else { found }
+}
+
+// As `find_name`, along the chain of the word's key; the chain goes downward, so the last match on it is the first of the pool.
+pub fn find_chained(
+    names: &[u8],
+    base: usize,
+    count: usize,
+    index: &[u16],
+    heads: usize,
+    nexts: usize,
+    slots: usize,
+    book: &[u8],
+    at: usize,
+    end: usize,
+) -> Found
+    requires { ⌜ (at ≤ end) × (end ≤ length (now book)) × (end - at ≤ 31) × (base + count * 32 ≤ length (now names)) × (heads + slots ≤ 65536) × (nexts + count ≤ 65536) × (0 < slots) × Chained (nameKey (now names) base slots) count slots heads nexts (now index) ⌝ }
+    ensures { λ r. ⌜ r ≡ find (now (names .entry)) base count (slice at end (now (book .entry))) ⌝ }
+{
+    let mut found = Found::Nothing;
+    let mut e = entry(index, heads + hash(book, at, end) % slots) as usize;
+    while 0 < e {
+        let i = e - 1;
+        found = found_if(same_name(names, base + i * 32, book, at, end), i, found);
+        e = entry(index, nexts + i) as usize;
+    }
+    found
 }
 
 // Stores the word from at to end, with zeros after it, in the 32 bytes at place.

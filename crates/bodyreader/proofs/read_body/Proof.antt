@@ -43,7 +43,7 @@ same-length c = search needs
 
 returns : tie.Need-returns
 returns c =
-    let s = c .before .before .before .before .before .before .before .before .args in
+    let s = c .before .before .before .before .before .before .before .before .before .args in
     λ a h kinds. done-coded (s .book .now) a (s .counts) (s .k) 0 (s .at) _ (s .names .now) _ (s .cells .now) (s .cells .now) (s .values .now) (s .values .now) (c .before .before .before .before .match .keys1) (c .before .before .name-line .ensures a (s .cells .now) (s .values .now) h)
 
 same-length-2 : tie.Need-same-length-2
@@ -51,7 +51,7 @@ same-length-2 c = search needs
 
 returns-2 : tie.Need-returns-2
 returns-2 c =
-    let s = c .before .before .before .before .before .before .before .before .args in
+    let s = c .before .before .before .before .before .before .before .before .before .args in
     λ a h kinds. done-coded (s .book .now) a (s .counts) (s .k) 1 (s .at) _ (s .names .now) _ (s .cells .now) (s .cells .now) (s .values .now) (s .values .now) (c .before .before .before .before .match .keys2) (c .before .before .name-line2 .ensures a (s .cells .now) (s .values .now) h)
 
 same-length-3 : tie.Need-same-length-3
@@ -59,7 +59,7 @@ same-length-3 c = search needs
 
 returns-3 : tie.Need-returns-3
 returns-3 c =
-    let s = c .before .before .before .before .before .before .before .before .args in
+    let s = c .before .before .before .before .before .before .before .before .before .args in
     λ a h kinds. done-coded (s .book .now) a (s .counts) (s .k) 2 (s .at) _ (s .names .now) _ (s .cells .now) (s .cells .now) (s .values .now) (s .values .now) (c .before .before .before .before .match .keys3) (c .before .before .name-line3 .ensures a (s .cells .now) (s .values .now) h)
 
 same-length-4 : tie.Need-same-length-4
@@ -73,7 +73,7 @@ same-length-6 c = search needs
 
 returns-4 : tie.Need-returns-4
 returns-4 c =
-    let s = c .before .before .before .before .before .before .before .before .before .before .before .before .before .args in
+    let s = c .before .before .before .before .before .before .before .before .before .before .before .before .before .before .args in
     λ a h kinds. done-coded (s .book .now) a (s .counts) (s .k) 3 (s .at) _ (s .names .now) _ (s .cells .now) _ (s .values .now) _ (c .before .before .before .before .before .before .before .before .before .match .keys4) (c .before .before .before .before .before .resource-line .ensures a h)
 
 same-length-7 : tie.Need-same-length-7
@@ -87,7 +87,7 @@ same-length-9 c = search needs
 
 returns-5 : tie.Need-returns-5
 returns-5 c =
-    let s = c .before .before .before .before .before .before .before .before .before .before .before .before .before .args in
+    let s = c .before .before .before .before .before .before .before .before .before .before .before .before .before .before .args in
     λ a h kinds. done-coded (s .book .now) a (s .counts) (s .k) 4 (s .at) _ (s .names .now) _ (s .cells .now) _ (s .values .now) _ (c .before .before .before .before .before .before .before .before .before .match .keys5) (c .before .before .before .before .before .resource-line2 .ensures a h)
 
 same-length-10 : tie.Need-same-length-10
@@ -101,7 +101,7 @@ same-length-12 c = search needs
 
 returns-6 : tie.Need-returns-6
 returns-6 c =
-    let s = c .before .before .before .before .before .before .before .before .before .before .before .before .before .args in
+    let s = c .before .before .before .before .before .before .before .before .before .before .before .before .before .before .args in
     λ a h kinds. done-coded (s .book .now) a (s .counts) (s .k) 5 (s .at) _ (s .names .now) _ (s .cells .now) _ (s .values .now) _ (c .before .before .before .before .before .before .before .before .before .match .keys6) (c .before .before .before .before .before .number-line .ensures a h)
 
 same-length-13 : tie.Need-same-length-13
@@ -115,7 +115,7 @@ same-length-15 c = search needs
 
 returns-7 : tie.Need-returns-7
 returns-7 c =
-    let s = c .before .before .before .before .before .before .before .before .before .before .before .before .before .args in
+    let s = c .before .before .before .before .before .before .before .before .before .before .before .before .before .before .args in
     λ a h kinds. done-coded (s .book .now) a (s .counts) (s .k) 6 (s .at) _ (s .names .now) _ (s .cells .now) _ (s .values .now) _ (c .before .before .before .before .before .before .before .before .before .match .keys7) (c .before .before .before .before .before .text-line .ensures a h)
 
 same-length-16 : tie.Need-same-length-16
@@ -129,7 +129,7 @@ same-length-18 c = search needs
 
 returns-8 : tie.Need-returns-8
 returns-8 c =
-    let s = c .before .before .before .before .before .before .before .before .before .before .before .before .before .args in
+    let s = c .before .before .before .before .before .before .before .before .before .before .before .before .before .before .args in
     λ a h kinds. done-coded (s .book .now) a (s .counts) (s .k) 7 (s .at) _ (s .names .now) _ (s .cells .now) _ (s .values .now) _ (c .before .before .before .before .before .before .before .before .before .match .keys8) (c .before .before .before .before .before .words-line .ensures a h)
 
 same-length-19 : tie.Need-same-length-19
@@ -140,7 +140,7 @@ same-length-20 c = search needs
 
 returns-9 : tie.Need-returns-9
 returns-9 c =
-    let s = c .before .before .before .before .before .before .before .before .before .args in
+    let s = c .before .before .before .before .before .before .before .before .before .before .args in
     λ a h kinds. done-coded (s .book .now) a (s .counts) (s .k) 8 (s .at) _ (s .names .now) (s .names .now) (s .cells .now) _ (s .values .now) (s .values .now) (c .before .before .before .before .before .match .keys9) (c .before .before .fact-line .ensures a (s .values .now) h kinds)
 
 same-length-21 : tie.Need-same-length-21
@@ -154,7 +154,7 @@ same-length-23 c = search needs
 
 returns-10 : tie.Need-returns-10
 returns-10 c =
-    let s = c .before .before .before .before .before .before .before .before .before .before .before .before .before .args in
+    let s = c .before .before .before .before .before .before .before .before .before .before .before .before .before .before .args in
     λ a h kinds. done-coded (s .book .now) a (s .counts) (s .k) 9 (s .at) _ (s .names .now) _ (s .cells .now) _ (s .values .now) _ (c .before .before .before .before .before .before .before .before .before .match .keys10) (c .before .before .before .before .before .shape-line .ensures a h)
 
 same-length-24 : tie.Need-same-length-24
@@ -165,8 +165,8 @@ same-length-25 c = search needs
 
 returns-11 : tie.Need-returns-11
 returns-11 c =
-    let s = c .before .before .before .before .before .before .before .before .before .args in
-    let e : s .k ≡ 10 = let l = nots-le 10 (s .k) (c .before .before .before .before .before .match .rest) in let m = c .before .before .before .before .before .before .before .before .before .pre .1 in omega arith in
+    let s = c .before .before .before .before .before .before .before .before .before .before .args in
+    let e : s .k ≡ 10 = let l = nots-le 10 (s .k) (c .before .before .before .before .before .match .rest) in let m = c .before .before .before .before .before .before .before .before .before .before .pre .1 in omega arith in
     λ a h kinds. done-coded (s .book .now) a (s .counts) (s .k) 10 (s .at) _ (s .names .now) (s .names .now) (s .cells .now) _ (s .values .now) (s .values .now) (e) (c .before .before .rule-line .ensures a (s .values .now) h)
 
 pub read-body-spec : {M : Type 1} → statement M

@@ -24,22 +24,22 @@ enum-known-k-2 c = search needs
 
 read-body-requires : tie.Need-read-body-requires
 read-body-requires c κs =
-    let s = c .before .before .before .before .before .before .before .before .before .before .args in
-    let p = c .before .before .before .before .before .before .before .before .before .before .pre in
+    let s = c .before .before .before .before .before .before .before .before .before .before .before .args in
+    let p = c .before .before .before .before .before .before .before .before .before .before .before .pre in
     let t = c .before .before .before .before .before .before .line-head in
     let k = c .before .before .before .before .k2 .given in
     let w = headed-is 11 1 (length (s .book .now)) (t .result) (k .0 .0) (k .0 .1 .0) (t .ensures .1) (k .1) in
-    (w .2, w .0, p .1, p .2, p .3, p .4, p .5, p .6)
+    (w .2, w .0, p .1, p .2, p .3, p .4, p .5, p .6, p .7)
 
 returns : tie.Need-returns
 returns c =
-    let s = c .before .before .before .before .before .before .args in
+    let s = c .before .before .before .before .before .before .before .args in
     let t = c .before .before .line-head in
     λ a h kinds. done-no a (s .counts) (lineAt (s .book .now) a (s .at)) _ 2 (s .names .now) (s .cells .now) (s .values .now) (line-bare (s .book .now) a (s .at) (sym (t .ensures .0) ∙ c .enum-told .given .1)) refl
 
 returns-2 : tie.Need-returns-2
 returns-2 c =
-    let s = c .before .before .before .before .before .before .before .args in
+    let s = c .before .before .before .before .before .before .before .before .args in
     let t = c .before .before .before .line-head in
     let k = c .before .k .given in
     λ a h kinds. done-no a (s .counts) (lineAt (s .book .now) a (s .at)) _ (k .0 .0) (s .names .now) (s .cells .now) (s .values .now) (line-unknown (s .book .now) a (s .at) (k .0 .0) (sym (t .ensures .0) ∙ k .1)) refl
@@ -55,7 +55,7 @@ same-length-3 c = search needs
 
 returns-3 : tie.Need-returns-3
 returns-3 c =
-    let s = c .before .before .before .before .before .before .before .before .before .before .before .before .before .before .before .before .args in
+    let s = c .before .before .before .before .before .before .before .before .before .before .before .before .before .before .before .before .before .args in
     let S = s .book .now in
     let t = c .before .before .before .before .before .before .before .before .before .before .before .before .line-head in
     let k = c .before .before .before .before .before .before .before .before .before .before .k2 .given in

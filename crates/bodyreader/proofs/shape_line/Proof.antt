@@ -21,9 +21,9 @@ use Rattle.bodyreader.proofs.shape_line.Statement.{statement}
 use Rattle.bodyreader.proofs.shape_line.Tie as tie
 
 -- the form after the name, as it was read
-read : (c : tie.After-read-form) (a : Book) → Held (c .before .before .before .before .before .before .before .before .before .before .before .before .args .names .now) (c .before .before .before .before .before .before .before .before .before .before .before .before .args .counts) a → (w : Name) → FormRead (argAt (c .before .before .before .before .before .before .before .before .before .before .before .before .args .book .now) a (readersAt (c .before .before .before .before .before .before .before .before .before .before .before .before .args .book .now) a 31) form (after (new shapes) w (begunAbove (c .before .before .before .before .before .before .before .before .before .before .before .before .args .book .now) a)) (c .before .before .before .before .before .new .given .0 .1 .0)) (begunOf (endedNow (c .before .before .before .before .before .before .before .before .before .before .before .before .args .counts))) (c .before .before .before .before .before .before .before .before .before .before .before .before .args .cells .now) (c .read-form .last .0) (c .before .before .before .before .before .before .before .before .before .before .before .before .args .values .now) (c .read-form .last .1 .0) (c .read-form .result)
+read : (c : tie.After-read-form) (a : Book) → Held (c .before .before .before .before .before .before .before .before .before .before .before .before .before .args .names .now) (c .before .before .before .before .before .before .before .before .before .before .before .before .before .args .counts) a → (w : Name) → FormRead (argAt (c .before .before .before .before .before .before .before .before .before .before .before .before .before .args .book .now) a (readersAt (c .before .before .before .before .before .before .before .before .before .before .before .before .before .args .book .now) a 31) form (after (new shapes) w (begunAbove (c .before .before .before .before .before .before .before .before .before .before .before .before .before .args .book .now) a)) (c .before .before .before .before .before .new .given .0 .1 .0)) (begunOf (endedNow (c .before .before .before .before .before .before .before .before .before .before .before .before .before .args .counts))) (c .before .before .before .before .before .before .before .before .before .before .before .before .before .args .cells .now) (c .read-form .last .0) (c .before .before .before .before .before .before .before .before .before .before .before .before .before .args .values .now) (c .read-form .last .1 .0) (c .read-form .result)
 read c a h w =
-    let s = c .before .before .before .before .before .before .before .before .before .before .before .before .args in
+    let s = c .before .before .before .before .before .before .before .before .before .before .before .before .before .args in
     let e = begun-after (s .names .now) (s .counts) a h (s .book .now) w in
     c .read-form .ensures .0 a h (after (new shapes) w (begunAbove (s .book .now) a)) (ap (λ (b : Begun). b .forms) e ∙ sym (add-zero (s .counts .forms))) (ap (λ (b : Begun). b .paths) e) (ap (λ (b : Begun). b .items) e)
 
@@ -44,7 +44,7 @@ same-length c = search needs
 
 returns : tie.Need-returns
 returns c =
-    let s = c .before .before .before .before .before .before .before .before .args in
+    let s = c .before .before .before .before .before .before .before .before .before .args in
     let S = s .book .now in
     let r = c .before .before .before .read-new in
     let k = c .before .enum-told .given in
@@ -54,9 +54,9 @@ returns c =
 
 read-form-requires : tie.Need-read-form-requires
 read-form-requires c κs =
-    let p = c .before .before .before .before .before .before .before .before .before .before .before .pre in
+    let p = c .before .before .before .before .before .before .before .before .before .before .before .before .pre in
     let f = p .5 in
-    (below-is _ _ (c .before .before .before .before .before .before .read-new .result) _ _ (c .before .before .before .before .before .before .read-new .ensures .1) (c .before .before .before .before .new .given .1) .1, p .1, p .2, p .3, omega (arith, f .form-limit), f .path-limit, f .item-limit, p .4)
+    (below-is _ _ (c .before .before .before .before .before .before .read-new .result) _ _ (c .before .before .before .before .before .before .read-new .ensures .1) (c .before .before .before .before .new .given .1) .1, p .1, p .2, p .3, omega (arith, f .form-limit), f .path-limit, f .item-limit, p .4, p .7)
 
 enum-known-k : tie.Need-enum-known-k
 enum-known-k c = search needs
@@ -66,12 +66,12 @@ enum-known-m c = search needs
 
 shape-end-requires : tie.Need-shape-end-requires
 shape-end-requires c κs =
-    let s = c .before .before .before .before .before .before .before .before .before .before .before .before .before .before .before .before .before .before .before .before .args in
+    let s = c .before .before .before .before .before .before .before .before .before .before .before .before .before .before .before .before .before .before .before .before .before .args in
     let r = c .before .before .before .before .before .before .before .before .before .before .before .before .before .before .before .read-new in
     let u = c .before .before .before .before .before .before .before .before .before .before .before .before .before .new .given in
     let o = c .before .before .before .before .before .before .before .before .read-form in
     let v = c .before .before .before .m .given in
-    let q = c .before .before .before .before .before .before .before .before .before .before .before .before .before .before .before .before .before .before .before .before .pre in
+    let q = c .before .before .before .before .before .before .before .before .before .before .before .before .before .before .before .before .before .before .before .before .before .pre in
     let (a, h) = q .6 in
     let f = new-facts (s .book .now) a shapes (begunAbove (s .book .now) a) (s .at) (r .result) (u .0 .0) (u .0 .1 .0) (r .ensures .0 a h) (u .1) in
     let m = shape-room (s .counts .shapes) (let x = f .room in let y = h .name-count shapes in omega arith) in
@@ -91,7 +91,7 @@ same-length-4 c = search needs
 
 returns-2 : tie.Need-returns-2
 returns-2 c =
-    let s = c .before .before .before .before .before .before .before .before .before .before .before .before .before .before .before .before .before .before .args in
+    let s = c .before .before .before .before .before .before .before .before .before .before .before .before .before .before .before .before .before .before .before .args in
     let S = s .book .now in
     let r = c .before .before .before .before .before .before .before .before .before .before .before .before .before .read-new in
     let u = c .before .before .before .before .before .before .before .before .before .before .before .new .given in
@@ -116,7 +116,7 @@ same-length-7 c = search needs
 returns-3 : tie.Need-returns-3
 unfolding lineRoom
 returns-3 c =
-    let s = c .before .before .before .before .before .before .before .before .before .before .before .before .before .before .before .before .before .before .before .before .before .before .before .before .before .args in
+    let s = c .before .before .before .before .before .before .before .before .before .before .before .before .before .before .before .before .before .before .before .before .before .before .before .before .before .before .args in
     let S = s .book .now in
     let r = c .before .before .before .before .before .before .before .before .before .before .before .before .before .before .before .before .before .before .before .before .read-new in
     let u = c .before .before .before .before .before .before .before .before .before .before .before .before .before .before .before .before .before .before .new .given in

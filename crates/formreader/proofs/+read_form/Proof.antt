@@ -24,22 +24,22 @@ use Rattle.leafreader.proofs.close_form.Reads as close-form-reads
 use Rattle.formreader.proofs.+read_form.{statement}
 use Rattle.formreader.proofs.+read_form.Tie.{close}
 
-abbrev μ-read-form : Measures 4 read-form-kinds.ps ℕ
-μ-read-form κs a = a .1 .1 .1 .1 .1 .1 .0
+abbrev μ-read-form : Measures 5 read-form-kinds.ps ℕ
+μ-read-form κs a = a .1 .1 .1 .1 .1 .1 .1 .0
 
-abbrev read-form-at : ℕ → In 4 read-form-kinds.ps
-read-form-at t = and 4 read-form-kinds.ps (is 4 read-form-kinds.ps μ-read-form t) read-form.Pre
+abbrev read-form-at : ℕ → In 5 read-form-kinds.ps
+read-form-at t = and 5 read-form-kinds.ps (is 5 read-form-kinds.ps μ-read-form t) read-form.Pre
 
-abbrev read-form-below : ℕ → In 4 read-form-kinds.ps
+abbrev read-form-below : ℕ → In 5 read-form-kinds.ps
 read-form-below t =
-    and 4 read-form-kinds.ps (falls 4 read-form-kinds.ps _<_ μ-read-form t) read-form.Pre
+    and 5 read-form-kinds.ps (falls 5 read-form-kinds.ps _<_ μ-read-form t) read-form.Pre
 
 abbrev read-form-calls : ℕ → read-form-lts.Claims
 read-form-calls t = (open-form-reads.Asked, open-form-reads.Learnt, read-form-below t, read-form.Post, close-child-reads.Asked, close-child-reads.Learnt, close-form-reads.Asked, close-form-reads.Learnt)
 
 read-form-open-form-requires : (t : ℕ) → read-form-lts.Need-open-form-requires (read-form-calls t) (read-form-at t) read-form.Post
 read-form-open-form-requires t c κs =
-    c .before .before .before .before .before .pre .1
+    c .before .before .before .before .before .before .pre .1
 
 read-form-enum-known-form : (t : ℕ) → read-form-lts.Need-enum-known-form (read-form-calls t) (read-form-at t) read-form.Post
 read-form-enum-known-form t c =
@@ -49,9 +49,9 @@ read-form-enum-known-p : (t : ℕ) → read-form-lts.Need-enum-known-p (read-for
 read-form-enum-known-p t c =
     search needs
 
-read-form-sub-depth : (t : ℕ) → read-form-lts.Need-sub-depth (read-form-calls t) (read-form-at t) read-form.Post
-read-form-sub-depth t c =
-    let s = c .before .before .before .before .before .before .before .before .before .before .before .before .args in
+read-form-sub-d : (t : ℕ) → read-form-lts.Need-sub-d (read-form-calls t) (read-form-at t) read-form.Post
+read-form-sub-d t c =
+    let s = c .before .before .before .before .before .before .before .before .before .before .before .before .before .args in
     let o = c .before .before .before .before .before .before .open-form in
     let fr = c .before .p .given in
     let front : Front = fr .0 .0 in
@@ -59,9 +59,9 @@ read-form-sub-depth t c =
     let l = w .0 in
     omega arith
 
-read-form-add-begun : (t : ℕ) → read-form-lts.Need-add-begun (read-form-calls t) (read-form-at t) read-form.Post
-read-form-add-begun t c =
-    let s = c .before .before .before .before .before .before .before .before .before .before .before .before .args in
+read-form-add-u : (t : ℕ) → read-form-lts.Need-add-u (read-form-calls t) (read-form-at t) read-form.Post
+read-form-add-u t c =
+    let s = c .before .before .before .before .before .before .before .before .before .before .before .before .before .args in
     let o = c .before .before .before .before .before .before .open-form in
     let fr = c .before .p .given in
     let front : Front = fr .0 .0 in
@@ -71,8 +71,8 @@ read-form-add-begun t c =
 
 read-form-read-form-requires : (t : ℕ) → read-form-lts.Need-read-form-requires (read-form-calls t) (read-form-at t) read-form.Post
 read-form-read-form-requires t c κs =
-    let s = c .before .before .before .before .before .before .before .before .before .before .before .before .before .before .args in
-    let p = c .before .before .before .before .before .before .before .before .before .before .before .before .before .before .pre in
+    let s = c .before .before .before .before .before .before .before .before .before .before .before .before .before .before .before .args in
+    let p = c .before .before .before .before .before .before .before .before .before .before .before .before .before .before .before .pre in
     let o = c .before .before .before .before .before .before .before .before .open-form in
     let fr = c .before .before .before .p .given in
     let front : Front = fr .0 .0 in
@@ -80,7 +80,7 @@ read-form-read-form-requires t c κs =
     let m = p .0 in
     let l = w .0 in
     let u = w .1 in
-    (omega arith, (w .3, p .1 .1, omega (arith, o .kept .0, p .1 .2), omega (arith, o .kept .1 .0, p .1 .3), omega arith, w .2, p .1 .6, p .1 .7))
+    (omega arith, (w .3, p .1 .1, omega (arith, o .kept .0, p .1 .2), omega (arith, o .kept .1 .0, p .1 .3), omega arith, w .2, p .1 .6, p .1 .7, p .1 .8))
 
 read-form-enum-known-first : (t : ℕ) → read-form-lts.Need-enum-known-first (read-form-calls t) (read-form-at t) read-form.Post
 read-form-enum-known-first t c =
@@ -100,7 +100,7 @@ read-form-same-length-2 t c =
 
 read-form-returns : (t : ℕ) → read-form-lts.Need-returns (read-form-calls t) (read-form-at t) read-form.Post
 read-form-returns t c =
-    let s = c .before .before .before .before .before .before .before .before .before .before .before .before .before .before .before .before .before .before .before .before .args in
+    let s = c .before .before .before .before .before .before .before .before .before .before .before .before .before .before .before .before .before .before .before .before .before .args in
     let o = c .before .before .before .before .before .before .before .before .before .before .before .before .before .before .open-form in
     let fr = c .before .before .before .before .before .before .before .before .before .p .given in
     let front : Front = fr .0 .0 in
@@ -118,8 +118,8 @@ read-form-returns t c =
 
 read-form-close-child-requires : (t : ℕ) → read-form-lts.Need-close-child-requires (read-form-calls t) (read-form-at t) read-form.Post
 read-form-close-child-requires t c κs =
-    let s = c .before .before .before .before .before .before .before .before .before .before .before .before .before .before .before .before .before .before .before .before .before .before .before .before .args in
-    let p = c .before .before .before .before .before .before .before .before .before .before .before .before .before .before .before .before .before .before .before .before .before .before .before .before .pre in
+    let s = c .before .before .before .before .before .before .before .before .before .before .before .before .before .before .before .before .before .before .before .before .before .before .before .before .before .args in
+    let p = c .before .before .before .before .before .before .before .before .before .before .before .before .before .before .before .before .before .before .before .before .before .before .before .before .before .pre in
     let o = c .before .before .before .before .before .before .before .before .before .before .before .before .before .before .before .before .before .before .open-form in
     let fr = c .before .before .before .before .before .before .before .before .before .before .before .before .before .p .given in
     let front : Front = fr .0 .0 in
@@ -142,7 +142,7 @@ read-form-same-length-4 t c =
 
 read-form-returns-2 : (t : ℕ) → read-form-lts.Need-returns-2 (read-form-calls t) (read-form-at t) read-form.Post
 read-form-returns-2 t c =
-    let s = c .before .before .before .before .before .before .before .before .before .before .before .before .before .before .before .before .before .before .before .before .before .before .before .before .before .before .before .args in
+    let s = c .before .before .before .before .before .before .before .before .before .before .before .before .before .before .before .before .before .before .before .before .before .before .before .before .before .before .before .before .args in
     let o = c .before .before .before .before .before .before .before .before .before .before .before .before .before .before .before .before .before .before .before .before .before .open-form in
     let fr = c .before .before .before .before .before .before .before .before .before .before .before .before .before .before .before .before .p .given in
     let front : Front = fr .0 .0 in
@@ -169,8 +169,8 @@ read-form-returns-2 t c =
 
 read-form-read-form-requires-2 : (t : ℕ) → read-form-lts.Need-read-form-requires-2 (read-form-calls t) (read-form-at t) read-form.Post
 read-form-read-form-requires-2 t c κs =
-    let s = c .before .before .before .before .before .before .before .before .before .before .before .before .before .before .before .before .before .before .before .before .before .before .before .before .before .args in
-    let p = c .before .before .before .before .before .before .before .before .before .before .before .before .before .before .before .before .before .before .before .before .before .before .before .before .before .pre in
+    let s = c .before .before .before .before .before .before .before .before .before .before .before .before .before .before .before .before .before .before .before .before .before .before .before .before .before .before .args in
+    let p = c .before .before .before .before .before .before .before .before .before .before .before .before .before .before .before .before .before .before .before .before .before .before .before .before .before .before .pre in
     let o = c .before .before .before .before .before .before .before .before .before .before .before .before .before .before .before .before .before .before .before .open-form in
     let fr = c .before .before .before .before .before .before .before .before .before .before .before .before .before .before .p .given in
     let front : Front = fr .0 .0 in
@@ -182,7 +182,7 @@ read-form-read-form-requires-2 t c κs =
     let w1 = within-is (s .n .forms) (s .up + 1) (length (s .book .now)) (r .result) l next (r .ensures .1 .0) (f .1) in
     let m = p .0 in
     let u = w .0 in
-    (omega arith, (w1 .4, p .1 .1, omega (arith, r .kept .0, o .kept .0, p .1 .2), omega (arith, r .kept .1 .0, o .kept .1 .0, p .1 .3), w1 .1, w1 .2, w1 .3, p .1 .7))
+    (omega arith, (w1 .4, p .1 .1, omega (arith, r .kept .0, o .kept .0, p .1 .2), omega (arith, r .kept .1 .0, o .kept .1 .0, p .1 .3), w1 .1, w1 .2, w1 .3, p .1 .7, p .1 .8))
 
 read-form-enum-known-second : (t : ℕ) → read-form-lts.Need-enum-known-second (read-form-calls t) (read-form-at t) read-form.Post
 read-form-enum-known-second t c =
@@ -202,7 +202,7 @@ read-form-same-length-6 t c =
 
 read-form-returns-3 : (t : ℕ) → read-form-lts.Need-returns-3 (read-form-calls t) (read-form-at t) read-form.Post
 read-form-returns-3 t c =
-    let s = c .before .before .before .before .before .before .before .before .before .before .before .before .before .before .before .before .before .before .before .before .before .before .before .before .before .before .before .before .before .before .before .args in
+    let s = c .before .before .before .before .before .before .before .before .before .before .before .before .before .before .before .before .before .before .before .before .before .before .before .before .before .before .before .before .before .before .before .before .args in
     let o = c .before .before .before .before .before .before .before .before .before .before .before .before .before .before .before .before .before .before .before .before .before .before .before .before .before .open-form in
     let fr = c .before .before .before .before .before .before .before .before .before .before .before .before .before .before .before .before .before .before .before .before .p .given in
     let front : Front = fr .0 .0 in
@@ -228,7 +228,7 @@ read-form-returns-3 t c =
 
 read-form-sub-close-form : (t : ℕ) → read-form-lts.Need-sub-close-form (read-form-calls t) (read-form-at t) read-form.Post
 read-form-sub-close-form t c =
-    let s = c .before .before .before .before .before .before .before .before .before .before .before .before .before .before .before .before .before .before .before .before .before .before .before .before .before .before .before .before .before .before .before .before .before .before .args in
+    let s = c .before .before .before .before .before .before .before .before .before .before .before .before .before .before .before .before .before .before .before .before .before .before .before .before .before .before .before .before .before .before .before .before .before .before .before .args in
     let r = c .before .before .before .before .before .before .before .before .before .before .before .before .before .before .before .before .before .before .before .read-form in
     let f = c .before .before .before .before .before .before .before .before .before .before .before .before .before .before .first .given in
     let l : Ended = f .0 .0 in
@@ -239,7 +239,7 @@ read-form-sub-close-form t c =
 
 read-form-cast-close-form : (t : ℕ) → read-form-lts.Need-cast-close-form (read-form-calls t) (read-form-at t) read-form.Post
 read-form-cast-close-form t c =
-    let s = c .before .before .before .before .before .before .before .before .before .before .before .before .before .before .before .before .before .before .before .before .before .before .before .before .before .before .before .before .before .before .before .before .before .before .args in
+    let s = c .before .before .before .before .before .before .before .before .before .before .before .before .before .before .before .before .before .before .before .before .before .before .before .before .before .before .before .before .before .before .before .before .before .before .before .args in
     let r = c .before .before .before .before .before .before .before .before .before .before .before .before .before .before .before .before .before .before .before .read-form in
     let f = c .before .before .before .before .before .before .before .before .before .before .before .before .before .before .first .given in
     let l : Ended = f .0 .0 in
@@ -250,7 +250,7 @@ read-form-cast-close-form t c =
 
 read-form-sub-close-form-2 : (t : ℕ) → read-form-lts.Need-sub-close-form-2 (read-form-calls t) (read-form-at t) read-form.Post
 read-form-sub-close-form-2 t c =
-    let s = c .before .before .before .before .before .before .before .before .before .before .before .before .before .before .before .before .before .before .before .before .before .before .before .before .before .before .before .before .before .before .before .before .before .before .before .args in
+    let s = c .before .before .before .before .before .before .before .before .before .before .before .before .before .before .before .before .before .before .before .before .before .before .before .before .before .before .before .before .before .before .before .before .before .before .before .before .args in
     let r = c .before .before .before .before .before .before .before .before .before .before .before .before .before .before .before .before .before .before .before .before .read-form in
     let f = c .before .before .before .before .before .before .before .before .before .before .before .before .before .before .before .first .given in
     let l : Ended = f .0 .0 in
@@ -265,7 +265,7 @@ read-form-sub-close-form-2 t c =
 
 read-form-cast-close-form-2 : (t : ℕ) → read-form-lts.Need-cast-close-form-2 (read-form-calls t) (read-form-at t) read-form.Post
 read-form-cast-close-form-2 t c =
-    let s = c .before .before .before .before .before .before .before .before .before .before .before .before .before .before .before .before .before .before .before .before .before .before .before .before .before .before .before .before .before .before .before .before .before .before .before .args in
+    let s = c .before .before .before .before .before .before .before .before .before .before .before .before .before .before .before .before .before .before .before .before .before .before .before .before .before .before .before .before .before .before .before .before .before .before .before .before .args in
     let r = c .before .before .before .before .before .before .before .before .before .before .before .before .before .before .before .before .before .before .before .before .read-form in
     let f = c .before .before .before .before .before .before .before .before .before .before .before .before .before .before .before .first .given in
     let l : Ended = f .0 .0 in
@@ -280,8 +280,8 @@ read-form-cast-close-form-2 t c =
 
 read-form-close-form-requires : (t : ℕ) → read-form-lts.Need-close-form-requires (read-form-calls t) (read-form-at t) read-form.Post
 read-form-close-form-requires t c κs =
-    let s = c .before .before .before .before .before .before .before .before .before .before .before .before .before .before .before .before .before .before .before .before .before .before .before .before .before .before .before .before .before .before .before .before .before .before .before .args in
-    let p = c .before .before .before .before .before .before .before .before .before .before .before .before .before .before .before .before .before .before .before .before .before .before .before .before .before .before .before .before .before .before .before .before .before .before .before .pre in
+    let s = c .before .before .before .before .before .before .before .before .before .before .before .before .before .before .before .before .before .before .before .before .before .before .before .before .before .before .before .before .before .before .before .before .before .before .before .before .args in
+    let p = c .before .before .before .before .before .before .before .before .before .before .before .before .before .before .before .before .before .before .before .before .before .before .before .before .before .before .before .before .before .before .before .before .before .before .before .before .pre in
     let o = c .before .before .before .before .before .before .before .before .before .before .before .before .before .before .before .before .before .before .before .before .before .before .before .before .before .before .before .before .before .open-form in
     let r = c .before .before .before .before .before .before .before .before .before .before .before .before .before .before .before .before .before .before .before .before .read-form in
     let f = c .before .before .before .before .before .before .before .before .before .before .before .before .before .before .before .first .given in
@@ -305,7 +305,7 @@ read-form-same-length-8 t c =
 
 read-form-returns-4 : (t : ℕ) → read-form-lts.Need-returns-4 (read-form-calls t) (read-form-at t) read-form.Post
 read-form-returns-4 t c =
-    let s = c .before .before .before .before .before .before .before .before .before .before .before .before .args in
+    let s = c .before .before .before .before .before .before .before .before .before .before .before .before .before .args in
     let o = c .before .before .before .before .before .before .open-form in
     let j = c .before .form .given in (
       λ a h b bf bp bi. whole-read (s .book .now) a (readersAt (s .book .now) a (s .left - 1)) (formBegun b) (argAt (s .book .now) a (readersAt (s .book .now) a (s .left)) form b (s .at)) (begunOf (s .n)) (s .cells .now) (o .last .0) (s .values .now) (o .last .1 .0) (o .result) (o .ensures .0 a h b bf bp bi) (j .0 .0) (j .1),
@@ -322,7 +322,7 @@ read-form-same-length-10 t c =
 
 read-form-returns-5 : (t : ℕ) → read-form-lts.Need-returns-5 (read-form-calls t) (read-form-at t) read-form.Post
 read-form-returns-5 t c =
-    let s = c .before .before .before .before .before .before .before .before .before .before .before .before .before .before .before .before .before .before .before .before .before .before .before .before .before .before .before .before .before .before .before .before .before .before .before .before .before .before .args in
+    let s = c .before .before .before .before .before .before .before .before .before .before .before .before .before .before .before .before .before .before .before .before .before .before .before .before .before .before .before .before .before .before .before .before .before .before .before .before .before .before .before .args in
     let o = c .before .before .before .before .before .before .before .before .before .before .before .before .before .before .before .before .before .before .before .before .before .before .before .before .before .before .before .before .before .before .before .before .open-form in
     let fr = c .before .before .before .before .before .before .before .before .before .before .before .before .before .before .before .before .before .before .before .before .before .before .before .before .before .before .before .p .given in
     let front : Front = fr .0 .0 in
@@ -363,8 +363,8 @@ pub +read-form-spec : {M : Type 1} → statement M
     (read-form-open-form-requires t)
     (read-form-enum-known-form t)
     (read-form-enum-known-p t)
-    (read-form-sub-depth t)
-    (read-form-add-begun t)
+    (read-form-sub-d t)
+    (read-form-add-u t)
     (read-form-read-form-requires t)
     (read-form-enum-known-first t)
     (read-form-enum-told t)

@@ -46,19 +46,19 @@ cast-open-path-2 c =
 open-path-requires : tie.Need-open-path-requires
 open-path-requires c κs =
     let w = below-is _ _ (c .before .before .before .before .read-high .result) _ _ (c .before .before .before .before .read-high .ensures .1) (c .before .before .high .given .1) .1 in
-    let p = c .before .before .before .before .before .before .before .before .before .before .before .before .pre in
-    (w, p .1, p .2, p .3, p .4, p .5, p .6)
+    let p = c .before .before .before .before .before .before .before .before .before .before .before .before .before .pre in
+    (w, p .1, p .2, p .3, p .4, p .5, p .6, p .7)
 
 returns : tie.Need-returns
 returns c =
-    let s = c .before .before .before .before .before .before .before .args in
+    let s = c .before .before .before .before .before .before .before .before .args in
     let k = c .before .k .given in
     let r = c .before .before .before .read-low in
     (λ a h b e vs. form-no (k .0 .0) (low-refused (s .book .now) a (s .left - 1) b (s .at) (k .0 .0) (item-refused same (argAt (s .book .now) a (readersAt (s .book .now) a (s .left - 1)) low b (s .at)) (r .result) (k .0 .0) (r .ensures .0 a (readersAt (s .book .now) a (s .left - 1)) b) (k .1))) refl, (tt, refl))
 
 returns-2 : tie.Need-returns-2
 returns-2 c =
-    let s = c .before .before .before .before .before .before .before .before .before .before .before .args in
+    let s = c .before .before .before .before .before .before .before .before .before .before .before .before .args in
     let k = c .before .k2 .given in
     let j = c .before .before .before .before .before .low .given in
     let r = c .before .before .before .before .before .before .before .read-low in
@@ -72,7 +72,7 @@ same-length c = search needs
 
 returns-3 : tie.Need-returns-3
 returns-3 c =
-    let s = c .before .before .before .before .before .before .before .before .before .before .before .before .before .before .before .args in
+    let s = c .before .before .before .before .before .before .before .before .before .before .before .before .before .before .before .before .args in
     let j = c .before .before .before .before .before .before .before .before .before .low .given in
     let i = c .before .before .before .before .before .high .given in
     let r = c .before .before .before .before .before .before .before .before .before .before .before .read-low in

@@ -17,7 +17,7 @@ byte-requires c κs = search needs
 
 returns : tie.Need-returns
 returns c =
-    let s = c .before .before .before .before .before .args in
+    let s = c .before .before .before .before .before .before .args in
     (λ a h b f p i. form-no 2 (form-unspaced (s .book .now) a b (s .at) (s .n .forms + s .up) f (s .left) (λ e. c .if1 .taken (c .before .byte .ensures ∙ e))) refl, (tt, (refl, refl)))
 
 add-form-head : tie.Need-add-form-head
@@ -28,7 +28,7 @@ add-form-head-2 c = search needs
 
 form-head-requires : tie.Need-form-head-requires
 form-head-requires c κs =
-    let s = c .before .before .before .before .before .args in
+    let s = c .before .before .before .before .before .before .args in
     let i : s .at < length (s .book .now) = inside (s .book .now) (s .at) (λ e. omega (arith, c .before .byte .ensures, c .if1 .left)) in
     omega arith
 
@@ -40,8 +40,8 @@ add-read-true c = search needs
 
 read-true-requires : tie.Need-read-true-requires
 read-true-requires c κs =
-    let s = c .before .before .before .before .before .before .before .before .before .args in
-    let p = c .before .before .before .before .before .before .before .before .before .pre in
+    let s = c .before .before .before .before .before .before .before .before .before .before .args in
+    let p = c .before .before .before .before .before .before .before .before .before .before .pre in
     let i : s .at < length (s .book .now) = inside (s .book .now) (s .at) (λ e. omega (arith, c .before .before .before .before .before .byte .ensures, c .before .before .before .before .if1 .left)) in
     (omega arith, p .2, p .4, p .5, p .6)
 
@@ -53,25 +53,25 @@ enum-known-code c = search needs
 
 open-word-requires : tie.Need-open-word-requires
 open-word-requires c κs =
-    let s = c .before .before .before .before .before .before .before .before .before .before .before .args in
-    let p = c .before .before .before .before .before .before .before .before .before .before .before .pre in
+    let s = c .before .before .before .before .before .before .before .before .before .before .before .before .args in
+    let p = c .before .before .before .before .before .before .before .before .before .before .before .before .pre in
     let w = headed-word _ _ _ _ (c .before .before .before .before .before .form-head .result) _ _ (c .before .before .before .before .before .form-head .ensures .1) (c .before .before .before .code .given .1) in
     let u = leb-false 112 (s .n .forms + s .up) (w .2) in
-    (w .3, p .1, p .2, p .3, w .1, omega arith, p .5, p .6, p .7, w .0)
+    (w .3, p .1, p .2, p .3, w .1, omega arith, p .5, p .6, p .7, w .0, p .8)
 
 same-length : tie.Need-same-length
 same-length c = search needs
 
 returns-2 : tie.Need-returns-2
 returns-2 c =
-    let s = c .before .before .before .before .before .before .before .before .before .before .before .before .args in
+    let s = c .before .before .before .before .before .before .before .before .before .before .before .before .before .args in
     let hd = c .before .before .before .before .before .before .form-head in
     let o = c .before .before .read-true in
     (λ a h b f p i. form-is (form-bare (s .book .now) a b (s .at) (s .n .forms + s .up) f (sym (c .before .before .before .before .before .before .before .before .byte .ensures) ∙ c .before .before .before .before .before .before .before .if1 .left) (s .left) (hd .result) (hd .ensures .0) (c .before .before .before .before .enum-told .given .1)) (o .ensures .0 a (s .values .now)), (o .ensures .1 .0, (o .ensures .1 .1, refl)))
 
 returns-3 : tie.Need-returns-3
 returns-3 c =
-    let s = c .before .before .before .before .before .before .before .before .before .args in
+    let s = c .before .before .before .before .before .before .before .before .before .before .args in
     let hd = c .before .before .before .form-head in
     let k = c .before .k .given in
     (λ a h b f p i. form-no (k .0 .0) (form-head-refused (s .book .now) a b (s .at) (s .n .forms + s .up) f (sym (c .before .before .before .before .before .byte .ensures) ∙ c .before .before .before .before .if1 .left) (s .left) (hd .result) (hd .ensures .0) (k .0 .0) (k .1)) refl, (tt, (refl, refl)))
@@ -84,7 +84,7 @@ same-length-3 c = search needs
 
 returns-4 : tie.Need-returns-4
 returns-4 c =
-    let s = c .before .before .before .before .before .before .before .before .before .before .before .before .before .before .before .args in
+    let s = c .before .before .before .before .before .before .before .before .before .before .before .before .before .before .before .before .args in
     let hd = c .before .before .before .before .before .before .before .before .before .form-head in
     let w = c .before .before .before .before .before .before .before .code .given in
     let l = headed-word _ _ _ _ (hd .result) _ _ (hd .ensures .1) (w .1) .1 in

@@ -27,13 +27,13 @@ enum-known-k c = search needs
 enum-known-m : tie.Need-enum-known-m
 enum-known-m c = search needs
 
-sub-t22 : tie.Need-sub-t22
-sub-t22 c =
+sub-t23 : tie.Need-sub-t23
+sub-t23 c =
     let g = grown-is _ _ _ (c .before .before .before .before .before .read-path .result) _ _ (c .before .before .before .before .before .read-path .ensures .1 .0) (c .before .m .given .1) .0 in
     omega arith
 
-cast-t23 : tie.Need-cast-t23
-cast-t23 c =
+cast-t24 : tie.Need-cast-t24
+cast-t24 c =
     let g = grown-is _ _ _ (c .before .before .before .before .before .read-path .result) _ _ (c .before .before .before .before .before .read-path .ensures .1 .0) (c .before .m .given .1) .1 in
     omega arith
 
@@ -42,7 +42,7 @@ same-length c = search needs
 
 returns : tie.Need-returns
 returns c =
-    let s = c .before .before .before .before .before .before .before .before .before .before .args in
+    let s = c .before .before .before .before .before .before .before .before .before .before .before .args in
     let k = c .before .k .given in
     let r = c .before .before .before .before .before .read-path in
     (λ a h b e q f g i vs. form-no (k .0 .0) (rest-refused (s .book .now) a (readersAt (s .book .now) a (s .left - 1)) true path (form ∷ []) (λ xs. quantify q (xs .0) (xs .1 .0)) b (s .at) (k .0 .0) (done-refused (k .0 .0) (r .ensures .0 a h b (e ∙ sym (add-zero (s .n .paths)))) (k .1))) refl, (tt, r .ensures .1 .1))
@@ -52,8 +52,8 @@ same-length-2 c = search needs
 
 returns-2 : tie.Need-returns-2
 returns-2 c =
-    let s = c .before .before .before .before .before .before .before .before .before .before .args in
-    let p = c .before .before .before .before .before .before .before .before .before .before .pre in
+    let s = c .before .before .before .before .before .before .before .before .before .before .before .args in
+    let p = c .before .before .before .before .before .before .before .before .before .before .before .pre in
     let j = c .before .m .given in
     let r = c .before .before .before .before .before .read-path in
     let m : ℕ = j .0 .0 in
@@ -70,8 +70,8 @@ open-path-spec =
     read-path-requires
     enum-known-k
     enum-known-m
-    sub-t22
-    cast-t23
+    sub-t23
+    cast-t24
     same-length
     returns
     same-length-2

@@ -1,10 +1,10 @@
 use borrow.Author.Needs.{needs}
-use Prim.Native.Nat.{suc, _+_, _-_, _≤_}
+use Prim.Native.Nat.{suc, _+_, _-_}
 use mathlib.Core.Path.{_≡_, refl, sym, ap, _∙_}
 use mathlib.Core.List.{List, _∷_}
 use native.Mathlib.Omega.{arith}
 use native.Mathlib.Nat.{add-zero}
-use lib.ListN.{length, getD, set, length-set}
+use lib.ListN.{getD, length-set}
 use lib.Seq.{drop-set-lt}
 use Rattle.model.specs.Books.{Book}
 use Rattle.stores.specs.Entries.{putItems}
@@ -25,15 +25,15 @@ use Rattle.text.proofs.byte.Reads as byte-reads
 use Rattle.itemreader.proofs.+read_list.{statement}
 use Rattle.itemreader.proofs.+read_list.Tie.{close}
 
-abbrev μ-read-list : Measures 3 read-list-kinds.ps ℕ
-μ-read-list κs a = 128 - a .1 .1 .1 .1 .1 .1 .0
+abbrev μ-read-list : Measures 4 read-list-kinds.ps ℕ
+μ-read-list κs a = 128 - a .1 .1 .1 .1 .1 .1 .1 .0
 
-abbrev read-list-at : ℕ → In 3 read-list-kinds.ps
-read-list-at t = and 3 read-list-kinds.ps (is 3 read-list-kinds.ps μ-read-list t) read-list.Pre
+abbrev read-list-at : ℕ → In 4 read-list-kinds.ps
+read-list-at t = and 4 read-list-kinds.ps (is 4 read-list-kinds.ps μ-read-list t) read-list.Pre
 
-abbrev read-list-below : ℕ → In 3 read-list-kinds.ps
+abbrev read-list-below : ℕ → In 4 read-list-kinds.ps
 read-list-below t =
-    and 3 read-list-kinds.ps (falls 3 read-list-kinds.ps _<_ μ-read-list t) read-list.Pre
+    and 4 read-list-kinds.ps (falls 4 read-list-kinds.ps _<_ μ-read-list t) read-list.Pre
 
 abbrev read-list-calls : ℕ → read-list-lts.Claims
 read-list-calls t = (byte-reads.Asked, byte-reads.Learnt, read-used-reads.Asked, read-used-reads.Learnt, read-list-below t, read-list.Post)
@@ -48,16 +48,16 @@ read-list-byte-requires t c κs = tt
 read-list-returns : (t : ℕ) → read-list-lts.Need-returns (read-list-calls t) (read-list-at t) read-list.Post
 unfolding putItems
 read-list-returns t c =
-    let s = c .before .before .before .before .before .args in
+    let s = c .before .before .before .before .before .before .args in
     let n : getD (s .book .now) (s .at) 0 ≡ 32 → ⊥ = λ e. c .if1 .taken (c .before .byte .ensures ∙ e) in (
       λ a h. rw (list-end (s .book .now) a (poolOf (s .pool)) (s .at) (128 - s .i) n) (ap (λ (k : ℕ). Item.Is k (s .at)) (sym (add-zero (s .i)))),
-      (λ a h. rw (list-end (s .book .now) a (poolOf (s .pool)) (s .at) (128 - s .i) n) refl, ((omega arith, omega arith, c .before .before .before .before .before .pre .1 .0), refl)),
+      (λ a h. rw (list-end (s .book .now) a (poolOf (s .pool)) (s .at) (128 - s .i) n) refl, ((omega arith, omega arith, c .before .before .before .before .before .before .pre .1 .0), refl)),
     )
 
 read-list-read-used-requires : (t : ℕ) → read-list-lts.Need-read-used-requires (read-list-calls t) (read-list-at t) read-list.Post
 read-list-read-used-requires t c κs =
-    let p = c .before .before .before .before .before .pre .1 in
-    (p .0, p .1, p .4)
+    let p = c .before .before .before .before .before .before .pre .1 in
+    (p .0, p .1, p .4, p .5)
 
 read-list-enum-known-used : (t : ℕ) → read-list-lts.Need-enum-known-used (read-list-calls t) (read-list-at t) read-list.Post
 read-list-enum-known-used t c = search needs
@@ -67,7 +67,7 @@ read-list-enum-told t c = search needs
 
 read-list-returns-2 : (t : ℕ) → read-list-lts.Need-returns-2 (read-list-calls t) (read-list-at t) read-list.Post
 read-list-returns-2 t c =
-    let s = c .before .before .before .before .before .before .before .before .args in
+    let s = c .before .before .before .before .before .before .before .before .before .args in
     let k = c .enum-told .given in
     let z = sym (c .before .before .before .before .byte .ensures) ∙ c .before .before .before .if1 .left in
     let r = c .before .before .read-used in (
@@ -77,7 +77,7 @@ read-list-returns-2 t c =
 
 read-list-returns-3 : (t : ℕ) → read-list-lts.Need-returns-3 (read-list-calls t) (read-list-at t) read-list.Post
 read-list-returns-3 t c =
-    let s = c .before .before .before .before .before .before .before .before .before .before .args in
+    let s = c .before .before .before .before .before .before .before .before .before .before .before .args in
     let z = sym (c .before .before .before .before .before .before .byte .ensures) ∙ c .before .before .before .before .before .if1 .left in
     let u = c .before .before .used .given in
     let r = c .before .before .before .before .read-used in
@@ -88,9 +88,9 @@ read-list-returns-3 t c =
 
 read-list-cast-cells : (t : ℕ) → read-list-lts.Need-cast-cells (read-list-calls t) (read-list-at t) read-list.Post
 read-list-cast-cells t c =
-    let s = c .before .before .before .before .before .before .before .before .before .before .args in
+    let s = c .before .before .before .before .before .before .before .before .before .before .before .args in
     let b = below-is _ _ (c .before .before .before .before .read-used .result) _ _ (c .before .before .before .before .read-used .ensures .1) (c .before .before .used .given .1) .0 in
-    let l = count-limit (s .counts) (poolOf (s .pool)) (c .before .before .before .before .before .before .before .before .before .before .pre .1 .4) in
+    let l = count-limit (s .counts) (poolOf (s .pool)) (c .before .before .before .before .before .before .before .before .before .before .before .pre .1 .4) in
     omega arith
 
 read-list-add-cells : (t : ℕ) → read-list-lts.Need-add-cells (read-list-calls t) (read-list-at t) read-list.Post
@@ -107,21 +107,21 @@ read-list-add-read-list t c = search needs
 
 read-list-read-list-requires : (t : ℕ) → read-list-lts.Need-read-list-requires (read-list-calls t) (read-list-at t) read-list.Post
 read-list-read-list-requires t c κs =
-    let s = c .before .before .before .before .before .before .before .before .before .before .before .args in
-    let p = c .before .before .before .before .before .before .before .before .before .before .before .pre in
+    let s = c .before .before .before .before .before .before .before .before .before .before .before .before .args in
+    let p = c .before .before .before .before .before .before .before .before .before .before .before .before .pre in
     let m = p .0 in
     let b = below-is _ _ (c .before .before .before .before .before .read-used .result) _ _ (c .before .before .before .before .before .read-used .ensures .1) (c .before .before .before .used .given .1) .1 in
     let l = c .before .if2 .left in
-    (omega arith, (b, p .1 .1, simp length-set (p .1 .2), omega arith, p .1 .4))
+    (omega arith, (b, p .1 .1, simp length-set (p .1 .2), omega arith, p .1 .4, p .1 .5))
 
 read-list-same-length : (t : ℕ) → read-list-lts.Need-same-length (read-list-calls t) (read-list-at t) read-list.Post
 read-list-same-length t c =
-    let s = c .before .before .before .before .before .before .before .before .before .before .before .before .before .before .args in
+    let s = c .before .before .before .before .before .before .before .before .before .before .before .before .before .before .before .args in
     omega (arith, c .before .before .read-list .kept .0, length-set (s .cells .now) (16314 + s .i) (c .before .before .before .before .before .before .used .given .0 .0))
 
 read-list-returns-4 : (t : ℕ) → read-list-lts.Need-returns-4 (read-list-calls t) (read-list-at t) read-list.Post
 read-list-returns-4 t c =
-    let s = c .before .before .before .before .before .before .before .before .before .before .before .before .before .before .args in
+    let s = c .before .before .before .before .before .before .before .before .before .before .before .before .before .before .before .args in
     let z = sym (c .before .before .before .before .before .before .before .before .before .before .byte .ensures) ∙ c .before .before .before .before .before .before .before .before .before .if1 .left in
     let u = c .before .before .before .before .before .before .used .given in
     let r = c .before .before .before .before .before .before .before .before .read-used in

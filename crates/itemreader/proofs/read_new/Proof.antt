@@ -31,13 +31,13 @@ add-is-well-named c = search needs
 
 is-well-named-requires : tie.Need-is-well-named-requires
 is-well-named-requires c κs =
-    let s = c .before .before .before .before .before .args in
+    let s = c .before .before .before .before .before .before .args in
     item-within (s .book .now) (s .at) (c .item-end .result) 31 (sym (c .before .before .byte .ensures) ∙ c .before .if1 .left) (c .item-end .ensures)
 
 returns-2 : tie.Need-returns-2
 unfolding argAt
 returns-2 c =
-    let s = c .before .before .before .before .before .before .before .args in
+    let s = c .before .before .before .before .before .before .before .before .args in
     let z = sym (c .before .before .before .before .byte .ensures) ∙ c .before .before .before .if1 .left in
     (λ a h R b. rw (eq-eqb _ 32 z, new-ill (s .book .now) a (s .at + 1) (c .before .before .item-end .result) (c .before .before .item-end .ensures) (poolOf (s .pool)) (sym (c .before .is-well-named .ensures) ∙ not-true _ (c .if2 .taken))), tt)
 
@@ -46,10 +46,10 @@ add-look-up c = search needs
 
 look-up-requires : tie.Need-look-up-requires
 look-up-requires c κs =
-    let s = c .before .before .before .before .before .before .before .args in
-    let p = c .before .before .before .before .before .before .before .pre in
+    let s = c .before .before .before .before .before .before .before .before .args in
+    let p = c .before .before .before .before .before .before .before .before .pre in
     let w = item-within (s .book .now) (s .at) (c .before .before .item-end .result) 31 (sym (c .before .before .before .before .byte .ensures) ∙ c .before .before .before .if1 .left) (c .before .before .item-end .ensures) in
-    (w .0, w .1, named-short (poolOf (s .pool)) (s .book .now) (s .at + 1) (c .before .before .item-end .result) (w .1) (sym (c .before .is-well-named .ensures) ∙ not-false _ (c .if2 .left)), p .1, p .2)
+    (w .0, w .1, named-short (poolOf (s .pool)) (s .book .now) (s .at + 1) (c .before .before .item-end .result) (w .1) (sym (c .before .is-well-named .ensures) ∙ not-false _ (c .if2 .left)), p .1, p .2, p .3)
 
 enum-told : tie.Need-enum-told
 enum-told c = search needs
@@ -57,7 +57,7 @@ enum-told c = search needs
 returns-3 : tie.Need-returns-3
 unfolding argAt
 returns-3 c =
-    let s = c .before .before .before .before .before .before .before .before .before .before .args in
+    let s = c .before .before .before .before .before .before .before .before .before .before .before .args in
     let end = c .before .before .before .before .before .item-end in
     let z = sym (c .before .before .before .before .before .before .before .byte .ensures) ∙ c .before .before .before .before .before .before .if1 .left in
     let w = slice (s .at + 1) (end .result) (s .book .now) in
@@ -77,7 +77,7 @@ count-requires c κs = search needs
 returns-4 : tie.Need-returns-4
 unfolding argAt
 returns-4 c =
-    let s = c .before .before .before .before .before .before .before .before .before .before .before .before .before .args in
+    let s = c .before .before .before .before .before .before .before .before .before .before .before .before .before .before .args in
     let end = c .before .before .before .before .before .before .before .before .item-end in
     let z = sym (c .before .before .before .before .before .before .before .before .before .before .byte .ensures) ∙ c .before .before .before .before .before .before .before .before .before .if1 .left in
     let p = poolOf (s .pool) in
@@ -87,19 +87,19 @@ returns-4 c =
     let l : capacity p ≤ countOf (s .counts) p = omega (arith, c .before .before .most .ensures, c .before .count .ensures, c .if3 .taken) in
     (λ a h R b. rw (eq-eqb _ 32 z, new-full (s .book .now) a (s .at + 1) (end .result) (end .ensures) p n (sym (h .finds p w n) ∙ f) (room-none a p (countOf (s .counts) p) (h .name-count p) l)), tt)
 
-add-t9 : tie.Need-add-t9
-add-t9 c = search needs
+add-t10 : tie.Need-add-t10
+add-t10 c = search needs
 
-sub-t12 : tie.Need-sub-t12
-sub-t12 c =
-    let s = c .before .before .before .before .before .before .before .before .before .before .before .before .before .args in
+sub-t13 : tie.Need-sub-t13
+sub-t13 c =
+    let s = c .before .before .before .before .before .before .before .before .before .before .before .before .before .before .args in
     let w = item-within (s .book .now) (s .at) (c .before .before .before .before .before .before .before .before .item-end .result) 31 (sym (c .before .before .before .before .before .before .before .before .before .before .byte .ensures) ∙ c .before .before .before .before .before .before .before .before .before .if1 .left) (c .before .before .before .before .before .before .before .before .item-end .ensures) in
     omega arith
 
 returns-5 : tie.Need-returns-5
 unfolding argAt
 returns-5 c =
-    let s = c .before .before .before .before .before .before .before .before .before .before .before .before .before .args in
+    let s = c .before .before .before .before .before .before .before .before .before .before .before .before .before .before .args in
     let end = c .before .before .before .before .before .before .before .before .item-end in
     let z = sym (c .before .before .before .before .before .before .before .before .before .before .byte .ensures) ∙ c .before .before .before .before .before .before .before .before .before .if1 .left in
     let p = poolOf (s .pool) in
@@ -132,6 +132,6 @@ read-new-spec =
     most-requires
     count-requires
     returns-4
-    add-t9
-    sub-t12
+    add-t10
+    sub-t13
     returns-5)

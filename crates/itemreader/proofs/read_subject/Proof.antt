@@ -1,5 +1,5 @@
 use Prim.Native.Nat.{_+_}
-use mathlib.Core.Path.{sym, ap, _∙_}
+use mathlib.Core.Path.{sym, _∙_}
 use native.Mathlib.Omega.{arith}
 use borrow.Author.Tests.{le-leb, lt-leb}
 use lib.ListN.{getD}
@@ -24,31 +24,31 @@ enum-told c = search needs
 
 returns : tie.Need-returns
 returns c =
-    let s = c .before .before .before .before .before .before .args in
+    let s = c .before .before .before .before .before .before .before .args in
     let k = c .enum-told .given in
     (λ a h kinds R b. k .1 ∙ rw (subject-refused (s .book .now) a R b (s .at) (k .0 .0) (item-refused same (argAt (s .book .now) a R (used nodes) b (s .at)) (c .before .before .read-used .result) (k .0 .0) (c .before .before .read-used .ensures .0 a h R b) (k .1))), rw (k .1) tt)
 
 add-if1 : tie.Need-add-if1
 add-if1 c =
     let b = below-is _ _ (c .before .before .before .read-used .result) _ _ (c .before .before .before .read-used .ensures .1) (c .before .used .given .1) .0 in
-    let n = c .before .before .before .before .before .before .before .pre .3 .node-limit in
+    let n = c .before .before .before .before .before .before .before .before .pre .3 .node-limit in
     omega arith
 
 mul-if1 : tie.Need-mul-if1
 mul-if1 c =
     let b = below-is _ _ (c .before .before .before .read-used .result) _ _ (c .before .before .before .read-used .ensures .1) (c .before .used .given .1) .0 in
-    let n = c .before .before .before .before .before .before .before .pre .3 .node-limit in
+    let n = c .before .before .before .before .before .before .before .before .pre .3 .node-limit in
     omega arith
 
 shared-slice-read-if1 : tie.Need-shared-slice-read-if1
 shared-slice-read-if1 c =
     let b = below-is _ _ (c .before .before .before .before .read-used .result) _ _ (c .before .before .before .before .read-used .ensures .1) (c .before .before .used .given .1) .0 in
-    let n = c .before .before .before .before .before .before .before .before .pre .3 .node-limit in
+    let n = c .before .before .before .before .before .before .before .before .before .pre .3 .node-limit in
     omega arith
 
 returns-2 : tie.Need-returns-2
 returns-2 c =
-    let s = c .before .before .before .before .before .before .before .before .before .args in
+    let s = c .before .before .before .before .before .before .before .before .before .before .args in
     let u = c .before .before .before .used .given in
     let v = u .0 .0 in
     let r = c .before .before .before .before .before .read-used in (
@@ -61,7 +61,7 @@ returns-2 c =
 
 returns-3 : tie.Need-returns-3
 returns-3 c =
-    let s = c .before .before .before .before .before .before .before .before .before .args in
+    let s = c .before .before .before .before .before .before .before .before .before .before .args in
     let u = c .before .before .before .used .given in
     let v = u .0 .0 in
     let r = c .before .before .before .before .before .read-used in (

@@ -1,5 +1,4 @@
-use mathlib.Core.Path.{sym, ap, _∙_}
-use native.Mathlib.Omega.{arith}
+use mathlib.Core.Path.{_∙_}
 use borrow.Author.Tests.{eq-eqb, ne-eqb}
 use Rattle.grammar.specs.Syntax.{used}
 use Rattle.model.specs.Books.{types}
@@ -21,13 +20,13 @@ enum-told c = search needs
 
 returns : tie.Need-returns
 returns c =
-    let s = c .before .before .before .before .before .args in
+    let s = c .before .before .before .before .before .before .args in
     let k = c .enum-told .given in
     (λ a h R b. k .1 ∙ rw (type-refused (s .book .now) a R b (s .at) (k .0 .0) (item-refused same (argAt (s .book .now) a R (used types) b (s .at)) (c .before .before .read-used .result) (k .0 .0) (c .before .before .read-used .ensures .0 a h R b) (k .1))), rw (k .1) tt)
 
 returns-2 : tie.Need-returns-2
 returns-2 c =
-    let s = c .before .before .before .before .before .before .before .args in
+    let s = c .before .before .before .before .before .before .before .before .args in
     let u = c .before .before .used .given in
     let v = u .0 .0 in
     let r = c .before .before .before .before .read-used in (
@@ -39,7 +38,7 @@ returns-2 c =
 
 returns-3 : tie.Need-returns-3
 returns-3 c =
-    let s = c .before .before .before .before .before .before .before .args in
+    let s = c .before .before .before .before .before .before .before .before .args in
     let u = c .before .before .used .given in
     let v = u .0 .0 in
     let r = c .before .before .before .before .read-used in (

@@ -1,5 +1,4 @@
-use mathlib.Core.Path.{sym, ap, _∙_}
-use native.Mathlib.Omega.{arith}
+use mathlib.Core.Path.{sym, _∙_}
 use Prim.Native.Nat.{_+_}
 use borrow.Author.Tests.{eq-eqb, ne-eqb, not-true, not-false}
 use lib.Seq.{slice}
@@ -30,13 +29,13 @@ add-is-well-named c = search needs
 
 is-well-named-requires : tie.Need-is-well-named-requires
 is-well-named-requires c κs =
-    let s = c .before .before .before .before .before .args in
+    let s = c .before .before .before .before .before .before .args in
     item-within (s .book .now) (s .at) (c .item-end .result) 31 (sym (c .before .before .byte .ensures) ∙ c .before .if1 .left) (c .item-end .ensures)
 
 returns-2 : tie.Need-returns-2
 unfolding argAt
 returns-2 c =
-    let s = c .before .before .before .before .before .before .before .args in
+    let s = c .before .before .before .before .before .before .before .before .args in
     let z = sym (c .before .before .before .before .byte .ensures) ∙ c .before .before .before .if1 .left in
     (λ a h R b. rw (eq-eqb _ 32 z, used-ill (s .book .now) a (s .at + 1) (c .before .before .item-end .result) (c .before .before .item-end .ensures) (poolOf (s .pool)) (sym (c .before .is-well-named .ensures) ∙ not-true _ (c .if2 .taken))), tt)
 
@@ -45,10 +44,10 @@ add-look-up c = search needs
 
 look-up-requires : tie.Need-look-up-requires
 look-up-requires c κs =
-    let s = c .before .before .before .before .before .before .before .args in
-    let p = c .before .before .before .before .before .before .before .pre in
+    let s = c .before .before .before .before .before .before .before .before .args in
+    let p = c .before .before .before .before .before .before .before .before .pre in
     let w = item-within (s .book .now) (s .at) (c .before .before .item-end .result) 31 (sym (c .before .before .before .before .byte .ensures) ∙ c .before .before .before .if1 .left) (c .before .before .item-end .ensures) in
-    (w .0, w .1, named-short (poolOf (s .pool)) (s .book .now) (s .at + 1) (c .before .before .item-end .result) (w .1) (sym (c .before .is-well-named .ensures) ∙ not-false _ (c .if2 .left)), p .1, p .2)
+    (w .0, w .1, named-short (poolOf (s .pool)) (s .book .now) (s .at + 1) (c .before .before .item-end .result) (w .1) (sym (c .before .is-well-named .ensures) ∙ not-false _ (c .if2 .left)), p .1, p .2, p .3)
 
 enum-known-k : tie.Need-enum-known-k
 enum-known-k c = search needs
@@ -59,7 +58,7 @@ enum-told c = search needs
 returns-3 : tie.Need-returns-3
 unfolding argAt
 returns-3 c =
-    let s = c .before .before .before .before .before .before .before .before .before .before .before .args in
+    let s = c .before .before .before .before .before .before .before .before .before .before .before .before .args in
     let end = c .before .before .before .before .before .before .item-end in
     let z = sym (c .before .before .before .before .before .before .before .before .byte .ensures) ∙ c .before .before .before .before .before .before .before .if1 .left in
     let w = slice (s .at + 1) (end .result) (s .book .now) in
@@ -76,7 +75,7 @@ returns-3 c =
 returns-4 : tie.Need-returns-4
 unfolding argAt
 returns-4 c =
-    let s = c .before .before .before .before .before .before .before .before .before .before .args in
+    let s = c .before .before .before .before .before .before .before .before .before .before .before .args in
     let end = c .before .before .before .before .before .item-end in
     let z = sym (c .before .before .before .before .before .before .before .byte .ensures) ∙ c .before .before .before .before .before .before .if1 .left in
     let w = slice (s .at + 1) (end .result) (s .book .now) in

@@ -28,7 +28,8 @@ enum-known-m c = search needs
 read-used-requires : tie.Need-read-used-requires
 read-used-requires c κs =
     let g = grown-is _ _ _ (c .before .before .before .before .before .read-end .result) _ _ (c .before .before .before .before .before .read-end .ensures .1 .0) (c .before .m .given .1) in
-    (g .2, c .before .before .before .before .before .before .before .before .before .before .pre .1, c .before .before .before .before .before .before .before .before .before .before .pre .6)
+    let p = c .before .before .before .before .before .before .before .before .before .before .before .pre in
+    (g .2, p .1, p .6, p .7)
 
 end-number-requires : tie.Need-end-number-requires
 end-number-requires c κs =
@@ -39,7 +40,7 @@ end-number-requires c κs =
 item-form-requires : tie.Need-item-form-requires
 item-form-requires c κs =
     let g = grown-is _ _ _ (c .before .before .before .before .before .before .before .before .read-end .result) _ _ (c .before .before .before .before .before .before .before .before .read-end .ensures .1 .0) (c .before .before .before .before .m .given .1) .1 in
-    let p = c .before .before .before .before .before .before .before .before .before .before .before .before .before .pre in
+    let p = c .before .before .before .before .before .before .before .before .before .before .before .before .before .before .pre in
     let l = p .6 .link-limit in
     (p .3, omega arith, p .5, omega (arith, c .before .before .before .before .before .before .before .before .read-end .kept .0, p .2), below-more _ 65536 _ (c .before .before .read-used .result) (omega arith) (c .before .before .read-used .ensures .1))
 
@@ -48,7 +49,7 @@ same-length c = search needs
 
 returns : tie.Need-returns
 returns c =
-    let s = c .before .before .before .before .before .before .before .before .before .before .args in
+    let s = c .before .before .before .before .before .before .before .before .before .before .before .args in
     let k = c .before .k .given in
     let r = c .before .before .before .before .before .read-end in
     (λ a h b q f sh vs. form-no (k .0 .0) (rest-refused (s .book .now) a (readersAt (s .book .now) a (s .left)) true end (used links ∷ []) (λ xs. f (xs .0) (xs .1 .0)) b (s .at) (k .0 .0) (done-refused (k .0 .0) (r .ensures .0 a h b q) (k .1))) refl, (tt, r .ensures .1 .1))
@@ -58,7 +59,7 @@ same-length-2 c = search needs
 
 returns-2 : tie.Need-returns-2
 returns-2 c =
-    let s = c .before .before .before .before .before .before .before .before .before .before .before .before .before .before .before .before .args in
+    let s = c .before .before .before .before .before .before .before .before .before .before .before .before .before .before .before .before .before .args in
     let j = c .before .before .before .before .before .before .before .m .given in
     let r = c .before .before .before .before .before .before .before .before .before .before .before .read-end in
     let u = c .before .before .before .before .before .read-used in

@@ -29,7 +29,8 @@ enum-known-m c = search needs
 read-used-requires : tie.Need-read-used-requires
 read-used-requires c κs =
     let g = grown-is _ _ _ (c .before .before .before .before .before .read-path .result) _ _ (c .before .before .before .before .before .read-path .ensures .1 .0) (c .before .m .given .1) in
-    (g .2, c .before .before .before .before .before .before .before .before .before .before .pre .1, c .before .before .before .before .before .before .before .before .before .before .pre .6)
+    let p = c .before .before .before .before .before .before .before .before .before .before .before .pre in
+    (g .2, p .1, p .6, p .7)
 
 sub-item-form : tie.Need-sub-item-form
 sub-item-form c =
@@ -44,7 +45,7 @@ cast-item-form c =
 item-form-requires : tie.Need-item-form-requires
 item-form-requires c κs =
     let g = grown-is _ _ _ (c .before .before .before .before .before .before .before .read-path .result) _ _ (c .before .before .before .before .before .before .before .read-path .ensures .1 .0) (c .before .before .before .m .given .1) .1 in
-    let p = c .before .before .before .before .before .before .before .before .before .before .before .before .pre in
+    let p = c .before .before .before .before .before .before .before .before .before .before .before .before .before .pre in
     let l = p .6 .link-limit in
     (p .3, omega arith, p .5, omega (arith, c .before .before .before .before .before .before .before .read-path .kept .0, p .2), below-more _ 65536 _ (c .before .read-used .result) (omega arith) (c .before .read-used .ensures .1))
 
@@ -53,7 +54,7 @@ same-length c = search needs
 
 returns : tie.Need-returns
 returns c =
-    let s = c .before .before .before .before .before .before .before .before .before .before .args in
+    let s = c .before .before .before .before .before .before .before .before .before .before .before .args in
     let k = c .before .k .given in
     let r = c .before .before .before .before .before .read-path in
     (λ a h b q f sh vs. form-no (k .0 .0) (rest-refused (s .book .now) a (readersAt (s .book .now) a (s .left)) true path (used links ∷ []) (λ xs. f (xs .0) (xs .1 .0)) b (s .at) (k .0 .0) (done-refused (k .0 .0) (r .ensures .0 a h b (q ∙ sym (add-zero (s .n .paths)))) (k .1))) refl, (tt, r .ensures .1 .1))
@@ -63,7 +64,7 @@ same-length-2 c = search needs
 
 returns-2 : tie.Need-returns-2
 returns-2 c =
-    let s = c .before .before .before .before .before .before .before .before .before .before .before .before .before .before .before .args in
+    let s = c .before .before .before .before .before .before .before .before .before .before .before .before .before .before .before .before .args in
     let j = c .before .before .before .before .before .before .m .given in
     let r = c .before .before .before .before .before .before .before .before .before .before .read-path in
     let u = c .before .before .before .before .read-used in

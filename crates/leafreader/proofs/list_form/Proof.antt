@@ -44,7 +44,7 @@ same-length c = search needs
 
 returns : tie.Need-returns
 returns c =
-    let s = c .before .before .before .before .before .before .before .before .before .before .args in
+    let s = c .before .before .before .before .before .before .before .before .before .before .before .args in
     let k = c .before .k .given in
     let r = c .before .before .before .before .before .read-list in
     (λ a h R b q f sh vs. form-no (k .0 .0) (rest-refused (s .book .now) a R true (list (poolOf (s .pool))) [] (λ xs. f (xs .0)) b (s .at) (k .0 .0) (list-arg (s .book .now) a R (poolOf (s .pool)) b (s .n .items) (s .at) q ∙ item-refused (itemsAfter (s .n .items)) (listAt (s .book .now) a (poolOf (s .pool)) (128 - s .n .items) (s .at)) (r .result) (k .0 .0) (r .ensures .0 a h) (k .1))) refl, (tt, r .ensures .1 .1 .1))
@@ -54,8 +54,8 @@ same-length-2 c = search needs
 
 returns-2 : tie.Need-returns-2
 returns-2 c =
-    let s = c .before .before .before .before .before .before .before .before .before .before .before .before .before .before .args in
-    let p = c .before .before .before .before .before .before .before .before .before .before .before .before .before .before .pre in
+    let s = c .before .before .before .before .before .before .before .before .before .before .before .before .before .before .before .args in
+    let p = c .before .before .before .before .before .before .before .before .before .before .before .before .before .before .before .pre in
     let j = c .before .before .before .before .before .m .given in
     let r = c .before .before .before .before .before .before .before .before .before .read-list in
     let o = c .before .before .close-form in

@@ -43,7 +43,7 @@ same-length c = search needs
 
 returns : tie.Need-returns
 returns c =
-    let s = c .before .before .before .before .before .before .before .before .before .before .args in
+    let s = c .before .before .before .before .before .before .before .before .before .before .before .args in
     let k = c .before .k .given in
     let r = c .before .before .before .before .before .read-path in
     (λ a h b q vs. form-no (k .0 .0) (rest-refused (s .book .now) a (readersAt (s .book .now) a (s .left)) true path [] (λ xs. uniqueLang (xs .0)) b (s .at) (k .0 .0) (done-refused (k .0 .0) (r .ensures .0 a h b (q ∙ sym (add-zero (s .n .paths)))) (k .1))) refl, (tt, r .ensures .1 .1))
@@ -53,8 +53,8 @@ same-length-2 c = search needs
 
 returns-2 : tie.Need-returns-2
 returns-2 c =
-    let s = c .before .before .before .before .before .before .before .before .before .before .before .before .before .before .args in
-    let p = c .before .before .before .before .before .before .before .before .before .before .before .before .before .before .pre in
+    let s = c .before .before .before .before .before .before .before .before .before .before .before .before .before .before .before .args in
+    let p = c .before .before .before .before .before .before .before .before .before .before .before .before .before .before .before .pre in
     let j = c .before .before .before .before .before .m .given in
     let r = c .before .before .before .before .before .before .before .before .before .read-path in
     let o = c .before .before .close-form in

@@ -23,7 +23,7 @@ read-kind-requires c κs = search needs
 
 item-form-requires : tie.Need-item-form-requires
 item-form-requires c κs =
-    let p = c .before .before .before .before .before .before .pre in
+    let p = c .before .before .before .before .before .before .before .pre in
     (p .4, p .5, p .6, p .2, below-more _ 65536 _ (c .read-kind .result) (omega arith) (c .read-kind .ensures .1))
 
 used-form-requires-3 : tie.Need-used-form-requires-3
@@ -68,7 +68,7 @@ same-length c = search needs
 returns : tie.Need-returns
 unfolding bodyAt
 returns c =
-    let s = c .before .before .before .before .before .before .before .before .args in
+    let s = c .before .before .before .before .before .before .before .before .before .args in
     let o = c .before .before .used-form in
     (λ a h b q i. form-is (body-is (s .book .now) a (s .left) (s .code) 0 b (s .at) (c .before .before .before .before .match .keys1)) (o .ensures .0 a h (readersAt (s .book .now) a (s .left)) b hasValue is-used (s .values .now)), (o .ensures .1 .0, (o .ensures .1 .1, refl)))
 
@@ -78,7 +78,7 @@ same-length-2 c = search needs
 returns-2 : tie.Need-returns-2
 unfolding bodyAt
 returns-2 c =
-    let s = c .before .before .before .before .before .before .before .before .args in
+    let s = c .before .before .before .before .before .before .before .before .before .args in
     let o = c .before .before .used-form2 in
     (λ a h b q i. form-is (body-is (s .book .now) a (s .left) (s .code) 1 b (s .at) (c .before .before .before .before .match .keys2)) (o .ensures .0 a h (readersAt (s .book .now) a (s .left)) b hasShape shape-used (s .values .now)), (o .ensures .1 .0, (o .ensures .1 .1, refl)))
 
@@ -88,7 +88,7 @@ same-length-3 c = search needs
 returns-3 : tie.Need-returns-3
 unfolding bodyAt
 returns-3 c =
-    let s = c .before .before .before .before .before .before .before .before .before .args in
+    let s = c .before .before .before .before .before .before .before .before .before .before .args in
     let o = c .before .before .item-form in
     (λ a h b q i. form-is (body-is (s .book .now) a (s .left) (s .code) 5 b (s .at) (c .before .before .before .before .before .match .keys3)) (o .ensures .0 a (readersAt (s .book .now) a (s .left)) b kindWord kindCode (s .at) (c .before .before .before .read-kind .ensures .0 a (readersAt (s .book .now) a (s .left)) b) (begunOf (s .n)) (s .cells .now) (s .values .now) (s .values .now) (λ k. test (nodeKind k)) (λ k. kind-closes (s .n) (s .cells .now) (s .values .now) k)), (o .ensures .1 .0, (o .ensures .1 .1, refl)))
 
@@ -98,7 +98,7 @@ same-length-4 c = search needs
 returns-4 : tie.Need-returns-4
 unfolding bodyAt
 returns-4 c =
-    let s = c .before .before .before .before .before .before .before .before .args in
+    let s = c .before .before .before .before .before .before .before .before .before .args in
     let o = c .before .before .used-form3 in
     (λ a h b q i. form-is (body-is (s .book .now) a (s .left) (s .code) 6 b (s .at) (c .before .before .before .before .match .keys4)) (o .ensures .0 a h (readersAt (s .book .now) a (s .left)) b (λ k. test (datatype k)) datatype-used (s .values .now)), (o .ensures .1 .0, (o .ensures .1 .1, refl)))
 
@@ -108,7 +108,7 @@ same-length-5 c = search needs
 returns-5 : tie.Need-returns-5
 unfolding bodyAt
 returns-5 c =
-    let s = c .before .before .before .before .before .before .before .before .args in
+    let s = c .before .before .before .before .before .before .before .before .before .args in
     let o = c .before .before .list-form in
     (λ a h b q i. form-is (body-is (s .book .now) a (s .left) (s .code) 7 b (s .at) (c .before .before .before .before .match .keys5)) (o .ensures .0 a h (readersAt (s .book .now) a (s .left)) b i (λ ks. test (languageIn ks)) lang-shape (s .values .now)), (o .ensures .1 .0, (o .ensures .1 .1, refl)))
 
@@ -121,7 +121,7 @@ same-length-7 c = search needs
 returns-6 : tie.Need-returns-6
 unfolding bodyAt
 returns-6 c =
-    let s = c .before .before .before .before .before .before .before .before .before .before .args in
+    let s = c .before .before .before .before .before .before .before .before .before .before .before .args in
     let o = c .before .before .before .value-form in
     (λ a h b q i. form-is (body-is (s .book .now) a (s .left) (s .code) 8 b (s .at) (c .before .before .before .before .before .before .match .keys6)) (o .ensures .0 a (readersAt (s .book .now) a (s .left)) b (λ x. test (minInclusive x)) from-shape), (o .ensures .1 .0, (o .ensures .1 .1 .0, o .ensures .1 .1 .1)))
 
@@ -134,7 +134,7 @@ same-length-9 c = search needs
 returns-7 : tie.Need-returns-7
 unfolding bodyAt
 returns-7 c =
-    let s = c .before .before .before .before .before .before .before .before .before .before .args in
+    let s = c .before .before .before .before .before .before .before .before .before .before .before .args in
     let o = c .before .before .before .value-form2 in
     (λ a h b q i. form-is (body-is (s .book .now) a (s .left) (s .code) 9 b (s .at) (c .before .before .before .before .before .before .match .keys7)) (o .ensures .0 a (readersAt (s .book .now) a (s .left)) b (λ x. test (minExclusive x)) above-shape), (o .ensures .1 .0, (o .ensures .1 .1 .0, o .ensures .1 .1 .1)))
 
@@ -147,7 +147,7 @@ same-length-11 c = search needs
 returns-8 : tie.Need-returns-8
 unfolding bodyAt
 returns-8 c =
-    let s = c .before .before .before .before .before .before .before .before .before .before .args in
+    let s = c .before .before .before .before .before .before .before .before .before .before .before .args in
     let o = c .before .before .before .value-form3 in
     (λ a h b q i. form-is (body-is (s .book .now) a (s .left) (s .code) 10 b (s .at) (c .before .before .before .before .before .before .match .keys8)) (o .ensures .0 a (readersAt (s .book .now) a (s .left)) b (λ x. test (maxInclusive x)) to-shape), (o .ensures .1 .0, (o .ensures .1 .1 .0, o .ensures .1 .1 .1)))
 
@@ -160,7 +160,7 @@ same-length-13 c = search needs
 returns-9 : tie.Need-returns-9
 unfolding bodyAt
 returns-9 c =
-    let s = c .before .before .before .before .before .before .before .before .before .before .args in
+    let s = c .before .before .before .before .before .before .before .before .before .before .before .args in
     let o = c .before .before .before .value-form4 in
     (λ a h b q i. form-is (body-is (s .book .now) a (s .left) (s .code) 11 b (s .at) (c .before .before .before .before .before .before .match .keys9)) (o .ensures .0 a (readersAt (s .book .now) a (s .left)) b (λ x. test (maxExclusive x)) below-shape), (o .ensures .1 .0, (o .ensures .1 .1 .0, o .ensures .1 .1 .1)))
 
@@ -170,7 +170,7 @@ same-length-14 c = search needs
 returns-10 : tie.Need-returns-10
 unfolding bodyAt
 returns-10 c =
-    let s = c .before .before .before .before .before .before .before .before .args in
+    let s = c .before .before .before .before .before .before .before .before .before .args in
     let o = c .before .before .end-form in
     (λ a h b q i. form-is (body-is (s .book .now) a (s .left) (s .code) 14 b (s .at) (c .before .before .before .before .match .keys10)) (o .ensures .0 a h b q equals equal-shape (s .values .now)), (o .ensures .1 .0, (o .ensures .1 .1, refl)))
 
@@ -180,7 +180,7 @@ same-length-15 c = search needs
 returns-11 : tie.Need-returns-11
 unfolding bodyAt
 returns-11 c =
-    let s = c .before .before .before .before .before .before .before .before .args in
+    let s = c .before .before .before .before .before .before .before .before .before .args in
     let o = c .before .before .end-form2 in
     (λ a h b q i. form-is (body-is (s .book .now) a (s .left) (s .code) 15 b (s .at) (c .before .before .before .before .match .keys11)) (o .ensures .0 a h b q disjoint apart-shape (s .values .now)), (o .ensures .1 .0, (o .ensures .1 .1, refl)))
 
@@ -190,7 +190,7 @@ same-length-16 c = search needs
 returns-12 : tie.Need-returns-12
 unfolding bodyAt
 returns-12 c =
-    let s = c .before .before .before .before .before .before .before .before .args in
+    let s = c .before .before .before .before .before .before .before .before .before .args in
     let o = c .before .before .list-form2 in
     (λ a h b q i. form-is (body-is (s .book .now) a (s .left) (s .code) 16 b (s .at) (c .before .before .before .before .match .keys12)) (o .ensures .0 a h (readersAt (s .book .now) a (s .left)) b i closed closed-shape (s .values .now)), (o .ensures .1 .0, (o .ensures .1 .1, refl)))
 
@@ -200,7 +200,7 @@ same-length-17 c = search needs
 returns-13 : tie.Need-returns-13
 unfolding bodyAt
 returns-13 c =
-    let s = c .before .before .before .before .before .before .before .before .args in
+    let s = c .before .before .before .before .before .before .before .before .before .args in
     let o = c .before .before .less-form in
     (λ a h b q i. form-is (body-is (s .book .now) a (s .left) (s .code) 17 b (s .at) (c .before .before .before .before .match .keys13)) (o .ensures .0 a h b q lessThan less-shape (s .values .now)), (o .ensures .1 .0, (o .ensures .1 .1, refl)))
 
@@ -210,7 +210,7 @@ same-length-18 c = search needs
 returns-14 : tie.Need-returns-14
 unfolding bodyAt
 returns-14 c =
-    let s = c .before .before .before .before .before .before .before .before .args in
+    let s = c .before .before .before .before .before .before .before .before .before .args in
     let o = c .before .before .less-form2 in
     (λ a h b q i. form-is (body-is (s .book .now) a (s .left) (s .code) 18 b (s .at) (c .before .before .before .before .match .keys14)) (o .ensures .0 a h b q lessThanEq lesseq-shape (s .values .now)), (o .ensures .1 .0, (o .ensures .1 .1, refl)))
 
@@ -220,8 +220,8 @@ same-length-19 c = search needs
 returns-15 : tie.Need-returns-15
 unfolding bodyAt
 returns-15 c =
-    let s = c .before .before .before .before .before .before .before .before .args in
-    let p = c .before .before .before .before .before .before .before .before .pre in
+    let s = c .before .before .before .before .before .before .before .before .before .args in
+    let p = c .before .before .before .before .before .before .before .before .before .pre in
     let o = c .before .before .onelang-form in
     let n = c .before .before .before .before .match .rest in
     let e = last-leaf (s .code) (p .8) (p .9) (n .0 .0 .0 .0 .0 .0 .0 .0 .0 .0 .0 .0 .0 .1) (n .0 .0 .0 .0 .0 .0 .0 .0 .0 .0 .0 .0 .1) (n .0 .0 .0 .0 .0 .0 .0 .0 .0 .0 .0 .1) (n .0 .0 .0 .0 .0 .0 .0 .0 .0 .0 .1) (n .0 .0 .0 .0 .0 .0 .0 .0 .0 .1) (n .0 .0 .0 .0 .0 .0 .0 .0 .1) (n .0 .0 .0 .0 .0 .0 .0 .1) (n .0 .0 .0 .0 .0 .0 .1) (n .0 .0 .0 .0 .0 .1) (n .0 .0 .0 .0 .1) (n .0 .0 .0 .1) (n .0 .0 .1) (n .0 .1) (n .1) in

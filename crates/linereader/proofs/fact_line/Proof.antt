@@ -33,7 +33,7 @@ same-length c = search needs
 
 returns : tie.Need-returns
 returns c =
-    let s = c .before .before .before .before .before .before .before .before .args in
+    let s = c .before .before .before .before .before .before .before .before .before .args in
     let S = s .book .now in
     let r₁ = c .before .before .before .read-subject in
     let k = c .before .enum-told .given in
@@ -45,8 +45,8 @@ returns c =
 
 read-used-requires : tie.Need-read-used-requires
 read-used-requires c κs =
-    let p = c .before .before .before .before .before .before .before .before .pre in
-    (below-is _ _ (c .before .before .before .read-subject .result) _ _ (c .before .before .before .read-subject .ensures .1) (c .before .subject .given .1) .1, p .1, p .3)
+    let p = c .before .before .before .before .before .before .before .before .before .pre in
+    (below-is _ _ (c .before .before .before .read-subject .result) _ _ (c .before .before .before .read-subject .ensures .1) (c .before .subject .given .1) .1, p .1, p .3, p .5)
 
 enum-known-predicate : tie.Need-enum-known-predicate
 enum-known-predicate c = search needs
@@ -62,7 +62,7 @@ same-length-2 c = search needs
 
 returns-2 : tie.Need-returns-2
 returns-2 c =
-    let s = c .before .before .before .before .before .before .before .before .before .before .before .before .args in
+    let s = c .before .before .before .before .before .before .before .before .before .before .before .before .before .args in
     let S = s .book .now in
     let r₁ = c .before .before .before .before .before .before .before .read-subject in
     let u₁ = c .before .before .before .before .before .subject .given in
@@ -78,8 +78,8 @@ returns-2 c =
 
 read-used-requires-2 : tie.Need-read-used-requires-2
 read-used-requires-2 c κs =
-    let p = c .before .before .before .before .before .before .before .before .before .before .before .before .pre in
-    (below-is _ _ (c .before .before .before .read-used .result) _ _ (c .before .before .before .read-used .ensures .1) (c .before .predicate .given .1) .1, p .1, p .3)
+    let p = c .before .before .before .before .before .before .before .before .before .before .before .before .before .pre in
+    (below-is _ _ (c .before .before .before .read-used .result) _ _ (c .before .before .before .read-used .ensures .1) (c .before .predicate .given .1) .1, p .1, p .3, p .5)
 
 enum-known-object : tie.Need-enum-known-object
 enum-known-object c = search needs
@@ -95,7 +95,7 @@ same-length-3 c = search needs
 
 returns-3 : tie.Need-returns-3
 returns-3 c =
-    let s = c .before .before .before .before .before .before .before .before .before .before .before .before .before .before .before .before .args in
+    let s = c .before .before .before .before .before .before .before .before .before .before .before .before .before .before .before .before .before .args in
     let S = s .book .now in
     let r₁ = c .before .before .before .before .before .before .before .before .before .before .before .read-subject in
     let u₁ = c .before .before .before .before .before .before .before .before .before .subject .given in
@@ -130,7 +130,7 @@ same-length-4 c = search needs
 
 returns-4 : tie.Need-returns-4
 returns-4 c =
-    let s = c .before .before .before .before .before .before .before .before .before .before .before .before .before .before .before .before .before .before .before .before .args in
+    let s = c .before .before .before .before .before .before .before .before .before .before .before .before .before .before .before .before .before .before .before .before .before .args in
     let S = s .book .now in
     let r₁ = c .before .before .before .before .before .before .before .before .before .before .before .before .before .before .before .read-subject in
     let u₁ = c .before .before .before .before .before .before .before .before .before .before .before .before .before .subject .given in
@@ -155,35 +155,35 @@ returns-4 c =
     done-no a (s .counts) (lineBody S a factL (s .at)) _ (k .0 .0) (s .names .now) (s .cells .now) vs (e ∙ ended-no (f .result) (lineEnd S a (lineRoom S a factL) l (u₃ .0 .1 .0)) (o .result) (k .0 .0) q (k .1)) (k .1)
 
 add-put-row : tie.Need-add-put-row
-add-put-row c = let n = c .before .before .before .before .before .before .before .before .before .before .before .before .before .before .before .before .before .before .before .before .before .pre .4 .fact-limit in omega arith
+add-put-row c = let n = c .before .before .before .before .before .before .before .before .before .before .before .before .before .before .before .before .before .before .before .before .before .before .pre .4 .fact-limit in omega arith
 
 add-put-row-2 : tie.Need-add-put-row-2
-add-put-row-2 c = let n = c .before .before .before .before .before .before .before .before .before .before .before .before .before .before .before .before .before .before .before .before .before .pre .4 .fact-limit in omega arith
+add-put-row-2 c = let n = c .before .before .before .before .before .before .before .before .before .before .before .before .before .before .before .before .before .before .before .before .before .before .pre .4 .fact-limit in omega arith
 
 add-put-row-3 : tie.Need-add-put-row-3
-add-put-row-3 c = let n = c .before .before .before .before .before .before .before .before .before .before .before .before .before .before .before .before .before .before .before .before .before .pre .4 .fact-limit in omega arith
+add-put-row-3 c = let n = c .before .before .before .before .before .before .before .before .before .before .before .before .before .before .before .before .before .before .before .before .before .before .pre .4 .fact-limit in omega arith
 
 cast-put-row : tie.Need-cast-put-row
 cast-put-row c =
     let b = below-is _ _ (c .before .before .before .before .before .before .before .before .before .before .before .before .before .before .before .before .read-subject .result) _ _ (c .before .before .before .before .before .before .before .before .before .before .before .before .before .before .before .before .read-subject .ensures .1) (c .before .before .before .before .before .before .before .before .before .before .before .before .before .before .subject .given .1) .0 in
-    let n = c .before .before .before .before .before .before .before .before .before .before .before .before .before .before .before .before .before .before .before .before .before .pre .3 .node-limit in
+    let n = c .before .before .before .before .before .before .before .before .before .before .before .before .before .before .before .before .before .before .before .before .before .before .pre .3 .node-limit in
     omega arith
 
 cast-put-row-2 : tie.Need-cast-put-row-2
 cast-put-row-2 c =
     let b = below-is _ _ (c .before .before .before .before .before .before .before .before .before .before .before .before .read-used .result) _ _ (c .before .before .before .before .before .before .before .before .before .before .before .before .read-used .ensures .1) (c .before .before .before .before .before .before .before .before .before .before .predicate .given .1) .0 in
-    let n = c .before .before .before .before .before .before .before .before .before .before .before .before .before .before .before .before .before .before .before .before .before .pre .3 .link-limit in
+    let n = c .before .before .before .before .before .before .before .before .before .before .before .before .before .before .before .before .before .before .before .before .before .before .pre .3 .link-limit in
     omega arith
 
 cast-put-row-3 : tie.Need-cast-put-row-3
 cast-put-row-3 c =
     let b = below-is _ _ (c .before .before .before .before .before .before .before .before .read-used2 .result) _ _ (c .before .before .before .before .before .before .before .before .read-used2 .ensures .1) (c .before .before .before .before .before .before .object .given .1) .0 in
-    let n = c .before .before .before .before .before .before .before .before .before .before .before .before .before .before .before .before .before .before .before .before .before .pre .3 .node-limit in
+    let n = c .before .before .before .before .before .before .before .before .before .before .before .before .before .before .before .before .before .before .before .before .before .before .pre .3 .node-limit in
     omega arith
 
 put-row-requires : tie.Need-put-row-requires
 put-row-requires c κs =
-    let p = c .before .before .before .before .before .before .before .before .before .before .before .before .before .before .before .before .before .before .before .before .before .pre in
+    let p = c .before .before .before .before .before .before .before .before .before .before .before .before .before .before .before .before .before .before .before .before .before .before .pre in
     let n = p .4 .fact-limit in
     let l = p .2 in
     (omega arith, omega arith, omega arith)
@@ -194,7 +194,7 @@ same-length-5 c = search needs
 returns-5 : tie.Need-returns-5
 unfolding lineNames lineValues
 returns-5 c =
-    let s = c .before .before .before .before .before .before .before .before .before .before .before .before .before .before .before .before .before .before .before .before .before .before .before .before .args in
+    let s = c .before .before .before .before .before .before .before .before .before .before .before .before .before .before .before .before .before .before .before .before .before .before .before .before .before .args in
     let S = s .book .now in
     let r₁ = c .before .before .before .before .before .before .before .before .before .before .before .before .before .before .before .before .before .before .before .read-subject in
     let u₁ = c .before .before .before .before .before .before .before .before .before .before .before .before .before .before .before .before .before .subject .given in

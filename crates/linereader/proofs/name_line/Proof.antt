@@ -34,12 +34,12 @@ same-length c = search needs
 
 returns : tie.Need-returns
 returns c =
-    let s = c .before .before .before .before .before .before .before .args in
+    let s = c .before .before .before .before .before .before .before .before .args in
     let p = poolOf (s .pool) in
     let r = c .before .before .before .read-new in
     let k = c .before .enum-told .given in
     λ a cs vs h. done-no a (s .counts) (lineBody (s .book .now) a (loneCode p) (s .at)) _ (c .refusal .result) (s .names .now) cs vs
-    (lone-stop (s .book .now) a p (c .before .before .before .before .before .before .before .pre .4) (s .at) (c .refusal .result)
+    (lone-stop (s .book .now) a p (c .before .before .before .before .before .before .before .before .pre .4) (s .at) (c .refusal .result)
     (item-stop (s .book .now) a (new p) length (begunAbove (s .book .now) a) (s .at) (r .result) (k .0 .0) (c .refusal .result) (r .ensures .0 a h) (k .1) (c .refusal .ensures)))
     refl
 
@@ -60,7 +60,7 @@ same-length-2 c = search needs
 
 returns-2 : tie.Need-returns-2
 returns-2 c =
-    let s = c .before .before .before .before .before .before .before .before .before .before .before .args in
+    let s = c .before .before .before .before .before .before .before .before .before .before .before .before .args in
     let p = poolOf (s .pool) in
     let r = c .before .before .before .before .before .before .before .read-new in
     let u = c .before .before .before .before .before .new .given in
@@ -68,18 +68,18 @@ returns-2 c =
     let k = c .enum-told3 .given in
     λ a cs vs h.
     let w = slice (s .at + 1) (u .0 .1 .0) (s .book .now) in
-    let e = lone-got (s .book .now) a p (c .before .before .before .before .before .before .before .before .before .before .before .pre .4) (s .at) w (u .0 .1 .0) (new-got (s .book .now) a p (begunAbove (s .book .now) a) (s .at) (r .result) (u .0 .0) (u .0 .1 .0) (r .ensures .0 a h) (u .1)) in
+    let e = lone-got (s .book .now) a p (c .before .before .before .before .before .before .before .before .before .before .before .before .pre .4) (s .at) w (u .0 .1 .0) (new-got (s .book .now) a p (begunAbove (s .book .now) a) (s .at) (r .result) (u .0 .0) (u .0 .1 .0) (r .ensures .0 a h) (u .1)) in
     done-no a (s .counts) (lineBody (s .book .now) a (loneCode p) (s .at)) _ (k .0 .0) (s .names .now) cs vs
     (e ∙ ended-no (c .before .before .before .with-name .result) (lineEnd (s .book .now) a true (loneLine p w) (u .0 .1 .0)) (o .result) (k .0 .0) (o .ensures a (loneLine p w)) (k .1))
     (k .1)
 
 put-new-requires : tie.Need-put-new-requires
 put-new-requires c κs =
-    let s = c .before .before .before .before .before .before .before .before .before .before .before .before .args in
+    let s = c .before .before .before .before .before .before .before .before .before .before .before .before .before .args in
     let p = poolOf (s .pool) in
     let r = c .before .before .before .before .before .before .before .before .read-new in
     let u = c .before .before .before .before .before .before .new .given in
-    let q = c .before .before .before .before .before .before .before .before .before .before .before .before .pre in
+    let q = c .before .before .before .before .before .before .before .before .before .before .before .before .before .pre in
     let (a, h) = q .3 in
     let f = new-facts (s .book .now) a p (begunAbove (s .book .now) a) (s .at) (r .result) (u .0 .0) (u .0 .1 .0) (r .ensures .0 a h) (u .1) in
     let l = new-place p (countOf (s .counts) p) (let m = f .room in let n = h .name-count p in omega arith) in
@@ -90,13 +90,13 @@ same-length-3 c = search needs
 
 returns-3 : tie.Need-returns-3
 returns-3 c =
-    let s = c .before .before .before .before .before .before .before .before .before .before .before .before .before .before .before .args in
+    let s = c .before .before .before .before .before .before .before .before .before .before .before .before .before .before .before .before .args in
     let p = poolOf (s .pool) in
     let r = c .before .before .before .before .before .before .before .before .before .before .before .read-new in
     let u = c .before .before .before .before .before .before .before .before .before .new .given in
     let o = c .before .before .before .before .before .before .line-end in
     let k = c .before .before .before .before .enum-told2 .given in
-    let lone = c .before .before .before .before .before .before .before .before .before .before .before .before .before .before .before .pre .4 in
+    let lone = c .before .before .before .before .before .before .before .before .before .before .before .before .before .before .before .before .pre .4 in
     λ a cs vs h.
     let w = slice (s .at + 1) (u .0 .1 .0) (s .book .now) in
     let e = lone-got (s .book .now) a p lone (s .at) w (u .0 .1 .0) (new-got (s .book .now) a p (begunAbove (s .book .now) a) (s .at) (r .result) (u .0 .0) (u .0 .1 .0) (r .ensures .0 a h) (u .1)) in

@@ -36,7 +36,7 @@ same-length c = search needs
 
 returns : tie.Need-returns
 returns c =
-    let s = c .before .before .before .before .before .before .before .before .args in
+    let s = c .before .before .before .before .before .before .before .before .before .args in
     let S = s .book .now in
     let r = c .before .before .before .read-new in
     let k = c .before .enum-told .given in
@@ -46,8 +46,8 @@ returns c =
 
 read-type-requires : tie.Need-read-type-requires
 read-type-requires c κs =
-    let p = c .before .before .before .before .before .before .before .before .before .pre in
-    (below-is _ _ (c .before .before .before .before .read-new .result) _ _ (c .before .before .before .before .read-new .ensures .1) (c .before .before .new .given .1) .1, p .1, p .4)
+    let p = c .before .before .before .before .before .before .before .before .before .before .pre in
+    (below-is _ _ (c .before .before .before .before .read-new .result) _ _ (c .before .before .before .before .read-new .ensures .1) (c .before .before .new .given .1) .1, p .1, p .4, p .6)
 
 enum-known-datatype : tie.Need-enum-known-datatype
 enum-known-datatype c = search needs
@@ -63,7 +63,7 @@ same-length-2 c = search needs
 
 returns-2 : tie.Need-returns-2
 returns-2 c =
-    let s = c .before .before .before .before .before .before .before .before .before .before .before .before .before .args in
+    let s = c .before .before .before .before .before .before .before .before .before .before .before .before .before .before .args in
     let S = s .book .now in
     let r = c .before .before .before .before .before .before .before .before .read-new in
     let u = c .before .before .before .before .before .before .new .given in
@@ -86,19 +86,19 @@ enum-known-k c = search needs
 enum-known-value : tie.Need-enum-known-value
 enum-known-value c = search needs
 
-cast-t25 : tie.Need-cast-t25
-cast-t25 c =
+cast-t26 : tie.Need-cast-t26
+cast-t26 c =
     let b = below-is _ _ (c .before .before .before .before .before .before .before .read-type .result) _ _ (c .before .before .before .before .before .before .before .read-type .ensures .1) (c .before .before .before .before .before .datatype .given .1) .0 in
-    let n = c .before .before .before .before .before .before .before .before .before .before .before .before .before .before .before .before .before .pre .4 .type-limit in
+    let n = c .before .before .before .before .before .before .before .before .before .before .before .before .before .before .before .before .before .before .pre .4 .type-limit in
     omega arith
 
 node-end-requires : tie.Need-node-end-requires
 node-end-requires c κs =
-    let s = c .before .before .before .before .before .before .before .before .before .before .before .before .before .before .before .before .before .before .before .before .args in
+    let s = c .before .before .before .before .before .before .before .before .before .before .before .before .before .before .before .before .before .before .before .before .before .args in
     let r = c .before .before .before .before .before .before .before .before .before .before .before .before .before .before .before .read-new in
     let u = c .before .before .before .before .before .before .before .before .before .before .before .before .before .new .given in
     let l = value-within _ (c .before .before .before .before .before .before .read-value .result) _ _ (c .before .before .before .before .before .before .read-value .ensures .1) (c .before .before .before .before .value .given .1) in
-    let q = c .before .before .before .before .before .before .before .before .before .before .before .before .before .before .before .before .before .before .before .before .pre in
+    let q = c .before .before .before .before .before .before .before .before .before .before .before .before .before .before .before .before .before .before .before .before .before .pre in
     let (a, h) = q .5 in
     let f = new-facts (s .book .now) a nodes (begunAbove (s .book .now) a) (s .at) (r .result) (u .0 .0) (u .0 .1 .0) (r .ensures .0 a h) (u .1) in
     let m = node-room (s .counts .nodes) (let x = f .room in let y = h .name-count nodes in omega arith) in
@@ -109,7 +109,7 @@ same-length-3 c = search needs
 
 returns-3 : tie.Need-returns-3
 returns-3 c =
-    let s = c .before .before .before .before .before .before .before .before .before .before .before .before .before .before .before .before .before .args in
+    let s = c .before .before .before .before .before .before .before .before .before .before .before .before .before .before .before .before .before .before .args in
     let S = s .book .now in
     let r = c .before .before .before .before .before .before .before .before .before .before .before .before .read-new in
     let u = c .before .before .before .before .before .before .before .before .before .before .new .given in
@@ -141,7 +141,7 @@ same-length-6 c = search needs
 returns-4 : tie.Need-returns-4
 unfolding lineRoom nodeRow
 returns-4 c =
-    let s = c .before .before .before .before .before .before .before .before .before .before .before .before .before .before .before .before .before .before .before .before .before .before .before .before .before .before .args in
+    let s = c .before .before .before .before .before .before .before .before .before .before .before .before .before .before .before .before .before .before .before .before .before .before .before .before .before .before .before .args in
     let S = s .book .now in
     let r = c .before .before .before .before .before .before .before .before .before .before .before .before .before .before .before .before .before .before .before .before .before .read-new in
     let u = c .before .before .before .before .before .before .before .before .before .before .before .before .before .before .before .before .before .before .before .new .given in
@@ -182,7 +182,7 @@ number-line-spec =
     read-value-requires
     enum-known-k
     enum-known-value
-    cast-t25
+    cast-t26
     node-end-requires
     same-length-3
     returns-3

@@ -19,7 +19,7 @@ byte-requires c κs = search needs
 
 returns : tie.Need-returns
 returns c =
-    let s = c .before .before .before .before .args in
+    let s = c .before .before .before .before .before .args in
     (λ a b h. rw (target-bare (s .book .now) a b (s .at) (λ e. c .if1 .taken (c .before .byte .ensures ∙ e))), tt)
 
 add-target-head : tie.Need-add-target-head
@@ -27,7 +27,7 @@ add-target-head c = search needs
 
 target-head-requires : tie.Need-target-head-requires
 target-head-requires c κs =
-    let s = c .before .before .before .before .args in
+    let s = c .before .before .before .before .before .args in
     let z = sym (c .before .byte .ensures) ∙ c .if1 .left in
     let i = inside (s .book .now) (s .at) (λ e. omega arith) in
     omega arith
@@ -46,10 +46,11 @@ operand-pool-requires c κs = search needs
 
 read-used-requires : tie.Need-read-used-requires
 read-used-requires c κs =
-    let s = c .before .before .before .before .before .before .before .before .before .args in
+    let s = c .before .before .before .before .before .before .before .before .before .before .args in
     let t = c .before .before .before .before .target-head in
     let k = c .before .before .k2 .given in
-    (headed-is 4 31 (length (s .book .now)) (t .result) (k .0 .0) (k .0 .1 .0) (t .ensures .1) (k .1) .2, c .before .before .before .before .before .before .before .before .before .pre .1, c .before .before .before .before .before .before .before .before .before .pre .2)
+    let p = c .before .before .before .before .before .before .before .before .before .before .pre in
+    (headed-is 4 31 (length (s .book .now)) (t .result) (k .0 .0) (k .0 .1 .0) (t .ensures .1) (k .1) .2, p .1, p .2, p .3)
 
 enum-known-used : tie.Need-enum-known-used
 enum-known-used c = search needs
@@ -62,7 +63,7 @@ refusal-requires c κs = search needs
 
 returns-2 : tie.Need-returns-2
 returns-2 c =
-    let s = c .before .before .before .before .before .before .before .before .before .before .before .before .before .args in
+    let s = c .before .before .before .before .before .before .before .before .before .before .before .before .before .before .args in
     let S = s .book .now in
     let z = sym (c .before .before .before .before .before .before .before .before .before .before .byte .ensures) ∙ c .before .before .before .before .before .before .before .before .before .if1 .left in
     let t = c .before .before .before .before .before .before .before .before .target-head in
@@ -79,7 +80,7 @@ byte-requires-2 c κs = search needs
 
 returns-3 : tie.Need-returns-3
 returns-3 c =
-    let s = c .before .before .before .before .before .before .before .before .before .before .before .before .before .before .before .args in
+    let s = c .before .before .before .before .before .before .before .before .before .before .before .before .before .before .before .before .args in
     let S = s .book .now in
     let z = sym (c .before .before .before .before .before .before .before .before .before .before .before .before .byte .ensures) ∙ c .before .before .before .before .before .before .before .before .before .before .before .if1 .left in
     let t = c .before .before .before .before .before .before .before .before .before .before .target-head in
@@ -90,23 +91,23 @@ returns-3 c =
     let u = c .before .before .before .used .given in
     (λ a b h. rw (target-word S a b (s .at) z (k .0 .0) (k .0 .1 .0) (sym (t .ensures .0) ∙ k .1) ∙ target-open S a (readersAt S a 30) b (k .0 .1 .0) (k .0 .0) (u .0 .0) (u .0 .1 .0) (w .0) (ap (λ (q : Pool). argAt S a (readersAt S a 30) (used q) b (k .0 .1 .0)) (sym (p .ensures)) ∙ number-got (argAt S a (readersAt S a 30) (used (poolOf (p .result))) b (k .0 .1 .0)) (r .result) (u .0 .0) (u .0 .1 .0) (r .ensures .0 a h (readersAt S a 30) b) (u .1)) (λ e. c .if2 .taken (c .before .byte2 .ensures ∙ e))), tt)
 
-cast-t20 : tie.Need-cast-t20
-cast-t20 c =
-    let s = c .before .before .before .before .before .before .before .before .before .before .before .before .before .before .before .args in
+cast-t21 : tie.Need-cast-t21
+cast-t21 c =
+    let s = c .before .before .before .before .before .before .before .before .before .before .before .before .before .before .before .before .args in
     let t = c .before .before .before .before .before .before .before .before .before .before .target-head in
     let k = c .before .before .before .before .before .before .before .before .k2 .given in
     let w = headed-is 4 31 (length (s .book .now)) (t .result) (k .0 .0) (k .0 .1 .0) (t .ensures .1) (k .1) .0 in
     omega arith
 
-add-t21 : tie.Need-add-t21
-add-t21 c =
-    let s = c .before .before .before .before .before .before .before .before .before .before .before .before .before .before .before .args in
+add-t22 : tie.Need-add-t22
+add-t22 c =
+    let s = c .before .before .before .before .before .before .before .before .before .before .before .before .before .before .before .before .args in
     let b = below-is _ _ (c .before .before .before .before .before .read-used .result) _ _ (c .before .before .before .before .before .read-used .ensures .1) (c .before .before .before .used .given .1) .1 in
-    omega (arith, c .before .before .before .before .before .before .before .before .before .before .before .before .before .before .before .good)
+    omega (arith, c .before .before .before .before .before .before .before .before .before .before .before .before .before .before .before .before .good)
 
 returns-4 : tie.Need-returns-4
 returns-4 c =
-    let s = c .before .before .before .before .before .before .before .args in
+    let s = c .before .before .before .before .before .before .before .before .args in
     let S = s .book .now in
     let z = sym (c .before .before .before .before .byte .ensures) ∙ c .before .before .before .if1 .left in
     let t = c .before .before .target-head in
@@ -115,7 +116,7 @@ returns-4 c =
 
 returns-5 : tie.Need-returns-5
 returns-5 c =
-    let s = c .before .before .before .before .before .before .before .before .args in
+    let s = c .before .before .before .before .before .before .before .before .before .args in
     let S = s .book .now in
     let z = sym (c .before .before .before .before .before .byte .ensures) ∙ c .before .before .before .before .if1 .left in
     let t = c .before .before .before .target-head in
@@ -124,7 +125,7 @@ returns-5 c =
 
 returns-6 : tie.Need-returns-6
 returns-6 c =
-    let s = c .before .before .before .before .before .before .before .before .before .before .before .before .before .before .before .args in
+    let s = c .before .before .before .before .before .before .before .before .before .before .before .before .before .before .before .before .args in
     let S = s .book .now in
     let z = sym (c .before .before .before .before .before .before .before .before .before .before .before .before .byte .ensures) ∙ c .before .before .before .before .before .before .before .before .before .before .before .if1 .left in
     let t = c .before .before .before .before .before .before .before .before .before .before .target-head in
@@ -136,7 +137,7 @@ returns-6 c =
     let y = sym (c .before .byte2 .ensures) ∙ c .if2 .left in
     let i = inside S (u .0 .1 .0) (λ e. omega arith) in
     let l = below-is _ _ (r .result) _ _ (r .ensures .1) (u .1) .0 in
-    let m = count-limit (s .counts) (poolOf (p .result)) (c .before .before .before .before .before .before .before .before .before .before .before .before .before .before .before .pre .2) in (
+    let m = count-limit (s .counts) (poolOf (p .result)) (c .before .before .before .before .before .before .before .before .before .before .before .before .before .before .before .before .pre .2) in (
       λ a b h. target-got S a (readersAt S a 30) b (k .0 .1 .0) (k .0 .0) (u .0 .0) (u .0 .1 .0) (w .0) (ap (λ (q : Pool). argAt S a (readersAt S a 30) (used q) b (k .0 .1 .0)) (sym (p .ensures)) ∙ number-got (argAt S a (readersAt S a 30) (used (poolOf (p .result))) b (k .0 .1 .0)) (r .result) (u .0 .0) (u .0 .1 .0) (r .ensures .0 a h (readersAt S a 30) b) (u .1)) y ∙ ap targetAnswer (sym (target-word S a b (s .at) z (k .0 .0) (k .0 .1 .0) (sym (t .ensures .0) ∙ k .1))),
       (w .0, omega arith, omega arith),
     )
@@ -160,8 +161,8 @@ read-target-spec =
     returns-2
     byte-requires-2
     returns-3
-    cast-t20
-    add-t21
+    cast-t21
+    add-t22
     returns-4
     returns-5
     returns-6)

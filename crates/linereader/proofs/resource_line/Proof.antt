@@ -30,7 +30,7 @@ same-length c = search needs
 
 returns : tie.Need-returns
 returns c =
-    let s = c .before .before .before .before .before .before .before .before .args in
+    let s = c .before .before .before .before .before .before .before .before .before .args in
     let S = s .book .now in
     let r = c .before .before .before .read-new in
     let k = c .before .enum-told .given in
@@ -40,10 +40,10 @@ returns c =
 
 node-end-requires : tie.Need-node-end-requires
 node-end-requires c κs =
-    let s = c .before .before .before .before .before .before .before .before .before .before .before .args in
+    let s = c .before .before .before .before .before .before .before .before .before .before .before .before .args in
     let r = c .before .before .before .before .before .before .read-new in
     let u = c .before .before .before .before .new .given in
-    let q = c .before .before .before .before .before .before .before .before .before .before .before .pre in
+    let q = c .before .before .before .before .before .before .before .before .before .before .before .before .pre in
     let (a, h) = q .6 in
     let f = new-facts (s .book .now) a nodes (begunAbove (s .book .now) a) (s .at) (r .result) (u .0 .0) (u .0 .1 .0) (r .ensures .0 a h) (u .1) in
     let m = node-room (s .counts .nodes) (let x = f .room in let y = h .name-count nodes in omega arith) in
@@ -60,7 +60,7 @@ same-length-4 c = search needs
 
 returns-2 : tie.Need-returns-2
 returns-2 c =
-    let s = c .before .before .before .before .before .before .before .before .before .before .before .before .before .before .before .before .before .args in
+    let s = c .before .before .before .before .before .before .before .before .before .before .before .before .before .before .before .before .before .before .args in
     let S = s .book .now in
     let r = c .before .before .before .before .before .before .before .before .before .before .before .before .read-new in
     let u = c .before .before .before .before .before .before .before .before .before .before .new .given in
@@ -68,7 +68,7 @@ returns-2 c =
     λ a h.
     let w = slice (s .at + 1) (u .0 .1 .0) S in
     let e = resource-got S a (s .kind) (s .at) w (u .0 .1 .0) (new-got S a nodes (begunAbove S a) (s .at) (r .result) (u .0 .0) (u .0 .1 .0) (r .ensures .0 a h) (u .1)) in
-    done-same a (s .counts) (lineBody S a (resourceCode (s .kind)) (s .at)) (lineEnd S a true (node w (resourceTerm (s .kind))) (u .0 .1 .0)) _ (s .names .now) _ (s .cells .now) _ (s .values .now) _ e (o .ensures a (resourceTerm (s .kind)) h (resource-row (s .kind) (c .before .before .before .before .before .before .before .before .before .before .before .before .before .before .before .before .before .pre .1)))
+    done-same a (s .counts) (lineBody S a (resourceCode (s .kind)) (s .at)) (lineEnd S a true (node w (resourceTerm (s .kind))) (u .0 .1 .0)) _ (s .names .now) _ (s .cells .now) _ (s .values .now) _ e (o .ensures a (resourceTerm (s .kind)) h (resource-row (s .kind) (c .before .before .before .before .before .before .before .before .before .before .before .before .before .before .before .before .before .before .pre .1)))
 
 pub resource-line-spec : {M : Type 1} → statement M
 resource-line-spec =

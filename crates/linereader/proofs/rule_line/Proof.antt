@@ -35,7 +35,7 @@ refusal-requires c κs = search needs
 
 returns : tie.Need-returns
 returns c =
-    let s = c .before .before .before .before .before .before .before .args in
+    let s = c .before .before .before .before .before .before .before .before .args in
     let S = s .book .now in
     let r = c .before .before .before .read-used in
     let k = c .before .enum-told .given in
@@ -45,8 +45,8 @@ returns c =
 
 read-target-requires : tie.Need-read-target-requires
 read-target-requires c κs =
-    let p = c .before .before .before .before .before .before .before .pre in
-    (below-is _ _ (c .before .before .before .read-used .result) _ _ (c .before .before .before .read-used .ensures .1) (c .before .shape .given .1) .1, p .1, p .3)
+    let p = c .before .before .before .before .before .before .before .before .pre in
+    (below-is _ _ (c .before .before .before .read-used .result) _ _ (c .before .before .before .read-used .ensures .1) (c .before .shape .given .1) .1, p .1, p .3, p .5)
 
 enum-known-k : tie.Need-enum-known-k
 enum-known-k c = search needs
@@ -70,7 +70,7 @@ enum-told-3 c = search needs
 
 returns-2 : tie.Need-returns-2
 returns-2 c =
-    let s = c .before .before .before .before .before .before .before .before .before .before .before .before .before .before .before .args in
+    let s = c .before .before .before .before .before .before .before .before .before .before .before .before .before .before .before .before .args in
     let S = s .book .now in
     let r = c .before .before .before .before .before .before .before .before .before .before .before .read-used in
     let u = c .before .before .before .before .before .before .before .before .before .shape .given in
@@ -92,18 +92,18 @@ returns-2 c =
     done-no a (s .counts) (lineBody S a ruleL (s .at)) _ (k .0 .0) (s .names .now) (s .cells .now) vs (w ∙ ended-no (f .result) (lineEnd S a (lineRoom S a ruleL) l (v .0 .1 .1 .0)) (o .result) (k .0 .0) q (k .1)) (k .1)
 
 add-put-row : tie.Need-add-put-row
-add-put-row c = let n = c .before .before .before .before .before .before .before .before .before .before .before .before .before .before .before .before .pre .4 .rule-limit in omega arith
+add-put-row c = let n = c .before .before .before .before .before .before .before .before .before .before .before .before .before .before .before .before .before .pre .4 .rule-limit in omega arith
 
 add-put-row-2 : tie.Need-add-put-row-2
-add-put-row-2 c = let n = c .before .before .before .before .before .before .before .before .before .before .before .before .before .before .before .before .pre .4 .rule-limit in omega arith
+add-put-row-2 c = let n = c .before .before .before .before .before .before .before .before .before .before .before .before .before .before .before .before .before .pre .4 .rule-limit in omega arith
 
 add-put-row-3 : tie.Need-add-put-row-3
-add-put-row-3 c = let n = c .before .before .before .before .before .before .before .before .before .before .before .before .before .before .before .before .pre .4 .rule-limit in omega arith
+add-put-row-3 c = let n = c .before .before .before .before .before .before .before .before .before .before .before .before .before .before .before .before .before .pre .4 .rule-limit in omega arith
 
 cast-put-row : tie.Need-cast-put-row
 cast-put-row c =
     let b = below-is _ _ (c .before .before .before .before .before .before .before .before .before .before .before .before .read-used .result) _ _ (c .before .before .before .before .before .before .before .before .before .before .before .before .read-used .ensures .1) (c .before .before .before .before .before .before .before .before .before .before .shape .given .1) .0 in
-    let n = c .before .before .before .before .before .before .before .before .before .before .before .before .before .before .before .before .pre .3 .shape-limit in
+    let n = c .before .before .before .before .before .before .before .before .before .before .before .before .before .before .before .before .before .pre .3 .shape-limit in
     omega arith
 
 cast-put-row-2 : tie.Need-cast-put-row-2
@@ -114,7 +114,7 @@ cast-put-row-2 c =
 
 put-row-requires : tie.Need-put-row-requires
 put-row-requires c κs =
-    let s = c .before .before .before .before .before .before .before .before .before .before .before .before .before .before .before .before .args in
+    let s = c .before .before .before .before .before .before .before .before .before .before .before .before .before .before .before .before .before .args in
     let S = s .book .now in
     let v = c .before .before .before .before .before .before .code .given in
     let k = c .before .enum-told2 .given in
@@ -122,12 +122,12 @@ put-row-requires c κs =
     let l = rule (record { shape = 0; target = targetNode 0 }) in
     let y = ended-yes S [] (ltb (s .counts .rules) 32) l (v .0 .1 .1 .0) (c .before .before .before .before .with-rule .result) (o .result) (k .0 .0) (k .0 .1 .0) (o .ensures [] l) (k .1) in
     let n : s .counts .rules < 32 = ltb-true (s .counts .rules) 32 (ended-room S [] (ltb (s .counts .rules) 32) l (v .0 .1 .1 .0) (k .0 .0) (y .0)) in
-    let m = c .before .before .before .before .before .before .before .before .before .before .before .before .before .before .before .before .pre .2 in
+    let m = c .before .before .before .before .before .before .before .before .before .before .before .before .before .before .before .before .before .pre .2 in
     (omega arith, omega arith, omega arith)
 
 returns-3 : tie.Need-returns-3
 returns-3 c =
-    let s = c .before .before .before .before .before .before .before .before .before .before .before .args in
+    let s = c .before .before .before .before .before .before .before .before .before .before .before .before .args in
     let S = s .book .now in
     let r = c .before .before .before .before .before .before .before .read-used in
     let u = c .before .before .before .before .before .shape .given in
@@ -147,7 +147,7 @@ same-length c = search needs
 returns-4 : tie.Need-returns-4
 unfolding lineNames lineValues
 returns-4 c =
-    let s = c .before .before .before .before .before .before .before .before .before .before .before .before .before .before .before .before .before .before .before .args in
+    let s = c .before .before .before .before .before .before .before .before .before .before .before .before .before .before .before .before .before .before .before .before .args in
     let S = s .book .now in
     let r = c .before .before .before .before .before .before .before .before .before .before .before .before .before .before .before .read-used in
     let u = c .before .before .before .before .before .before .before .before .before .before .before .before .before .shape .given in

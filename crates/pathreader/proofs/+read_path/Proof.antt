@@ -25,15 +25,15 @@ use Rattle.text.proofs.byte.Reads as byte-reads
 use Rattle.pathreader.proofs.+read_path.{statement}
 use Rattle.pathreader.proofs.+read_path.Tie.{close}
 
-abbrev μ-read-path : Measures 3 read-path-kinds.ps ℕ
-μ-read-path κs a = a .1 .1 .1 .1 .1 .0
+abbrev μ-read-path : Measures 4 read-path-kinds.ps ℕ
+μ-read-path κs a = a .1 .1 .1 .1 .1 .1 .0
 
-abbrev read-path-at : ℕ → In 3 read-path-kinds.ps
-read-path-at t = and 3 read-path-kinds.ps (is 3 read-path-kinds.ps μ-read-path t) read-path.Pre
+abbrev read-path-at : ℕ → In 4 read-path-kinds.ps
+read-path-at t = and 4 read-path-kinds.ps (is 4 read-path-kinds.ps μ-read-path t) read-path.Pre
 
-abbrev read-path-below : ℕ → In 3 read-path-kinds.ps
+abbrev read-path-below : ℕ → In 4 read-path-kinds.ps
 read-path-below t =
-    and 3 read-path-kinds.ps (falls 3 read-path-kinds.ps _<_ μ-read-path t) read-path.Pre
+    and 4 read-path-kinds.ps (falls 4 read-path-kinds.ps _<_ μ-read-path t) read-path.Pre
 
 abbrev read-path-calls : ℕ → read-path-lts.Claims
 read-path-calls t = (byte-reads.Asked, byte-reads.Learnt, path-head-reads.Asked, path-head-reads.Learnt, read-link-reads.Asked, read-link-reads.Learnt, read-path-below t, read-path.Post, close-path-reads.Asked, close-path-reads.Learnt)
@@ -43,7 +43,7 @@ read-path-byte-requires t c κs = search needs
 
 read-path-returns : (t : ℕ) → read-path-lts.Need-returns (read-path-calls t) (read-path-at t) read-path.Post
 read-path-returns t c =
-    let s = c .before .before .before .before .before .args in
+    let s = c .before .before .before .before .before .before .args in
     (λ a h b q. done-no 2 (path-unspaced (s .book .now) a b (s .at) (s .n + s .up) q (s .left) (λ e. c .if1 .taken (c .before .byte .ensures ∙ e))) refl, (tt, refl))
 
 read-path-add-path-head : (t : ℕ) → read-path-lts.Need-add-path-head (read-path-calls t) (read-path-at t) read-path.Post
@@ -54,7 +54,7 @@ read-path-add-path-head-2 t c = search needs
 
 read-path-path-head-requires : (t : ℕ) → read-path-lts.Need-path-head-requires (read-path-calls t) (read-path-at t) read-path.Post
 read-path-path-head-requires t c κs =
-    let s = c .before .before .before .before .before .args in
+    let s = c .before .before .before .before .before .before .args in
     let i : s .at < length (s .book .now) = inside (s .book .now) (s .at) (λ e. omega (arith, c .before .byte .ensures, c .if1 .left)) in
     omega arith
 
@@ -80,13 +80,13 @@ read-path-add-read-path t c = search needs
 
 read-path-read-path-requires : (t : ℕ) → read-path-lts.Need-read-path-requires (read-path-calls t) (read-path-at t) read-path.Post
 read-path-read-path-requires t c κs =
-    let p = c .before .before .before .before .before .before .before .before .before .before .pre in
+    let p = c .before .before .before .before .before .before .before .before .before .before .before .pre in
     let m = p .0 in
     let w = headed-word _ _ _ _ (c .before .before .before .before .path-head .result) _ _ (c .before .before .before .before .path-head .ensures .1) (c .before .before .code .given .1) in
-    let s = c .before .before .before .before .before .before .before .before .before .before .args in
+    let s = c .before .before .before .before .before .before .before .before .before .before .before .args in
     let u = leb-false 128 (s .n + s .up) (w .2) in
     let l = w .1 in
-    (omega arith, (w .3, p .1 .1, p .1 .2, omega arith, p .1 .4))
+    (omega arith, (w .3, p .1 .1, p .1 .2, omega arith, p .1 .4, p .1 .5))
 
 read-path-enum-known-first : (t : ℕ) → read-path-lts.Need-enum-known-first (read-path-calls t) (read-path-at t) read-path.Post
 read-path-enum-known-first t c = search needs
@@ -99,7 +99,7 @@ read-path-same-length t c = search needs
 
 read-path-returns-2 : (t : ℕ) → read-path-lts.Need-returns-2 (read-path-calls t) (read-path-at t) read-path.Post
 read-path-returns-2 t c =
-    let s = c .before .before .before .before .before .before .before .before .before .before .before .before .before .before .before .args in
+    let s = c .before .before .before .before .before .before .before .before .before .before .before .before .before .before .before .before .args in
     let w = c .before .before .before .before .before .before .before .code .given in
     let hd = c .before .before .before .before .before .before .before .before .before .path-head in
     let z = sym (c .before .before .before .before .before .before .before .before .before .before .before .byte .ensures) ∙ c .before .before .before .before .before .before .before .before .before .before .if1 .left in
@@ -122,14 +122,14 @@ read-path-cast-close-path t c =
 read-path-close-path-requires : (t : ℕ) → read-path-lts.Need-close-path-requires (read-path-calls t) (read-path-at t) read-path.Post
 read-path-close-path-requires t c κs =
     let f = grown-is _ _ _ (c .before .before .before .before .before .before .before .read-path .result) _ _ (c .before .before .before .before .before .before .before .read-path .ensures .1 .0) (c .before .before .before .first .given .1) .1 in
-    (omega arith, omega (arith, c .before .before .before .before .before .before .before .read-path .kept .0, c .before .before .before .before .before .before .before .before .before .before .before .before .before .before .before .before .before .before .pre .1 .2))
+    (omega arith, omega (arith, c .before .before .before .before .before .before .before .read-path .kept .0, c .before .before .before .before .before .before .before .before .before .before .before .before .before .before .before .before .before .before .before .pre .1 .2))
 
 read-path-same-length-2 : (t : ℕ) → read-path-lts.Need-same-length-2 (read-path-calls t) (read-path-at t) read-path.Post
 read-path-same-length-2 t c = omega (arith, c .before .before .close-path .kept .0, c .before .before .before .before .before .before .before .before .before .before .read-path .kept .0)
 
 read-path-returns-3 : (t : ℕ) → read-path-lts.Need-returns-3 (read-path-calls t) (read-path-at t) read-path.Post
 read-path-returns-3 t c =
-    let s = c .before .before .before .before .before .before .before .before .before .before .before .before .before .before .before .before .before .before .before .before .before .args in
+    let s = c .before .before .before .before .before .before .before .before .before .before .before .before .before .before .before .before .before .before .before .before .before .before .args in
     let w = c .before .before .before .before .before .before .before .before .before .before .before .before .before .code .given in
     let hd = c .before .before .before .before .before .before .before .before .before .before .before .before .before .before .before .path-head in
     let z = sym (c .before .before .before .before .before .before .before .before .before .before .before .before .before .before .before .before .before .byte .ensures) ∙ c .before .before .before .before .before .before .before .before .before .before .before .before .before .before .before .before .if1 .left in
@@ -161,12 +161,12 @@ read-path-add-read-path-2 t c =
 
 read-path-read-path-requires-2 : (t : ℕ) → read-path-lts.Need-read-path-requires-2 (read-path-calls t) (read-path-at t) read-path.Post
 read-path-read-path-requires-2 t c κs =
-    let p = c .before .before .before .before .before .before .before .before .before .before .before .before .before .before .before .before .before .before .pre in
+    let p = c .before .before .before .before .before .before .before .before .before .before .before .before .before .before .before .before .before .before .before .pre in
     let m = p .0 in
     let w = headed-word _ _ _ _ (c .before .before .before .before .before .before .before .before .before .before .before .before .path-head .result) _ _ (c .before .before .before .before .before .before .before .before .before .before .before .before .path-head .ensures .1) (c .before .before .before .before .before .before .before .before .before .before .code .given .1) .1 in
     let f = grown-is _ _ _ (c .before .before .before .before .before .before .before .read-path .result) _ _ (c .before .before .before .before .before .before .before .read-path .ensures .1 .0) (c .before .before .before .first .given .1) in
     let f1 = f .1 in
-    (omega arith, (f .2, p .1 .1, omega (arith, c .before .before .before .before .before .before .before .read-path .kept .0, p .1 .2), f .1, p .1 .4))
+    (omega arith, (f .2, p .1 .1, omega (arith, c .before .before .before .before .before .before .before .read-path .kept .0, p .1 .2), f .1, p .1 .4, p .1 .5))
 
 read-path-enum-known-second : (t : ℕ) → read-path-lts.Need-enum-known-second (read-path-calls t) (read-path-at t) read-path.Post
 read-path-enum-known-second t c = search needs
@@ -179,7 +179,7 @@ read-path-same-length-3 t c = omega (arith, c .before .before .before .before .r
 
 read-path-returns-4 : (t : ℕ) → read-path-lts.Need-returns-4 (read-path-calls t) (read-path-at t) read-path.Post
 read-path-returns-4 t c =
-    let s = c .before .before .before .before .before .before .before .before .before .before .before .before .before .before .before .before .before .before .before .before .before .before .before .args in
+    let s = c .before .before .before .before .before .before .before .before .before .before .before .before .before .before .before .before .before .before .before .before .before .before .before .before .args in
     let w = c .before .before .before .before .before .before .before .before .before .before .before .before .before .before .before .code .given in
     let hd = c .before .before .before .before .before .before .before .before .before .before .before .before .before .before .before .before .before .path-head in
     let z = sym (c .before .before .before .before .before .before .before .before .before .before .before .before .before .before .before .before .before .before .before .byte .ensures) ∙ c .before .before .before .before .before .before .before .before .before .before .before .before .before .before .before .before .before .before .if1 .left in
@@ -229,14 +229,14 @@ read-path-cast-close-path-4 t c =
 read-path-close-path-requires-2 : (t : ℕ) → read-path-lts.Need-close-path-requires-2 (read-path-calls t) (read-path-at t) read-path.Post
 read-path-close-path-requires-2 t c κs =
     let f = grown-is _ _ _ (c .before .before .before .before .before .before .read-path2 .result) _ _ (c .before .before .before .before .before .before .read-path2 .ensures .1 .0) (c .before .before .second .given .1) .1 in
-    (omega arith, omega (arith, c .before .before .before .before .before .before .read-path2 .kept .0, c .before .before .before .before .before .before .before .before .before .before .before .before .before .before .read-path .kept .0, c .before .before .before .before .before .before .before .before .before .before .before .before .before .before .before .before .before .before .before .before .before .before .before .before .before .pre .1 .2))
+    (omega arith, omega (arith, c .before .before .before .before .before .before .read-path2 .kept .0, c .before .before .before .before .before .before .before .before .before .before .before .before .before .before .read-path .kept .0, c .before .before .before .before .before .before .before .before .before .before .before .before .before .before .before .before .before .before .before .before .before .before .before .before .before .before .pre .1 .2))
 
 read-path-same-length-4 : (t : ℕ) → read-path-lts.Need-same-length-4 (read-path-calls t) (read-path-at t) read-path.Post
 read-path-same-length-4 t c = search needs
 
 read-path-returns-5 : (t : ℕ) → read-path-lts.Need-returns-5 (read-path-calls t) (read-path-at t) read-path.Post
 read-path-returns-5 t c =
-    let s = c .before .before .before .before .before .before .before .before .before .before .before .before .args in
+    let s = c .before .before .before .before .before .before .before .before .before .before .before .before .before .args in
     let hd = c .before .before .before .before .before .before .path-head in
     let z = sym (c .before .before .before .before .before .before .before .before .byte .ensures) ∙ c .before .before .before .before .before .before .before .if1 .left in
     let o = c .before .before .read-link in
@@ -244,7 +244,7 @@ read-path-returns-5 t c =
 
 read-path-returns-6 : (t : ℕ) → read-path-lts.Need-returns-6 (read-path-calls t) (read-path-at t) read-path.Post
 read-path-returns-6 t c =
-    let s = c .before .before .before .before .before .before .before .before .before .args in
+    let s = c .before .before .before .before .before .before .before .before .before .before .args in
     let hd = c .before .before .before .path-head in
     let z = sym (c .before .before .before .before .before .byte .ensures) ∙ c .before .before .before .before .if1 .left in
     let k = c .before .k .given in
@@ -255,7 +255,7 @@ read-path-same-length-5 t c = omega (arith, c .before .before .close-path2 .kept
 
 read-path-returns-7 : (t : ℕ) → read-path-lts.Need-returns-7 (read-path-calls t) (read-path-at t) read-path.Post
 read-path-returns-7 t c =
-    let s = c .before .before .before .before .before .before .before .before .before .before .before .before .before .before .before .before .before .before .before .before .before .before .before .before .before .before .before .before .args in
+    let s = c .before .before .before .before .before .before .before .before .before .before .before .before .before .before .before .before .before .before .before .before .before .before .before .before .before .before .before .before .before .args in
     let w = c .before .before .before .before .before .before .before .before .before .before .before .before .before .before .before .before .before .before .before .before .code .given in
     let hd = c .before .before .before .before .before .before .before .before .before .before .before .before .before .before .before .before .before .before .before .before .before .before .path-head in
     let z = sym (c .before .before .before .before .before .before .before .before .before .before .before .before .before .before .before .before .before .before .before .before .before .before .before .before .byte .ensures) ∙ c .before .before .before .before .before .before .before .before .before .before .before .before .before .before .before .before .before .before .before .before .before .before .before .if1 .left in

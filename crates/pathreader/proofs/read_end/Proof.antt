@@ -15,7 +15,7 @@ byte-requires c κs = search needs
 
 returns : tie.Need-returns
 returns c =
-    let s = c .before .before .before .before .before .args in
+    let s = c .before .before .before .before .before .before .args in
     (λ a h b q. done-no 2 (end-unspaced (s .book .now) a (readersAt (s .book .now) a (s .left)) b (s .at) (λ e. c .if1 .taken (c .before .byte .ensures ∙ e))) refl, (tt, refl))
 
 add-item-end : tie.Need-add-item-end
@@ -32,12 +32,12 @@ slice-aggregate-is-word c = search needs
 
 is-word-requires : tie.Need-is-word-requires
 is-word-requires c κs =
-    let s = c .before .before .before .before .before .before .before .args in
+    let s = c .before .before .before .before .before .before .before .before .args in
     item-within (s .book .now) (s .at) (c .before .item-end .result) 31 (sym (c .before .before .before .byte .ensures) ∙ c .before .before .if1 .left) (c .before .item-end .ensures)
 
 returns-2 : tie.Need-returns-2
 returns-2 c =
-    let s = c .before .before .before .before .before .before .before .before .before .args in
+    let s = c .before .before .before .before .before .before .before .before .before .before .args in
     let stop = c .before .before .before .item-end in
     let z = sym (c .before .before .before .before .before .byte .ensures) ∙ c .before .before .before .before .if1 .left in
     let i = item-within (s .book .now) (s .at) (stop .result) 31 z (stop .ensures) .1 in (
@@ -53,7 +53,7 @@ same-length c = search needs
 
 returns-3 : tie.Need-returns-3
 returns-3 c =
-    let s = c .before .before .before .before .before .before .before .before .before .before .before .before .before .args in
+    let s = c .before .before .before .before .before .before .before .before .before .before .before .before .before .before .args in
     let stop = c .before .before .before .before .before .before .before .item-end in
     let z = sym (c .before .before .before .before .before .before .before .before .before .byte .ensures) ∙ c .before .before .before .before .before .before .before .before .if1 .left in
     let o = c .before .before .read-path in (

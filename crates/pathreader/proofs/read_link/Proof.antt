@@ -30,7 +30,7 @@ enum-told c = search needs
 
 returns : tie.Need-returns
 returns c =
-    let s = c .before .before .before .before .before .before .args in
+    let s = c .before .before .before .before .before .before .before .args in
     let k = c .enum-told .given in
     let r = c .before .before .read-used in
     (λ a h. done-no (k .0 .0) (link-refused (s .book .now) a (noReaders (s .book .now) a) none (s .at) (leb 128 (s .n + s .up)) (k .0 .0) (item-refused same (argAt (s .book .now) a (noReaders (s .book .now) a) (used links) none (s .at)) (r .result) (k .0 .0) (r .ensures .0 a h (noReaders (s .book .now) a) none) (k .1))) (k .1), (rw (k .1) tt, refl))
@@ -40,7 +40,7 @@ add-if1 c = search needs
 
 returns-2 : tie.Need-returns-2
 returns-2 c =
-    let s = c .before .before .before .before .before .before .before .before .args in
+    let s = c .before .before .before .before .before .before .before .before .before .args in
     let u = c .before .before .used .given in
     let r = c .before .before .before .before .read-used in
     (λ a h. done-no 7 (link-full (s .book .now) a (noReaders (s .book .now) a) none (s .at) (leb 128 (s .n + s .up)) (u .0 .0) (u .0 .1 .0) (number-got (argAt (s .book .now) a (noReaders (s .book .now) a) (used links) none (s .at)) (r .result) (u .0 .0) (u .0 .1 .0) (r .ensures .0 a h (noReaders (s .book .now) a) none) (u .1)) (le-leb 128 (s .n + s .up) (c .if1 .taken))) refl, (tt, refl))
@@ -48,21 +48,21 @@ returns-2 c =
 cast-put-path : tie.Need-cast-put-path
 cast-put-path c =
     let b = below-is _ _ (c .before .before .before .before .before .read-used .result) _ _ (c .before .before .before .before .before .read-used .ensures .1) (c .before .before .before .used .given .1) .0 in
-    let l = c .before .before .before .before .before .before .before .before .before .pre .4 .link-limit in
+    let l = c .before .before .before .before .before .before .before .before .before .before .pre .4 .link-limit in
     omega arith
 
 put-path-requires : tie.Need-put-path-requires
 put-path-requires c κs = search needs
 
-add-t12 : tie.Need-add-t12
-add-t12 c = search needs
+add-t13 : tie.Need-add-t13
+add-t13 c = search needs
 
 same-length : tie.Need-same-length
 same-length c = search needs
 
 returns-3 : tie.Need-returns-3
 returns-3 c =
-    let s = c .before .before .before .before .before .before .before .before .before .before .before .before .args in
+    let s = c .before .before .before .before .before .before .before .before .before .before .before .before .before .args in
     let u = c .before .before .before .before .before .before .used .given in
     let r = c .before .before .before .before .before .before .before .before .read-used in
     let p = c .before .before .put-path .ensures in
@@ -84,6 +84,6 @@ read-link-spec =
     returns-2
     cast-put-path
     put-path-requires
-    add-t12
+    add-t13
     same-length
     returns-3)

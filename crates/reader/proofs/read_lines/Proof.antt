@@ -1,107 +1,47 @@
-use Prim.Native.Nat.{_-_}
-use mathlib.Core.Path.{_≡_, refl, _∙_}
-use native.Mathlib.Omega.{arith}
-use lib.ListN.{length}
-use Rattle.reader.proofs.Runs.{Runs, runs-start, runs-held, runs-kinds, runs-limits, runs-fits, runs-more, runs-stop, runs-end}
+use mathlib.Core.Path.{refl, sym, subst}
+use Rattle.itemreader.specs.Held.{Indexed}
+use Rattle.reader.specs.Running.{builtInCounts}
+use Rattle.reader.proofs.Indexing.{start-indexed}
 use borrow.Author.Needs.{needs}
 use Rattle.reader.proofs.read_lines.Statement.{statement}
 use Rattle.reader.proofs.read_lines.Tie as tie
 
-abbrev Inv-loop : tie.InvT-loop
-Inv-loop names₀ cells₀ values₀ book counts₀ at₀ line₀ names cells values counts at line =
-    (length names ≡ length names₀) × (length cells ≡ length cells₀) × (length values ≡ length values₀) × Runs book names₀ cells₀ values₀ names cells values counts at line
+slice-aggregate-index-new : tie.Need-slice-aggregate-index-new
+slice-aggregate-index-new c = search needs
 
-abbrev μ-loop : tie.MeasureT-loop
-μ-loop names₀ cells₀ values₀ book counts₀ at₀ line₀ names cells values counts at line = length book - at
+index-new-requires : tie.Need-index-new-requires
+index-new-requires c κs = search needs
 
-loop-holds : tie.Need-loop-holds Inv-loop μ-loop
-loop-holds c =
-    let s = c .before .before .before .args in
-    (refl, refl, refl, runs-start (s .book .now) (s .names .now) (s .cells .now) (s .values .now) (c .before .before .before .pre .3))
+slice-aggregate-read-from : tie.Need-slice-aggregate-read-from
+slice-aggregate-read-from c = search needs
 
-add-line : tie.Need-add-line Inv-loop μ-loop
-add-line c = let f = c .before .loop .inv .3 .few in search needs
+read-from-requires : tie.Need-read-from-requires
+read-from-requires c κs =
+    let s = c .before .before .before .before .before .before .before .before .before .before .before in
+    let x = c .before .before .before .before .before .index-new in
+    (s .pre .0, s .pre .1, s .pre .2, s .pre .3, search needs, refl, subst (Indexed (s .args .names .now) builtInCounts) (sym (x .ensures)) (start-indexed (s .args .names .now)))
 
-read-line-requires : tie.Need-read-line-requires Inv-loop μ-loop
-read-line-requires c κs =
-    let p = c .before .before .before .before .before .before .before .before .pre in
-    let i = c .before .before .before .before .loop .inv in
-    let R = i .3 in
-    (R .within, omega arith, omega arith, omega arith, runs-limits _ _ _ _ R, runs-fits _ _ _ _ R, (R .above, runs-held _ _ _ _ R))
-
-enum-known-k : tie.Need-enum-known-k Inv-loop μ-loop
-enum-known-k c = search needs
-
-same-length : tie.Need-same-length Inv-loop μ-loop
+same-length : tie.Need-same-length
 same-length c = search needs
 
-same-length-2 : tie.Need-same-length-2 Inv-loop μ-loop
+same-length-2 : tie.Need-same-length-2
 same-length-2 c = search needs
 
-same-length-3 : tie.Need-same-length-3 Inv-loop μ-loop
+same-length-3 : tie.Need-same-length-3
 same-length-3 c = search needs
 
-returns : tie.Need-returns Inv-loop μ-loop
-returns c =
-    let R = c .before .before .before .before .before .before .before .before .before .before .before .before .before .loop .inv .3 in
-    let r = c .before .before .before .before .before .before .before .before .read-line in
-    let k = c .before .k .given in
-    runs-stop _ _ _ _ R (r .result) _ _ _ (c .before .before .before .before .before .before .before .before .before .before .before .before .loop-test .taken) (r .ensures (R .above) (runs-held _ _ _ _ R) (runs-kinds _ _ _ _ R)) (k .0 .0) (k .1)
-
-enum-known-next : tie.Need-enum-known-next Inv-loop μ-loop
-enum-known-next c = search needs
-
-loop-less : tie.Need-loop-less Inv-loop μ-loop
-loop-less c =
-    let R = c .before .before .before .before .before .before .before .before .before .before .before .before .before .loop .inv .3 in
-    let r = c .before .before .before .before .before .before .before .before .read-line in
-    let k = c .before .next .given in
-    let h = c .before .before .before .before .before .before .before .before .before .before .before .before .loop-test .taken in
-    let m = runs-more _ _ _ _ R (r .result) _ _ _ h (r .ensures (R .above) (runs-held _ _ _ _ R) (runs-kinds _ _ _ _ R)) (k .0 .0) (k .0 .1 .0) (k .1) in
-    let l = m .0 in
-    omega arith
-
-loop-again : tie.Need-loop-again Inv-loop μ-loop
-loop-again c =
-    let i = c .before .before .before .before .before .before .before .before .before .before .before .before .before .loop .inv in
-    let R = i .3 in
-    let r = c .before .before .before .before .before .before .before .before .read-line in
-    let k = c .before .next .given in
-    let h = c .before .before .before .before .before .before .before .before .before .before .before .before .loop-test .taken in
-    (r .kept .0 ∙ i .0, r .kept .1 .0 ∙ i .1, r .kept .1 .1 .0 ∙ i .2, runs-more _ _ _ _ R (r .result) _ _ _ h (r .ensures (R .above) (runs-held _ _ _ _ R) (runs-kinds _ _ _ _ R)) (k .0 .0) (k .0 .1 .0) (k .1) .1)
-
-same-length-4 : tie.Need-same-length-4 Inv-loop μ-loop
-same-length-4 c = search needs
-
-same-length-5 : tie.Need-same-length-5 Inv-loop μ-loop
-same-length-5 c = search needs
-
-same-length-6 : tie.Need-same-length-6 Inv-loop μ-loop
-same-length-6 c = search needs
-
-returns-2 : tie.Need-returns-2 Inv-loop μ-loop
-returns-2 c =
-    let R = c .before .loop .inv .3 in
-    runs-end _ _ _ _ R (c .before .before .before .before .before .pre .3) (c .loop-test .left)
+returns : tie.Need-returns
+returns c = search needs
 
 pub read-lines-spec : {M : Type 1} → statement M
 read-lines-spec =
     tie.close
     (tie.spec
-    Inv-loop
-    μ-loop
-    loop-holds
-    add-line
-    read-line-requires
-    enum-known-k
+    slice-aggregate-index-new
+    index-new-requires
+    slice-aggregate-read-from
+    read-from-requires
     same-length
     same-length-2
     same-length-3
-    returns
-    enum-known-next
-    loop-less
-    loop-again
-    same-length-4
-    same-length-5
-    same-length-6
-    returns-2)
+    returns)

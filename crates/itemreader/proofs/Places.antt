@@ -1,0 +1,60 @@
+-- The places of the pools in the index: one pool after the other, none in common.
+use Prim.Native.Nat.{ℕ, suc, _+_, _/_, _<_, _≤_}
+use mathlib.Core.Path.{_≡_, refl}
+use mathlib.Core.List.{List, [], _∷_}
+use mathlib.Core.Logic.{_⊎_, inl, inr}
+use native.Mathlib.Omega.{arith}
+use borrow.Author.Tests.{leb-true, ltb-true, ltb-false}
+use lib.Dec.{leb, ltb}
+use lib.ListN.{getD}
+use Rattle.base.specs.Bounded.{every}
+use Rattle.base.proofs.Bools.{bool-cases}
+use Rattle.base.proofs.Bounded.{every-at}
+use Rattle.model.specs.Books.{Pool, nodes, links, types, langs, shapes, poolNumber}
+use Rattle.model.specs.Valid.{capacity}
+use Rattle.stores.specs.Lines.{poolBase}
+use Rattle.itemreader.specs.declared.Counts.{Counts}
+use Rattle.itemreader.specs.Held.{countOf, Limits}
+
+-- where each pool begins, and where the last ends
+abbrev starts : List ℕ
+starts = 0 ∷ 1024 ∷ 1280 ∷ 1312 ∷ 1344 ∷ 1408 ∷ []
+
+pool-starts : (p : Pool) → (poolNumber p < 5) × (poolBase p / 32 ≡ getD starts (poolNumber p) 0) × (poolBase p / 32 + capacity p ≡ getD starts (suc (poolNumber p)) 0) × (0 < capacity p)
+unfolding poolBase capacity
+pool-starts nodes = (omega arith, refl, refl, omega arith)
+pool-starts links = (omega arith, refl, refl, omega arith)
+pool-starts types = (omega arith, refl, refl, omega arith)
+pool-starts langs = (omega arith, refl, refl, omega arith)
+pool-starts shapes = (omega arith, refl, refl, omega arith)
+
+-- a pool ends where a later one begins or before that
+rising : (j k : ℕ) → j < k → k < 6 → getD starts (suc j) 0 ≤ getD starts k 0
+unfolding every
+rising j k l h =
+    leb-true (getD starts (suc j) 0) (getD starts k 0)
+    (every-at (λ j. leb (getD starts (suc j) 0) (getD starts k 0)) k (every-at (λ k. every (λ j. leb (getD starts (suc j) 0) (getD starts k 0)) k) 6 refl k h) j l)
+
+pub pool-inside : (p : Pool) → (poolBase p / 32 + capacity p ≤ 1408) × (0 < capacity p)
+pool-inside p = let s = pool-starts p in let e = s .2 in (omega (arith, rising (poolNumber p) 5 (s .0) (omega arith)), s .3)
+
+pool-before : (p q : Pool) → poolNumber p < poolNumber q → poolBase p / 32 + capacity p ≤ poolBase q / 32
+pool-before p q l =
+    let a = pool-starts p .2 in
+    let b = pool-starts q .1 in
+    let n = pool-starts q .0 in
+    omega (arith, rising (poolNumber p) (poolNumber q) l (omega arith))
+
+pub pools-apart : (p q : Pool) → (poolNumber q ≡ poolNumber p → ⊥) → (poolBase p / 32 + capacity p ≤ poolBase q / 32) ⊎ (poolBase q / 32 + capacity q ≤ poolBase p / 32)
+pools-apart p q n =
+    bool-cases (λ t. ltb (poolNumber p) (poolNumber q) ≡ t → (poolBase p / 32 + capacity p ≤ poolBase q / 32) ⊎ (poolBase q / 32 + capacity q ≤ poolBase p / 32)) (ltb (poolNumber p) (poolNumber q))
+    (λ _ e. inl (pool-before p q (ltb-true (poolNumber p) (poolNumber q) e)))
+    (λ _ e. inr (pool-before q p (let l = ltb-false (poolNumber p) (poolNumber q) e in omega (arith, n)))) refl
+
+pub count-within : (n : Counts) (p : Pool) → Limits n → countOf n p ≤ capacity p
+unfolding capacity
+count-within n nodes l = l .node-limit
+count-within n links l = l .link-limit
+count-within n types l = l .type-limit
+count-within n langs l = l .lang-limit
+count-within n shapes l = l .shape-limit

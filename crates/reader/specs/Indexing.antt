@@ -1,0 +1,24 @@
+-- The index of the names, with what a line adds.
+use Prim.Native.Nat.{ℕ, _+_, _/_}
+use mathlib.Core.List.{List}
+use mathlib.Core.Bool.{cond}
+use lib.Dec.{ltb}
+use Rattle.chains.specs.Chains.{linked}
+use Rattle.text.specs.Pool.{nameKey}
+use Rattle.model.specs.Books.{Pool, nodes, links, types, langs, shapes}
+use Rattle.model.specs.Valid.{capacity}
+use Rattle.stores.specs.Lines.{poolBase}
+use Rattle.itemreader.specs.declared.Counts.{Counts}
+use Rattle.itemreader.specs.Held.{countOf}
+
+-- ns: the names; n and m: the counts before and after
+module _ (ns : List ℕ) (n m : Counts) where
+  -- the next name of a pool in its chain, where there is one more
+  unfoldable pub joined : Pool → List ℕ → List ℕ
+  joined p index =
+      cond (ltb (countOf n p) (countOf m p))
+      (linked index (poolBase p / 32) (1408 + poolBase p / 32) (nameKey ns (poolBase p) (capacity p) (countOf n p)) (countOf n p))
+      index
+
+  unfoldable pub joinedAll : List ℕ → List ℕ
+  joinedAll index = joined shapes (joined langs (joined types (joined links (joined nodes index))))
