@@ -14,8 +14,9 @@ mod table;
 mod turtle;
 
 use melivanoup::{Plan, Tables, Validator, Work};
-use reference::Book;
+use reference::{report_of, Book};
 use std::fs;
+use std::io::Write;
 
 /// read, compile, run, whole, in nanoseconds
 type Times = [u64; 4];
@@ -56,23 +57,15 @@ fn timed<T>(run: impl FnOnce() -> T) -> (T, u64) {
     (value, now() - start)
 }
 
-fn report(book: &Book, lists: &[Vec<usize>]) -> String {
-    let mut text = format!("(book {} {} {})\n", book.terms.len(), book.facts.len(), book.rules.len());
-    for (r, list) in lists.iter().enumerate() {
-        list.iter().for_each(|&v| text += &format!("(breaks {r} {})\n", book.pools[0][v]));
-    }
-    text + &format!("(found {})\n", lists.iter().map(Vec::len).sum::<usize>())
-}
-
 fn parsed(bytes: &[u8]) -> Book {
     reference::reader::read(bytes).unwrap_or_else(|fault| panic!("refused: {fault:?}"))
 }
 
 /// Buffers are used again and never cleared between rounds; what the library itself clears is in its times.
-fn proved(book: &[u8], seconds: u64) -> (String, Times) {
+fn proved(book: &[u8], seconds: u64) -> (Vec<u8>, Times) {
     let (mut tables, mut plan, mut work) = (Tables::new(), Plan::new(), Work::new());
     let mut validator = Validator::new();
-    let text = validator.validate(book).expect("accepted").to_string();
+    let text = validator.validate(book).expect("accepted").to_string().into_bytes();
     let times = best(seconds, || {
         let (counts, read) = timed(|| tables.read(book).unwrap());
         let (_, compile) = timed(|| tables.compile(&mut plan).unwrap());
@@ -86,16 +79,16 @@ fn proved(book: &[u8], seconds: u64) -> (String, Times) {
     (text, times)
 }
 
-fn reference(bytes: &[u8], seconds: u64) -> (String, Times) {
-    let mut text = String::new();
+fn reference(bytes: &[u8], seconds: u64) -> (Vec<u8>, Times) {
+    let mut text = Vec::new();
     let times = best(seconds, || {
         let (book, read) = timed(|| parsed(bytes));
         let (plan, compile) = timed(|| reference::plan::compile(&book));
         let (lists, run) = timed(|| {
             let sets = reference::plan::run(&book, &plan);
-            plan.rules.iter().map(|&step| sets[step].iter().copied().collect()).collect::<Vec<Vec<usize>>>()
+            plan.rules.iter().map(|&step| sets[step].iter().collect()).collect::<Vec<Vec<usize>>>()
         });
-        let (said, print) = timed(|| report(&book, &lists));
+        let (said, print) = timed(|| report_of(&book, &lists));
         text = said;
         [read, compile, run, read + compile + run + print]
     });
@@ -103,11 +96,11 @@ fn reference(bytes: &[u8], seconds: u64) -> (String, Times) {
 }
 
 /// Reading is filling the tables: the time to read the book and to write its SQL is not counted.
-fn sqlite(bytes: &[u8], seconds: u64) -> (String, Times) {
+fn sqlite(bytes: &[u8], seconds: u64) -> (Vec<u8>, Times) {
     let library = sqlite::Sqlite::load().expect("libsqlite3.so.0 is not on this machine");
     let book = parsed(bytes);
     let (rows, queries) = (sql::rows(&book), sql::queries(&book));
-    let mut text = String::new();
+    let mut text = Vec::new();
     let times = best(seconds, || {
         let (memory, read) = timed(|| {
             let memory = library.memory();
@@ -122,14 +115,14 @@ fn sqlite(bytes: &[u8], seconds: u64) -> (String, Times) {
         });
         let (statements, compile) = timed(|| queries.iter().map(|q| memory.prepare(q)).collect::<Vec<_>>());
         let (lists, run) = timed(|| statements.iter().map(|s| s.numbers()).collect::<Vec<_>>());
-        let (said, print) = timed(|| report(&book, &lists));
+        let (said, print) = timed(|| report_of(&book, &lists));
         text = said;
         [read, compile, run, read + compile + run + print]
     });
     (text, times)
 }
 
-fn time(system: &str, bytes: &[u8], seconds: u64) -> (String, Times) {
+fn time(system: &str, bytes: &[u8], seconds: u64) -> (Vec<u8>, Times) {
     match system {
         "proved" => proved(bytes, seconds),
         "reference" => reference(bytes, seconds),
@@ -153,8 +146,11 @@ fn main() {
             fs::write(out, text).unwrap();
             println!("{}", times.map(|t| t.to_string()).join(" "));
         }
-        ["say", "direct", file] => print!("{}", reference::report(&fs::read(file).unwrap())),
-        ["say", system, file] => print!("{}", time(system, &fs::read(file).unwrap(), 0).0),
+        ["say", system, file] => {
+            let bytes = fs::read(file).unwrap();
+            let text = if system == "direct" { reference::report(&bytes) } else { time(system, &bytes, 0).0 };
+            std::io::stdout().write_all(&text).unwrap();
+        }
         ["turtle", file, folder] => {
             let book = parsed(&fs::read(file).unwrap());
             fs::write(format!("{folder}/data.ttl"), turtle::data(&book)).unwrap();
@@ -162,7 +158,7 @@ fn main() {
         }
         ["breaks", file, lines, out] => {
             let book = parsed(&fs::read(file).unwrap());
-            fs::write(out, report(&book, &turtle::lists(&book, &fs::read_to_string(lines).unwrap()))).unwrap();
+            fs::write(out, report_of(&book, &turtle::lists(&book, &fs::read_to_string(lines).unwrap()))).unwrap();
         }
         ["sqlite"] => match sqlite::Sqlite::load() {
             Some(library) => println!("{}", library.version()),

@@ -96,10 +96,15 @@ impl Query<'_> {
         })
     }
 
-    /// the pairs of a path: from s to o, each once
-    fn path(&mut self, path: &Path) -> String {
-        let sql = match path {
-            Path::Link(p) => format!("SELECT Subject, Object FROM Triples WHERE Predicate = {p}"),
+    /// the pairs of a link: from s to o
+    fn link(&mut self, p: usize) -> String {
+        self.part("s, o", format!("SELECT Subject, Object FROM Triples WHERE Predicate = {p}"))
+    }
+
+    /// the pairs of a path entry, each once
+    fn path(&mut self, entry: usize) -> String {
+        let sql = match self.book.paths[entry] {
+            Path::Link(p) => return self.link(p),
             Path::Inv(d) => format!("SELECT o, s FROM {}", self.path(d)),
             Path::Seq(d, e) => {
                 let (d, e) = (self.path(d), self.path(e));
@@ -110,7 +115,7 @@ impl Query<'_> {
         self.part("s, o", sql)
     }
 
-    fn end(&mut self, end: &End) -> String {
+    fn end(&mut self, end: End) -> String {
         match end {
             End::Id => self.part("s, o", "SELECT Node, Node FROM Nodes".into()),
             End::Along(e) => self.path(e),
@@ -121,7 +126,7 @@ impl Query<'_> {
         if let Some(part) = self.shapes.get(&(shape, keeps)) {
             return part.clone();
         }
-        let part = self.form(&self.book.shapes[shape], keeps);
+        let part = self.form(self.book.shapes[shape], keeps);
         self.shapes.insert((shape, keeps), part.clone());
         part
     }
@@ -166,8 +171,8 @@ impl Query<'_> {
     }
 
     /// The greatest first end against the least second one, `fails` being the order in which they fail.
-    fn pairs(&mut self, path: &Path, link: usize, fails: &str, keeps: bool) -> String {
-        let (first, second) = (self.path(path), self.path(&Path::Link(link)));
+    fn pairs(&mut self, path: usize, link: usize, fails: &str, keeps: bool) -> String {
+        let (first, second) = (self.path(path), self.link(link));
         let mut bound = |end: String, best: &str| {
             let sql = format!("SELECT s, {best}(Value), COUNT(*) > COUNT(Value) FROM {end} LEFT JOIN Numerics ON o = Node GROUP BY s");
             self.part("s, v, bare", sql)
@@ -177,16 +182,17 @@ impl Query<'_> {
         self.broken(sql, keeps)
     }
 
-    /// The nodes that keep a form, or those that break it.
-    fn form(&mut self, form: &Form, keeps: bool) -> String {
+    /// The nodes that keep a form entry, or those that break it.
+    fn form(&mut self, entry: usize, keeps: bool) -> String {
+        let form = &self.book.forms[entry];
         match form {
             Form::True if keeps => self.nodes("SELECT Node FROM Nodes".into()),
             Form::True => self.nodes("SELECT Node FROM Nodes WHERE 0".into()),
             Form::Shape(s) => self.shape(*s, keeps),
-            Form::Not(f) => self.form(f, !keeps),
+            Form::Not(f) => self.form(*f, !keeps),
             Form::And(f, g) | Form::Or(f, g) => {
                 let word = if matches!(form, Form::And(..)) == keeps { "INTERSECT" } else { "UNION" };
-                let (f, g) = (self.form(f, keeps), self.form(g, keeps));
+                let (f, g) = (self.form(*f, keeps), self.form(*g, keeps));
                 self.nodes(format!("SELECT Node FROM {f} {word} SELECT Node FROM {g}"))
             }
             Form::Is(c) => self.met(format!("SELECT Node FROM Nodes WHERE Node = {c}"), keeps),
@@ -197,31 +203,31 @@ impl Query<'_> {
             Form::Above(x) => self.met(format!("SELECT Node FROM Numerics WHERE Value > {x}"), keeps),
             Form::To(x) => self.met(format!("SELECT Node FROM Numerics WHERE Value <= {x}"), keeps),
             Form::Below(x) => self.met(format!("SELECT Node FROM Numerics WHERE Value < {x}"), keeps),
-            Form::Count(lo, hi, e, f) => {
-                let (pairs, part) = (self.path(e), self.form(f, true));
+            Form::Count { path, form, lo, hi } => {
+                let (pairs, part) = (self.path(*path), self.form(*form, true));
                 self.count(*lo, *hi, &pairs, &part, keeps)
             }
             Form::All(e, f) => {
-                let (pairs, part) = (self.path(e), self.form(f, true));
+                let (pairs, part) = (self.path(*e), self.form(*f, true));
                 self.broken(format!("SELECT DISTINCT s FROM {pairs} WHERE o NOT IN {part}"), keeps)
             }
             Form::Equal(e, p) => {
-                let (a, b) = (self.end(e), self.path(&Path::Link(*p)));
+                let (a, b) = (self.end(*e), self.link(*p));
                 let only = |a: &str, b: &str| format!("SELECT s FROM (SELECT s, o FROM {a} EXCEPT SELECT s, o FROM {b})");
                 self.broken(format!("{} UNION {}", only(&a, &b), only(&b, &a)), keeps)
             }
             Form::Apart(e, p) => {
-                let (a, b) = (self.end(e), self.path(&Path::Link(*p)));
+                let (a, b) = (self.end(*e), self.link(*p));
                 let both = format!("SELECT s, o FROM {a} INTERSECT SELECT s, o FROM {b}");
                 self.broken(format!("SELECT DISTINCT s FROM ({both})"), keeps)
             }
             Form::Closed(ps) => {
                 self.broken(format!("SELECT DISTINCT Subject FROM Triples WHERE Predicate NOT IN ({})", numbers(ps)), keeps)
             }
-            Form::Less(e, p) => self.pairs(e, *p, ">=", keeps),
-            Form::Lesseq(e, p) => self.pairs(e, *p, ">", keeps),
+            Form::Less(e, p) => self.pairs(*e, *p, ">=", keeps),
+            Form::Lesseq(e, p) => self.pairs(*e, *p, ">", keeps),
             Form::Onelang(e) => {
-                let pairs = self.path(e);
+                let pairs = self.path(*e);
                 let langs = format!("{pairs} JOIN Literals ON o = Node WHERE Lang IS NOT NULL");
                 self.broken(format!("SELECT DISTINCT s FROM {langs} GROUP BY s, Lang HAVING COUNT(*) > 1"), keeps)
             }

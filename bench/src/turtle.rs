@@ -3,12 +3,17 @@
 //! Comparable are books in which no two numbers are equal, a type has either numbers or texts, no language begins another,
 //! `less` does not set words against words, and neither `is` nor `node` names a blank.
 
+use reference::reader::{LANGS, LINKS, NODES, TYPES};
 use reference::{Book, End, Form, Path, Target, Term};
 
 const PREFIXES: &str = "@prefix sh: <http://www.w3.org/ns/shacl#> .\n@prefix xsd: <http://www.w3.org/2001/XMLSchema#> .\n\
     @prefix rdf: <http://www.w3.org/1999/02/22-rdf-syntax-ns#> .\n";
 
 const XSD: [&str; 4] = ["integer", "decimal", "long", "int"];
+
+fn name(book: &Book, pool: usize, k: usize) -> &str {
+    std::str::from_utf8(&book.pools[pool][k]).unwrap()
+}
 
 /// The IRI of a datatype: one of XSD's numeric ones where the book has numbers of that type.
 fn datatype(book: &Book, t: usize) -> String {
@@ -19,12 +24,12 @@ fn datatype(book: &Book, t: usize) -> String {
         let place = (1..t).filter(|&u| numeric(u)).count();
         format!("http://www.w3.org/2001/XMLSchema#{}", XSD[place])
     } else {
-        format!("urn:t:{}", book.pools[2][t])
+        format!("urn:t:{}", name(book, TYPES, t))
     }
 }
 
 fn node(book: &Book, v: usize) -> String {
-    let name = &book.pools[0][v];
+    let name = name(book, NODES, v);
     match &book.terms[v] {
         Term::Thing => format!("<urn:n:{name}>"),
         Term::Blank => format!("_:n{name}"),
@@ -36,11 +41,11 @@ fn node(book: &Book, v: usize) -> String {
 
 /// The first part of a language tag is letters.
 fn lang(book: &Book, l: usize) -> String {
-    format!("x-{}", book.pools[3][l])
+    format!("x-{}", name(book, LANGS, l))
 }
 
 fn link(book: &Book, p: usize) -> String {
-    if p == 0 { "rdf:type".into() } else { format!("<urn:l:{}>", book.pools[1][p]) }
+    if p == 0 { "rdf:type".into() } else { format!("<urn:l:{}>", name(book, LINKS, p)) }
 }
 
 pub fn data(book: &Book) -> String {
@@ -51,7 +56,7 @@ pub fn data(book: &Book) -> String {
 /// A shape for each of the book's, and one for each rule, so that a result says which rule it is of.
 pub fn shapes(book: &Book) -> String {
     let mut text = PREFIXES.to_string();
-    for (s, f) in book.shapes.iter().enumerate() {
+    for (s, &f) in book.shapes.iter().enumerate() {
         text += &format!("<urn:s:{s}> a sh:NodeShape {} .\n", constraint(book, f));
     }
     for (r, (s, target)) in book.rules.iter().enumerate() {
@@ -66,24 +71,24 @@ pub fn shapes(book: &Book) -> String {
     text
 }
 
-fn shape(book: &Book, form: &Form) -> String {
+fn shape(book: &Book, form: usize) -> String {
     format!("[ a sh:NodeShape {} ]", constraint(book, form))
 }
 
-fn path(book: &Book, e: &Path) -> String {
-    match e {
-        Path::Link(p) => link(book, *p),
+fn path(book: &Book, entry: usize) -> String {
+    match book.paths[entry] {
+        Path::Link(p) => link(book, p),
         Path::Inv(e) => format!("[ sh:inversePath {} ]", path(book, e)),
         Path::Seq(d, e) => format!("( {} {} )", path(book, d), path(book, e)),
         Path::Alt(d, e) => format!("[ sh:alternativePath ( {} {} ) ]", path(book, d), path(book, e)),
     }
 }
 
-fn along(book: &Book, e: &Path, rest: String) -> String {
+fn along(book: &Book, e: usize, rest: String) -> String {
     format!("; sh:property [ sh:path {} {rest} ]", path(book, e))
 }
 
-fn from(book: &Book, end: &End, rest: String) -> String {
+fn from(book: &Book, end: End, rest: String) -> String {
     match end {
         End::Id => rest,
         End::Along(e) => along(book, e, rest),
@@ -91,10 +96,10 @@ fn from(book: &Book, end: &End, rest: String) -> String {
 }
 
 /// What stands after `a sh:NodeShape`.
-fn constraint(book: &Book, form: &Form) -> String {
-    let sub = |f: &Form| shape(book, f);
+fn constraint(book: &Book, entry: usize) -> String {
+    let sub = |f: &usize| shape(book, *f);
     let list = |items: Vec<String>| format!("( {} )", items.join(" "));
-    match form {
+    match &book.forms[entry] {
         Form::True => String::new(),
         Form::Is(c) => format!("; sh:hasValue {}", node(book, *c)),
         Form::Shape(s) => format!("; sh:node <urn:s:{s}>"),
@@ -108,24 +113,23 @@ fn constraint(book: &Book, form: &Form) -> String {
         Form::Above(x) => format!("; sh:minExclusive {x}"),
         Form::To(x) => format!("; sh:maxInclusive {x}"),
         Form::Below(x) => format!("; sh:maxExclusive {x}"),
-        Form::Count(lo, hi, e, f) => {
-            let (least, most) = match **f {
-                Form::True => ("; sh:minCount", "; sh:maxCount"),
-                _ => ("; sh:qualifiedMinCount", "; sh:qualifiedMaxCount"),
+        Form::Count { path, form, lo, hi } => {
+            let (each, least, most) = match book.forms[*form] {
+                Form::True => (String::new(), "; sh:minCount", "; sh:maxCount"),
+                _ => (format!("; sh:qualifiedValueShape {}", sub(form)), "; sh:qualifiedMinCount", "; sh:qualifiedMaxCount"),
             };
-            let each = if matches!(**f, Form::True) { String::new() } else { format!("; sh:qualifiedValueShape {}", sub(f)) };
             let most = hi.map_or(String::new(), |h| format!("{most} {h}"));
-            along(book, e, format!("{each} {least} {lo} {most}"))
+            along(book, *path, format!("{each} {least} {lo} {most}"))
         }
-        Form::All(e, f) => along(book, e, format!("; sh:node {}", sub(f))),
-        Form::Equal(e, p) => from(book, e, format!("; sh:equals {}", link(book, *p))),
-        Form::Apart(e, p) => from(book, e, format!("; sh:disjoint {}", link(book, *p))),
+        Form::All(e, f) => along(book, *e, format!("; sh:node {}", sub(f))),
+        Form::Equal(e, p) => from(book, *e, format!("; sh:equals {}", link(book, *p))),
+        Form::Apart(e, p) => from(book, *e, format!("; sh:disjoint {}", link(book, *p))),
         Form::Closed(ps) => {
             format!("; sh:closed true ; sh:ignoredProperties {}", list(ps.iter().map(|&p| link(book, p)).collect()))
         }
-        Form::Less(e, p) => along(book, e, format!("; sh:lessThan {}", link(book, *p))),
-        Form::Lesseq(e, p) => along(book, e, format!("; sh:lessThanOrEquals {}", link(book, *p))),
-        Form::Onelang(e) => along(book, e, "; sh:uniqueLang true".into()),
+        Form::Less(e, p) => along(book, *e, format!("; sh:lessThan {}", link(book, *p))),
+        Form::Lesseq(e, p) => along(book, *e, format!("; sh:lessThanOrEquals {}", link(book, *p))),
+        Form::Onelang(e) => along(book, *e, "; sh:uniqueLang true".into()),
     }
 }
 
