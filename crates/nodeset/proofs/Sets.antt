@@ -4,6 +4,7 @@ use mathlib.Core.List.{List, [], _∷_}
 use mathlib.Core.Bool.{Bool, true, false, not, cond, _&&_, _||_, or-false}
 use mathlib.Core.Path.{_≡_, refl, sym, ap, ap₂, _∙_, subst}
 use native.Mathlib.Nat.{one-mul, lt-of-le-of-lt, mod-eq-of-lt, add-zero, zero-add, add-suc, suc-add}
+use native.Mathlib.Numerals.{add-one}
 use native.Mathlib.Omega.{arith}
 use lib.Dec.{eqb, ltb, lit<}
 use lib.Pow.{pow-lt}
@@ -274,6 +275,19 @@ ones-both a b zero h = refl
 ones-both a b (suc k) h =
     ap₂ (λ (x y : ℕ). x + y) (ones-both a b k h) (ones-word a b k (h k)) ∙ sym (size-add (both a b) (k * 64) 64)
     ∙ ap (size (both a b)) (let e : k * 64 + 64 ≡ suc k * 64 = omega arith in e)
+
+-- four words more
+pub ones-four : (a b : List ℕ) (i : ℕ) → onesBoth a b i + (ones (bitAnd (getD a i 0) (getD b i 0)) + ones (bitAnd (getD a (i + 1) 0) (getD b (i + 1) 0)) + ones (bitAnd (getD a (i + 2) 0) (getD b (i + 2) 0)) + ones (bitAnd (getD a (i + 3) 0) (getD b (i + 3) 0))) ≡ onesBoth a b (i + 4)
+unfolding onesBoth
+ones-four a b i =
+    let p = ones-more a b i in
+    let q = ones-more a b (i + 1) in
+    let r = ones-more a b (i + 2) in
+    let t = ones-more a b (i + 3) in
+    omega (arith, p, ap (onesBoth a b) (let z : i + 1 + 1 ≡ i + 2 = omega arith in z), q, ap (onesBoth a b) (let z : i + 2 + 1 ≡ i + 3 = omega arith in z), r, ap (onesBoth a b) (let z : i + 3 + 1 ≡ i + 4 = omega arith in z), t)
+  where
+    ones-more : (a b : List ℕ) (k : ℕ) → onesBoth a b (k + 1) ≡ onesBoth a b k + ones (bitAnd (getD a k 0) (getD b k 0))
+    ones-more a b k = ap (onesBoth a b) (add-one k)
 
 pub onesBoth-le : (a b : List ℕ) (k : ℕ) → ((i : ℕ) → getD b i 0 < 2 ^ 64) → onesBoth a b k ≤ k * 64
 onesBoth-le a b k h = subst (λ (n : ℕ). n ≤ k * 64) (sym (ones-both a b k h)) (size-le (both a b) (k * 64))

@@ -16,12 +16,12 @@
 //   union, intersection, difference, count
 ghost use mathlib.Core.Path.{_≡_};
 ghost use mathlib.Core.Bool.{false};
-ghost use Prim.Native.Nat.{ℕ, _+_, _*_};
+ghost use Prim.Native.Nat.{ℕ, _+_, _*_, _≤_, _<_};
 ghost use lib.ListN.{getD, set};
 ghost use lib.Dec.{ltb};
 ghost use lib.Count.{ones};
 ghost use Rattle.base.specs.Bounded.{size};
-ghost use Rattle.nodeset.specs.Words.{bit, has, both, wordOf, wordsOf, with, union, intersection, difference, stored};
+ghost use Rattle.nodeset.specs.Words.{bit, has, both, wordOf, wordsOf, with, union, intersection, difference, stored, onesBoth};
 ghost use Rattle.nodeset.specs.Members.{nextFrom};
 ghost use Rattle.nodeset.specs.Operations.{keeps, applied};
 
@@ -105,14 +105,27 @@ pub fn subtract_into(into: &mut [u64], from: &[u64])
     combine_into(into, from, Operation::Difference);
 }
 
-// The ones of a word. Most words have none, and counting is dear on machines without an instruction for it.
+// The ones of a word.
 fn ones_of(x: u64) -> usize
-    ensures { λ r. ⌜ r ≡ ones x ⌝ }
+    ensures { λ r. ⌜ (r ≡ ones x) × (r ≤ 64) ⌝ }
 {
-    if x == 0 {
+    u64::count_ones(x) as usize
+}
+
+// The ones of four ANDed words, from word i on. Most have none, and where all four have none they are not counted: that is
+// dear on machines without an instruction for it.
+fn ones_of_four(a: &[u64], b: &[u64], i: usize) -> usize
+    requires { ⌜ i < 16 ⌝ }
+    ensures { λ r. ⌜ onesBoth (now (a .entry)) (now (b .entry)) i + r ≡ onesBoth (now (a .entry)) (now (b .entry)) (i + 4) ⌝ }
+{
+    let x = word(a, i) & word(b, i);
+    let y = word(a, i + 1) & word(b, i + 1);
+    let z = word(a, i + 2) & word(b, i + 2);
+    let w = word(a, i + 3) & word(b, i + 3);
+    if (x == 0) & ((y == 0) & ((z == 0) & (w == 0))) {
         return 0;
     }
-    u64::count_ones(x) as usize
+    ones_of(x) + ones_of(y) + ones_of(z) + ones_of(w)
 }
 
 // How many numbers below 1,024 are in both sets: the ones of sixteen ANDed words.
@@ -120,8 +133,8 @@ pub fn count_both(a: &[u64], b: &[u64]) -> usize
     ensures { λ r. ⌜ r ≡ size (both (now (a .entry)) (now (b .entry))) 1024 ⌝ }
 {
     let mut total: usize = 0;
-    for i in 0..16 {
-        total += ones_of(word(a, i) & word(b, i));
+    for i in 0..4 {
+        total += ones_of_four(a, b, 4 * i);
     }
     total
 }
