@@ -1,7 +1,8 @@
 -- What is picked fact by fact: each fact picks one node, or none.
 use Prim.Native.Nat.{ℕ}
 use mathlib.Core.List.{List}
-use mathlib.Core.Bool.{Bool, not, _&&_}
+use mathlib.Core.Bool.{Bool, true, not, _&&_}
+use mathlib.Core.Path.{_≡_}
 use lib.Dec.{eqb}
 use Rattle.base.specs.Bounded.{some}
 use Rattle.base.specs.Lists.{member}
@@ -29,3 +30,7 @@ module _ (cs : List ℕ) where
   -- one of the facts picks v
   unfoldable pub picked : Pick → ℕ → Bool
   picked pick v = some (λ i. eqb (nodeOf pick i) v && picks pick i) (factCount cs)
+
+  -- no fact of another link than h picks one
+  abbrev pub ByLink : Pick → ℕ → Type 0
+  ByLink pick h = (i : ℕ) → picks pick i ≡ true → predicateAt cs i ≡ h

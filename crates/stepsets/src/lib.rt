@@ -7,9 +7,10 @@
 //   lang_set      .. that no two ends of a path have the same language
 //   ends_set      .. on two end sets
 // (the ends of all nodes stand in lent rows, which are kept for the next step)
-//   facts_set     the nodes that the facts pick, in one pass over them
+//   facts_set     the nodes that the facts pick, in one pass over them, or over those of one link
 //   closed_set    the nodes of which every fact has a listed link
 //   both_set, either_set   the nodes in both of two sets, in one of them
+use chains::entry;
 use conditions::apart_holds;
 use conditions::equal_holds;
 use conditions::insert_if;
@@ -26,6 +27,7 @@ use nodeset::NodeSet;
 use nodeset::count_both;
 use nodeset::load;
 use paths::End;
+use paths::last_fact;
 use rows::all_table_ends;
 use tables::layout::NO_NUMBER;
 use tables::reads::fact_count;
@@ -49,7 +51,7 @@ ghost use Rattle.paths.specs.Facts.{Tables};
 ghost use Rattle.conditions.specs.Pairs.{unlikeLangs};
 ghost use Rattle.stepsets.specs.Asks.{nodesOf, orNot, asked, askOk};
 ghost use Rattle.stepsets.specs.Ends.{EndOf, numberOk, Held};
-ghost use Rattle.stepsets.specs.Picks.{nodeOf, picks, picked};
+ghost use Rattle.stepsets.specs.Picks.{nodeOf, picks, picked, ByLink};
 
 // Ends have numbers: `id` and path entries those of the tables, links those from here on.
 const FIRST_LINK: usize = 65536;
@@ -301,8 +303,8 @@ fn picks_one(pick: Pick, cells: &[u16], i: usize) -> bool
     }
 }
 
-// The nodes that the facts pick.
-pub fn facts_set(pick: Pick, cells: &[u16]) -> NodeSet
+// The nodes that the facts pick, over all facts.
+fn all_facts_set(pick: Pick, cells: &[u16]) -> NodeSet
     requires { ⌜ wellFormed (now cells) ≡ true ⌝ }
     ensures { λ r. ⌜ r .words ≡ nodesOf (picked (now (cells .entry)) pick) (nodeCount (now (cells .entry))) ⌝ }
 {
@@ -315,13 +317,42 @@ pub fn facts_set(pick: Pick, cells: &[u16]) -> NodeSet
     NodeSet { words }
 }
 
+// .. over the facts of link l alone, where no other fact picks a node.
+fn link_facts_set(pick: Pick, l: LinkNo, cells: &[u16], index: &[u16]) -> NodeSet
+    requires { ⌜ Tables (now cells) (now index) × ByLink (now cells) pick (l .0) ⌝ }
+    ensures { λ r. ⌜ r .words ≡ nodesOf (picked (now (cells .entry)) pick) (nodeCount (now (cells .entry))) ⌝ }
+{
+    let mut words = [0u64; 16];
+    let mut next = last_fact(index, l);
+    while 0 < next {
+        let i = next - 1;
+        let v = node_of(pick, cells, i);
+        insert_if(&mut words, v, picks_one(pick, cells, i));
+        next = wide(entry(index, 256 + i));
+    }
+    NodeSet { words }
+}
+
+// The nodes that the facts pick.
+pub fn facts_set(pick: Pick, cells: &[u16], index: &[u16]) -> NodeSet
+    requires { ⌜ Tables (now cells) (now index) ⌝ }
+    ensures { λ r. ⌜ r .words ≡ nodesOf (picked (now (cells .entry)) pick) (nodeCount (now (cells .entry))) ⌝ }
+{
+    match pick {
+        Pick::From(l) => link_facts_set(pick, l, cells, index),
+        Pick::Into(l) => link_facts_set(pick, l, cells, index),
+        Pick::Typed(_) => link_facts_set(pick, LinkNo(0), cells, index),
+        Pick::Open(_) => all_facts_set(pick, cells),
+    }
+}
+
 // The nodes of which every fact has a link that form entry e lists.
 pub fn closed_set(cells: &[u16], e: usize) -> NodeSet
     requires { ⌜ wellFormed (now cells) ≡ true ⌝ }
     ensures { λ r. ⌜ r .words ≡ nodesOf (λ v. not (picked (now (cells .entry)) (Pick.Open e) v)) (nodeCount (now (cells .entry))) ⌝ }
 {
     let n = node_count(cells);
-    NodeSet::whole(n).difference(facts_set(Pick::Open(e), cells))
+    NodeSet::whole(n).difference(all_facts_set(Pick::Open(e), cells))
 }
 
 // The nodes below n in the sets of steps i and j; in one of them.
