@@ -1,4 +1,4 @@
--- `link_facts_set` meets its contract. The invariant: the walk along the chain has come to `next`.
+-- `link_set` meets its contract. The invariant: the walk along the chain has come to `next`.
 use Prim.Native.Nat.{ℕ, suc, _≤_, _-_}
 use mathlib.Core.Path.{_≡_, sym, _∙_}
 use native.Mathlib.Omega.{arith}
@@ -9,8 +9,8 @@ use Rattle.chains.proofs.Chains.{walk-falls}
 use Rattle.tables.specs.Layout.{factCount, predicateAt}
 use Rattle.tables.proofs.WellFormed.{sound}
 use Rattle.stepsets.proofs.Picks.{Walk, walk-first, walk-on, walk-done}
-use Rattle.stepsets.proofs.link_facts_set.Statement.{statement}
-use Rattle.stepsets.proofs.link_facts_set.Tie as tie
+use Rattle.stepsets.proofs.link_set.Statement.{statement}
+use Rattle.stepsets.proofs.link_set.Tie as tie
 
 abbrev Inv-loop : tie.InvT-loop
 Inv-loop pick cells index words₀ next₀ words next = Walk cells pick words next
@@ -36,8 +36,8 @@ node-of-requires c κs = search needs
 slice-aggregate-insert-if : tie.Need-slice-aggregate-insert-if Inv-loop μ-loop
 slice-aggregate-insert-if c = sym (length-of (has (c .before .before .before .loop .words)) 16 (c .before .before .before .loop .inv .words))
 
-picks-one-requires : tie.Need-picks-one-requires Inv-loop μ-loop
-picks-one-requires c κs = search needs
+chooses-requires : tie.Need-chooses-requires Inv-loop μ-loop
+chooses-requires c κs = search needs
 
 insert-if-requires : tie.Need-insert-if-requires Inv-loop μ-loop
 insert-if-requires c κs = search needs
@@ -68,7 +68,7 @@ loop-again c =
     let w = c .before .before .before .before .before .before .before .before .loop in
     let i : ℕ = w .next - 1 in
     let q : w .next ≡ suc i = omega (arith, c .before .before .before .before .before .before .before .loop-test .taken) in
-    walk-on (a .cells .now) (a .index .now) t (a .pick) (w .next) (c .wide .result) i (c .before .before .before .before .before .before .node-of .result) (c .before .before .before .before .picks-one .result) (w .inv) q (c .before .before .before .before .before .before .node-of .ensures) (c .before .before .before .before .picks-one .ensures) (c .before .before .before .insert-if .ensures) (c .wide .ensures ∙ c .before .entry .ensures)
+    walk-on (a .cells .now) (a .index .now) t (a .pick) (w .next) (c .wide .result) i (c .before .before .before .before .before .before .node-of .result) (c .before .before .before .before .chooses .result) (w .inv) q (c .before .before .before .before .before .before .node-of .ensures) (c .before .before .before .before .chooses .ensures) (c .before .before .before .insert-if .ensures) (c .wide .ensures ∙ c .before .entry .ensures)
 
 returns : tie.Need-returns Inv-loop μ-loop
 returns c =
@@ -76,8 +76,8 @@ returns c =
     let t = c .before .before .before .before .before .pre .0 in
     walk-done (a .cells .now) (a .index .now) t (a .pick) (c .before .loop .next) (omega (arith, c .loop-test .left)) (c .before .loop .inv)
 
-pub link-facts-set-spec : {M : Type 1} → statement M
-link-facts-set-spec =
+pub link-set-spec : {M : Type 1} → statement M
+link-set-spec =
     tie.close
     (tie.spec
     Inv-loop
@@ -87,7 +87,7 @@ link-facts-set-spec =
     sub-i
     node-of-requires
     slice-aggregate-insert-if
-    picks-one-requires
+    chooses-requires
     insert-if-requires
     add-entry
     entry-requires
