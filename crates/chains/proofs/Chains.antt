@@ -1,18 +1,16 @@
--- Chains: what the last item of a key says of all, no item, one item more, and what may change without them.
+-- Chains: what the last item of a key says of all, no item, one item more, what may change without them, and a walk along one.
 use Prim.Native.Nat.{ℕ, zero, suc, _+_, _<_, _≤_}
 use mathlib.Core.Bool.{Bool, true, false, cond, _||_}
 use mathlib.Core.List.{List}
 use mathlib.Core.Path.{_≡_, refl, sym, ap, ap₂, _∙_, subst}
-use mathlib.Core.Logic.{_⊎_, inl, inr, ⊎-elim}
-use native.Mathlib.Nat.{le-refl, le-suc, le-trans, le-of-suc-le-suc, eq-or-lt-of-le}
+use native.Mathlib.Nat.{le-refl, le-suc, le-trans}
 use native.Mathlib.Numerals.{add-one}
 use native.Mathlib.Omega.{arith}
-use lib.Dec.{eqb}
+use lib.Dec.{eqb, ltb}
 use lib.ListN.{length, getD, set, length-set}
 use lib.Seq.{getD-set-same, getD-set-other}
-use borrow.Author.Tests.{eq-eqb, ne-eqb, eqb-true, eqb-false}
+use borrow.Author.Tests.{eq-eqb, ne-eqb, eqb-true, eqb-false, ltb-true, ltb-false}
 use Rattle.base.specs.Bounded.{some}
-use Rattle.base.proofs.Bools.{never-both}
 use Rattle.chains.specs.Chains.{lastWith, Chained, linked}
 
 -- ---- the last item of a key
@@ -114,3 +112,21 @@ module _ (key : ℕ → ℕ) (n slots heads nexts : ℕ) {index : List ℕ} (apa
               let ne = eqb-false i n q in
               getD-set-other index (nexts + n) (nexts + i) (getD index (heads + key n) 0) 0 (λ z. ne (omega arith))
               ∙ c .follows i (omega (arith, ne))
+
+-- ---- a walk along the chain of h, to its end
+module _ (key : ℕ → ℕ) (n slots heads nexts : ℕ) {index : List ℕ} (c : Chained key n slots heads nexts index) where
+  -- it begins with the last item that has the key; keys past the slots have no item
+  pub walk-begins : ((i : ℕ) → i < n → key i < slots) → (h : ℕ) {at r : ℕ} → at ≡ heads + h → r ≡ cond (ltb h slots) (getD index at 0) 0 → r ≡ lastWith key h n
+  walk-begins low h {at} p e = e ∙ go (ltb h slots) refl
+    where
+      go : (b : Bool) → ltb h slots ≡ b → cond b (getD index at 0) 0 ≡ lastWith key h n
+      go true q = ap (λ (k : ℕ). getD index k 0) p ∙ c .begins h (ltb-true h slots q)
+      go false q = sym (last-none key h n (λ i l f. let g : slots ≤ h = ltb-false h slots q in let z : ⊥ = omega (arith, f, low i l) in z))
+
+  -- what follows item i comes before it
+  pub walk-falls : {next : ℕ} (i : ℕ) → i < n → next ≡ getD index (nexts + i) 0 → next ≤ i
+  walk-falls i l q = subst (λ (k : ℕ). k ≤ i) (sym (q ∙ c .follows i l)) (last-le key (key i) i)
+
+  -- .. and has its key
+  pub walk-next : (h : ℕ) {next : ℕ} (i : ℕ) → i < n → key i ≡ h → next ≡ getD index (nexts + i) 0 → next ≡ lastWith key h i
+  walk-next h i l e q = q ∙ c .follows i l ∙ ap (λ (k : ℕ). lastWith key k i) e

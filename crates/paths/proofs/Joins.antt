@@ -1,14 +1,14 @@
 -- A node that joins sets, the facts of a link one by one, and all of them: the relation that they make.
-use Prim.Native.Nat.{ℕ, suc, _+_, _*_, _/_, _%_, _^_, _<_, _≤_}
+use Prim.Native.Nat.{ℕ, suc, _+_, _*_, _/_, _%_, _^_, _<_}
 use mathlib.Core.Bool.{Bool, true, false, cond, _&&_, _||_, or-false, and-false, and-true}
 use mathlib.Core.List.{List}
-use mathlib.Core.Path.{_≡_, refl, sym, ap, ap₂, _∙_, subst}
+use mathlib.Core.Path.{_≡_, refl, sym, ap, ap₂, _∙_}
 use native.Mathlib.Nat.{zero-add}
 use native.Mathlib.Omega.{arith}
 use lib.Dec.{eqb, ltb}
 use lib.ListN.{length, getD, set}
 use lib.Bits.{bitOr, or-lt}
-use borrow.Author.Tests.{eq-eqb, ne-eqb, eqb-true, ltb-true, ltb-false, lt-ltb, le-ltb}
+use borrow.Author.Tests.{eq-eqb, ne-eqb, eqb-true, ltb-true, lt-ltb, le-ltb}
 use Rattle.base.specs.Bounded.{some}
 use Rattle.base.proofs.Bools.{and-left, and-right, same-test}
 use Rattle.base.proofs.Bounded.{every-at}
@@ -16,7 +16,7 @@ use Rattle.nodeset.specs.Words.{bit, has, with}
 use Rattle.nodeset.proofs.Bits.{bit-or}
 use Rattle.nodeset.proofs.Sets.{has-at, own, set-words, same-words, with-words, small-of, ltb-more}
 use Rattle.chains.specs.Chains.{lastWith}
-use Rattle.chains.proofs.Chains.{last-le, last-none, some-last}
+use Rattle.chains.proofs.Chains.{some-last, walk-begins}
 use Rattle.paths.specs.Facts.{FactsOk, edge, edges}
 use Rattle.paths.specs.Images.{withImages, joined}
 use Rattle.paths.proofs.Images.{images-ext, images-none, images-or, images-pair}
@@ -88,19 +88,7 @@ module _ (ss ps os index : List ℕ) (count n : ℕ) (ok : FactsOk ss ps os inde
 
   -- the chain of link p begins with the last fact that has it
   pub chain-begins : (p : ℕ) {r : ℕ} → r ≡ cond (ltb p 256) (getD index p 0) 0 → r ≡ lastWith (λ i. getD ps i 0) p count
-  chain-begins p e = e ∙ go (ltb p 256) refl
-    where
-      go : (b : Bool) → ltb p 256 ≡ b → cond b (getD index p 0) 0 ≡ lastWith (λ i. getD ps i 0) p count
-      go true q = ap (λ (k : ℕ). getD index k 0) (sym (zero-add p)) ∙ ok .indexed .begins p (ltb-true p 256 q)
-      go false q = sym (last-none (λ i. getD ps i 0) p count (λ i l f. let h : getD ps i 0 < 256 = ltb-true (getD ps i 0) 256 (every-at (λ i. ltb (getD ps i 0) 256) count (ok .links) i l) in let g : 256 ≤ p = ltb-false p 256 q in let z : ⊥ = omega (arith, f) in z))
-
-  -- what follows fact i in its chain comes before it
-  pub chain-falls : {next : ℕ} (i : ℕ) → i < count → next ≡ getD index (256 + i) 0 → next ≤ i
-  chain-falls i l q = subst (λ (k : ℕ). k ≤ i) (sym (q ∙ ok .indexed .follows i l)) (last-le (λ i. getD ps i 0) (getD ps i 0) i)
-
-  -- .. and has its link
-  pub chain-next : (p : ℕ) {next : ℕ} (i : ℕ) → i < count → getD ps i 0 ≡ p → next ≡ getD index (256 + i) 0 → next ≡ lastWith (λ i. getD ps i 0) p i
-  chain-next p i l e q = q ∙ ok .indexed .follows i l ∙ ap (λ (h : ℕ). lastWith (λ i. getD ps i 0) h i) e
+  chain-begins p e = walk-begins (λ i. getD ps i 0) count 256 0 256 (ok .indexed) (λ i l. ltb-true (getD ps i 0) 256 (every-at (λ i. ltb (getD ps i 0) 256) count (ok .links) i l)) p (sym (zero-add p)) e
 
   module _ (width p : ℕ) (back : Bool) (from : List ℕ) where
     -- fact i, which has link p

@@ -11,6 +11,7 @@
 // The facts of each link are found by an index, chains by link, which is made once for many calls:
 //   index_facts      the chains of the facts
 //   index_table      the same for the facts of the tables
+//   last_fact        where the chain of a link begins
 use chains::entry;
 use chains::link;
 use model::LinkNo;
@@ -108,7 +109,7 @@ pub fn index_table(index: &mut [u16], cells: &[u16])
 }
 
 // The last fact of link l, as its number and one; 0 where there is none.
-fn last_fact(index: &[u16], l: LinkNo) -> usize
+pub fn last_fact(index: &[u16], l: LinkNo) -> usize
     ensures { λ r. ⌜ r ≡ cond (ltb (l .0) 256) (getD (now (index .entry)) (l .0) 0) 0 ⌝ }
 {
     if l.0 < 256 {

@@ -170,7 +170,7 @@ fn step_set(
             l,
         ),
         14 => closed_set(cells, a),
-        15 => facts_set(Pick::Open(a), cells),
+        15 => facts_set(Pick::Open(a), cells, index),
         16 => ends_set(
             first,
             end,
@@ -225,9 +225,9 @@ fn step_set(
         ),
         20 => lang_set(first, end, false, cells, index, values, a),
         21 => lang_set(first, end, true, cells, index, values, a),
-        22 => facts_set(Pick::From(p), cells),
-        23 => facts_set(Pick::Into(p), cells),
-        24 => facts_set(Pick::Typed(c), cells),
+        22 => facts_set(Pick::From(p), cells, index),
+        23 => facts_set(Pick::Into(p), cells, index),
+        24 => facts_set(Pick::Typed(c), cells, index),
         25..=65535 => NodeSet::EMPTY,
     }
 }

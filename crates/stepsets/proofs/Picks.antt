@@ -1,31 +1,37 @@
--- The nodes that the facts pick, fact by fact.
-use Prim.Native.Nat.{ℕ, _+_, _*_, _≤_, _<_}
-use mathlib.Core.Bool.{Bool, true, false, not, _&&_, _||_, and-true, and-false, or-false, or-comm}
+-- The nodes that the facts pick, fact by fact, and along the chain of a link.
+use Prim.Native.Nat.{ℕ, suc, _+_, _≤_, _<_}
+use mathlib.Core.Bool.{Bool, true, false, not, cond, _&&_, _||_, and-true, and-false, or-false, or-comm, or-assoc}
 use mathlib.Core.List.{List}
 use mathlib.Core.Path.{_≡_, refl, sym, ap, ap₂, _∙_, subst}
+use native.Mathlib.Nat.{zero-add}
 use native.Mathlib.Numerals.{add-one}
 use native.Mathlib.Omega.{arith}
 use lib.Dec.{eqb, ltb}
 use lib.IntN.{ℤ}
-use lib.ListN.{length, replicate}
+use lib.ListN.{length, getD, replicate}
 use borrow.Author.Tests.{eq-eqb, eqb-true, lt-ltb}
 use Rattle.base.specs.Bounded.{some}
 use Rattle.base.specs.Lists.{member}
+use Rattle.base.proofs.Bools.{and-left, and-right}
 use Rattle.base.proofs.Lists.{any-values}
+use Rattle.chains.specs.Chains.{lastWith}
+use Rattle.chains.proofs.Chains.{last-le, last-key, some-last, walk-begins, walk-falls, walk-next}
 use Rattle.nodeset.specs.Words.{has, wordsOf}
-use Rattle.nodeset.proofs.Sets.{zeros, wordsOf-ext}
+use Rattle.nodeset.proofs.Sets.{zeros, has-zeros, wordsOf-ext, has-of, length-of}
 use Rattle.model.specs.declared.NodeNo.{NodeNo}
 use Rattle.model.specs.declared.LinkNo.{LinkNo}
 use Rattle.model.specs.Rules.{subjectsOf, objectsOf, targetClass, selects}
 use Rattle.model.specs.Graph.{rdfType}
-use Rattle.tables.specs.Layout.{nodeCount, factCount, formFirstAt, formSecondAt}
+use Rattle.tables.specs.Layout.{nodeCount, factCount, subjectAt, predicateAt, itemAt, formFirstAt, formSecondAt}
 use Rattle.tables.specs.Decode.{tripleAt, triplesAt, graphAt, itemsAt}
 use Rattle.tables.specs.WellFormed.{wellFormed}
 use Rattle.tables.proofs.WellFormed.{sound}
+use Rattle.conditions.proofs.Items.{listed-some}
 use Rattle.plan.specs.Conditions.{someUnlisted}
+use Rattle.paths.specs.Facts.{Tables}
 use Rattle.paths.proofs.Joins.{eqb-comm}
 use Rattle.stepsets.specs.Asks.{nodesOf}
-use Rattle.stepsets.specs.Picks.{nodeOf, picks, picked}
+use Rattle.stepsets.specs.Picks.{nodeOf, picks, picked, chosen, ByLink, listedBy}
 use Rattle.stepsets.specs.declared.Pick.{Pick}
 use Rattle.stepsets.specs.declared.Pick.the-variants.{From, Into, Typed, Open}
 use Rattle.stepsets.proofs.Nodes.{grown}
@@ -46,27 +52,133 @@ module _ (cs : List ℕ) (ok : wellFormed cs ≡ true) (pick : Pick) where
   unfolding some
   facts-none = zeros 16 ∙ wordsOf-ext (λ m. false) (byFirst cs pick 0) 16 (λ m l. sym (and-false (ltb m (nodeCount cs))))
 
-  pub facts-more : {ws : List ℕ} (i x : ℕ) (b : Bool) → i < factCount cs → ws ≡ wordsOf (byFirst cs pick i) 16 → x ≡ nodeOf cs pick i → b ≡ picks cs pick i → wordsOf (λ m. has ws m || (b && eqb m x)) (length ws) ≡ wordsOf (byFirst cs pick (i + 1)) 16
+  -- the node that fact i picks joins those of the facts before it
+  one-more : (i m : ℕ) {x : ℕ} {b : Bool} → i < factCount cs → x ≡ nodeOf cs pick i → b ≡ picks cs pick i → (byFirst cs pick i m || (b && eqb m x)) ≡ byFirst cs pick (suc i) m
   unfolding some
-  facts-more i x b l e f g = grown (byFirst cs pick i) (byFirst cs pick (i + 1)) 16 x b e (λ m h. here m (eqb m x) refl ∙ ap (λ (k : ℕ). byFirst cs pick k m) (sym (add-one i)))
+  one-more i m {x} {b} l f g = here (eqb m x) refl
     where
-      by-i : ℕ → Bool
-      by-i m = some (λ i. eqb (nodeOf cs pick i) m && picks cs pick i) i
+      by-i : Bool
+      by-i = some (λ i. eqb (nodeOf cs pick i) m && picks cs pick i) i
 
-      here : (m : ℕ) (d : Bool) → eqb m x ≡ d → ((ltb m (nodeCount cs) && by-i m) || (b && d)) ≡ (ltb m (nodeCount cs) && ((eqb (nodeOf cs pick i) m && picks cs pick i) || by-i m))
-      here m true q =
+      here : (d : Bool) → eqb m x ≡ d → ((ltb m (nodeCount cs) && by-i) || (b && d)) ≡ (ltb m (nodeCount cs) && ((eqb (nodeOf cs pick i) m && picks cs pick i) || by-i))
+      here true q =
           let mx : m ≡ nodeOf cs pick i = eqb-true m x q ∙ f in
           let low : ltb m (nodeCount cs) ≡ true = lt-ltb m (nodeCount cs) (subst (λ (k : ℕ). k < nodeCount cs) (sym mx) (node-low pick i l)) in
-          ap (λ (a : Bool). (a && by-i m) || (b && true)) low ∙ ap (λ (c : Bool). by-i m || c) (and-true b) ∙ or-comm (by-i m) b
-          ∙ ap₂ (λ (u c : Bool). (u && c) || by-i m) (sym (eq-eqb (nodeOf cs pick i) m (sym mx))) g
-          ∙ ap (λ (a : Bool). a && ((eqb (nodeOf cs pick i) m && picks cs pick i) || by-i m)) (sym low)
-      here m false q =
-          ap (λ (c : Bool). (ltb m (nodeCount cs) && by-i m) || c) (and-false b) ∙ or-false (ltb m (nodeCount cs) && by-i m)
-          ∙ ap (λ (u : Bool). ltb m (nodeCount cs) && ((u && picks cs pick i) || by-i m)) (sym (eqb-comm (nodeOf cs pick i) m ∙ ap (eqb m) (sym f) ∙ q))
+          ap (λ (a : Bool). (a && by-i) || (b && true)) low ∙ ap (λ (c : Bool). by-i || c) (and-true b) ∙ or-comm by-i b
+          ∙ ap₂ (λ (u c : Bool). (u && c) || by-i) (sym (eq-eqb (nodeOf cs pick i) m (sym mx))) g
+          ∙ ap (λ (a : Bool). a && ((eqb (nodeOf cs pick i) m && picks cs pick i) || by-i)) (sym low)
+      here false q =
+          ap (λ (c : Bool). (ltb m (nodeCount cs) && by-i) || c) (and-false b) ∙ or-false (ltb m (nodeCount cs) && by-i)
+          ∙ ap (λ (u : Bool). ltb m (nodeCount cs) && ((u && picks cs pick i) || by-i)) (sym (eqb-comm (nodeOf cs pick i) m ∙ ap (eqb m) (sym f) ∙ q))
+
+  pub facts-more : {ws : List ℕ} (i x : ℕ) (b : Bool) → i < factCount cs → ws ≡ wordsOf (byFirst cs pick i) 16 → x ≡ nodeOf cs pick i → b ≡ picks cs pick i → wordsOf (λ m. has ws m || (b && eqb m x)) (length ws) ≡ wordsOf (byFirst cs pick (i + 1)) 16
+  facts-more i x b l e f g = grown (byFirst cs pick i) (byFirst cs pick (i + 1)) 16 x b e (λ m h. one-more i m l f g ∙ ap (λ (k : ℕ). byFirst cs pick k m) (sym (add-one i)))
 
   pub facts-done : {ws : List ℕ} (i : ℕ) → i ≡ factCount cs → ws ≡ wordsOf (byFirst cs pick i) 16 → ws ≡ nodesOf (picked cs pick) (nodeCount cs)
   unfolding nodesOf picked
   facts-done i e f = f ∙ ap (λ (k : ℕ). wordsOf (byFirst cs pick k) 16) e
+
+-- ---- the facts of one link
+-- the link that From, Into and Typed go by
+module _ (cs : List ℕ) where
+  pub by-from : (p : LinkNo) → ByLink cs (From p) (p .0)
+  unfolding picks chosen
+  by-from p i = sym (and-true (eqb (predicateAt cs i) (p .0)))
+
+  pub by-into : (p : LinkNo) → ByLink cs (Into p) (p .0)
+  unfolding picks chosen
+  by-into p i = sym (and-true (eqb (predicateAt cs i) (p .0)))
+
+  pub by-typed : (c : NodeNo) → ByLink cs (Typed c) rdfType
+  unfolding picks chosen
+  by-typed c i = refl
+
+-- a walk along the chain of a link has come to `next`: the words, with what the facts before it pick, hold all that is picked
+pub record Walk (cs : List ℕ) (pick : Pick) (ws : List ℕ) (next : ℕ) : Type 0 where
+  pub link : ℕ
+  pub by : ByLink cs pick link
+  pub low : next ≤ factCount cs
+  pub own : (i : ℕ) → next ≡ suc i → predicateAt cs i ≡ link
+  pub words : ws ≡ wordsOf (has ws) 16
+  pub rest : (m : ℕ) → m < 1024 → (has ws m || byFirst cs pick next m) ≡ byFirst cs pick (factCount cs) m
+
+module _ (cs index : List ℕ) (t : Tables cs index) (pick : Pick) where
+  -- of the first i facts only those up to the last with the link pick a node
+  skip : (h i : ℕ) {next : ℕ} → ByLink cs pick h → next ≡ lastWith (predicateAt cs) h i → (m : ℕ) → byFirst cs pick next m ≡ byFirst cs pick i m
+  skip h i by e m =
+      ap (λ (k : ℕ). byFirst cs pick k m) e
+      ∙ ap (λ (b : Bool). ltb m (nodeCount cs) && b) (sym (some-last (predicateAt cs) h (λ k. eqb (nodeOf cs pick k) m && picks cs pick k) i (λ k l q. eqb-true (predicateAt cs k) h (and-left (eqb (predicateAt cs k) h) (chosen cs pick k) (sym (by k) ∙ and-right (eqb (nodeOf cs pick k) m) (picks cs pick k) q)))))
+
+  pub walk-first : (h : ℕ) {next : ℕ} → ByLink cs pick h → next ≡ cond (ltb h 256) (getD index h 0) 0 → Walk cs pick (replicate 16 0) next
+  walk-first h {next} by e = record {
+    link = h;
+    by = by;
+    low = subst (λ (k : ℕ). k ≤ factCount cs) (sym last) (last-le (predicateAt cs) h (factCount cs));
+    own = λ i q. last-key (predicateAt cs) h (factCount cs) i (sym last ∙ q);
+    words = zeros 16 ∙ wordsOf-ext (λ m. false) (has (replicate 16 0)) 16 (λ m l. sym (has-zeros 16 m));
+    rest = λ m l. ap (λ (b : Bool). b || byFirst cs pick next m) (has-zeros 16 m) ∙ skip h (factCount cs) by last m;
+  }
+    where
+      last : next ≡ lastWith (predicateAt cs) h (factCount cs)
+      last = walk-begins (predicateAt cs) (factCount cs) 256 0 256 (t .indexed) (λ i l. omega (arith, sound cs (t .ok) .predicate i l, sound cs (t .ok) .links)) h (sym (zero-add h)) e
+
+  -- the node of fact i joins, and the walk goes on
+  pub walk-on : {ws out : List ℕ} (at next i x : ℕ) (b : Bool) → Walk cs pick ws at → at ≡ suc i → x ≡ nodeOf cs pick i → b ≡ chosen cs pick i → out ≡ wordsOf (λ m. has ws m || (b && eqb m x)) (length ws) → next ≡ getD index (256 + i) 0 → Walk cs pick out next
+  walk-on {ws} {out} at next i x b w a f g e n = record {
+    link = w .link;
+    by = w .by;
+    low = omega (arith, l, walk-falls (predicateAt cs) (factCount cs) 256 0 256 (t .indexed) i l n);
+    own = λ j q. last-key (predicateAt cs) (w .link) i j (sym last ∙ q);
+    words = made ∙ wordsOf-ext (λ m. has ws m || (b && eqb m x)) (has out) 16 (λ m h. sym (has-of (λ m. has ws m || (b && eqb m x)) 16 made m h));
+    rest = λ m h.
+        ap₂ (λ (c d : Bool). c || d) (has-of (λ m. has ws m || (b && eqb m x)) 16 made m h) (skip (w .link) i (w .by) last m)
+        ∙ or-assoc (has ws m) (b && eqb m x) (byFirst cs pick i m) ∙ ap (λ (c : Bool). has ws m || c) (or-comm (b && eqb m x) (byFirst cs pick i m) ∙ one-more cs (t .ok) pick i m l f own-pick)
+        ∙ ap (λ (k : ℕ). has ws m || byFirst cs pick k m) (sym a) ∙ w .rest m h;
+  }
+    where
+      l : i < factCount cs
+      l = omega (arith, w .low)
+
+      last : next ≡ lastWith (predicateAt cs) (w .link) i
+      last = walk-next (predicateAt cs) (factCount cs) 256 0 256 (t .indexed) (w .link) i l (w .own i a) n
+
+      own-pick : b ≡ picks cs pick i
+      own-pick = g ∙ ap (λ (c : Bool). c && chosen cs pick i) (sym (eq-eqb (predicateAt cs i) (w .link) (w .own i a))) ∙ sym (w .by i)
+
+      made : out ≡ wordsOf (λ m. has ws m || (b && eqb m x)) 16
+      made = e ∙ ap (wordsOf (λ m. has ws m || (b && eqb m x))) (length-of (has ws) 16 (w .words))
+
+  pub walk-done : {ws : List ℕ} (next : ℕ) → next ≡ 0 → Walk cs pick ws next → ws ≡ nodesOf (picked cs pick) (nodeCount cs)
+  unfolding some
+  walk-done {ws} next z w = facts-done cs (t .ok) pick (factCount cs) refl (w .words ∙ wordsOf-ext (has ws) (byFirst cs pick (factCount cs)) 16 (λ m l. sym (or-false (has ws m)) ∙ ap (λ (c : Bool). has ws m || c) (sym (and-false (ltb m (nodeCount cs)))) ∙ ap (λ (k : ℕ). has ws m || byFirst cs pick k m) (sym z) ∙ w .rest m l))
+
+-- ---- Open
+-- the listed links, item by item
+module _ (cs : List ℕ) (i : ℕ) where
+  abbrev pub amongFirst : ℕ → ℕ → Bool
+  amongFirst n x = some (λ k. eqb x (itemAt cs (i + k))) n
+
+  pub links-none : replicate 16 0 ≡ wordsOf (amongFirst 0) 16
+  unfolding some
+  links-none = zeros 16
+
+  pub links-more : {ws : List ℕ} (k x : ℕ) → ws ≡ wordsOf (amongFirst k) 16 → x ≡ itemAt cs (i + k) → wordsOf (λ m. has ws m || (true && eqb m x)) (length ws) ≡ wordsOf (amongFirst (k + 1)) 16
+  unfolding some
+  links-more k x e f = grown (amongFirst k) (amongFirst (k + 1)) 16 x true e (λ m l. or-comm (amongFirst k m) (eqb m x) ∙ ap (λ (y : ℕ). eqb m y || amongFirst k m) f ∙ ap (λ (n : ℕ). amongFirst n m) (sym (add-one k)))
+
+  pub links-done : {ws : List ℕ} (e k : ℕ) → i ≡ formFirstAt cs e → k ≡ formSecondAt cs e → ws ≡ wordsOf (amongFirst k) 16 → ws ≡ listedBy cs e
+  unfolding listedBy
+  links-done e k p q f = f ∙ wordsOf-ext (amongFirst k) (λ x. member x (itemsAt cs (formFirstAt cs e) (formSecondAt cs e))) 16 (λ x l. listed-some cs i k x ∙ ap₂ (λ (a b : ℕ). member x (itemsAt cs a b)) p q)
+
+-- what fact i picks
+module _ (cs : List ℕ) (ok : wellFormed cs ≡ true) (e i : ℕ) where
+  pub open-node : subjectAt cs i ≡ nodeOf cs (Open e) i
+  unfolding nodeOf
+  open-node = refl
+
+  pub open-picks : {ws : List ℕ} {p : ℕ} → i < factCount cs → ws ≡ listedBy cs e → p ≡ predicateAt cs i → not (has ws p) ≡ picks cs (Open e) i
+  unfolding listedBy picks
+  open-picks {ws} l f q = ap (λ (k : ℕ). not (has ws k)) q ∙ ap not (has-of (λ x. member x (itemsAt cs (formFirstAt cs e) (formSecondAt cs e))) 16 f (predicateAt cs i) (omega (arith, sound cs ok .predicate i l, sound cs ok .links)))
 
 -- ---- what is picked, in the words of targets and of `closed`
 module _ (cs : List ℕ) (vs : List ℤ) (v : ℕ) where

@@ -7,16 +7,16 @@
 //   lang_set      .. that no two ends of a path have the same language
 //   ends_set      .. on two end sets
 // (the ends of all nodes stand in lent rows, which are kept for the next step)
-//   facts_set     the nodes that the facts pick, in one pass over them
+//   facts_set     the nodes that the facts pick, in one pass over them, or over those of one link
 //   closed_set    the nodes of which every fact has a listed link
 //   both_set, either_set   the nodes in both of two sets, in one of them
+use chains::entry;
 use conditions::apart_holds;
 use conditions::equal_holds;
 use conditions::insert_if;
 use conditions::languages;
 use conditions::less_holds;
 use conditions::lesseq_holds;
-use conditions::listed;
 use conditions::onelang_among;
 use conditions::subset_holds;
 use conditions::test_holds;
@@ -25,12 +25,15 @@ use model::NodeNo;
 use nodeset::NodeSet;
 use nodeset::count_both;
 use nodeset::load;
+use nodeset::test;
 use paths::End;
+use paths::last_fact;
 use rows::all_table_ends;
 use tables::layout::NO_NUMBER;
 use tables::reads::fact_count;
 use tables::reads::form_first;
 use tables::reads::form_second;
+use tables::reads::item;
 use tables::reads::node_count;
 use tables::reads::object;
 use tables::reads::predicate;
@@ -38,7 +41,7 @@ use tables::reads::subject;
 use tables::reads::wide;
 ghost use mathlib.Core.Path.{_≡_};
 ghost use mathlib.Core.Bool.{true, false, not, cond, _&&_, _||_};
-ghost use Prim.Native.Nat.{ℕ, _+_, _*_, _<_, _≤_};
+ghost use Prim.Native.Nat.{_+_, _*_, _<_, _≤_};
 ghost use lib.ListN.{drop};
 ghost use Rattle.nodeset.specs.Words.{has};
 ghost use Rattle.model.specs.Shapes.{within, from, objects, starts};
@@ -49,7 +52,7 @@ ghost use Rattle.paths.specs.Facts.{Tables};
 ghost use Rattle.conditions.specs.Pairs.{unlikeLangs};
 ghost use Rattle.stepsets.specs.Asks.{nodesOf, orNot, asked, askOk};
 ghost use Rattle.stepsets.specs.Ends.{EndOf, numberOk, Held};
-ghost use Rattle.stepsets.specs.Picks.{nodeOf, picks, picked};
+ghost use Rattle.stepsets.specs.Picks.{nodeOf, picked, chosen, ByLink, listedBy};
 
 // Ends have numbers: `id` and path entries those of the tables, links those from here on.
 const FIRST_LINK: usize = 65536;
@@ -287,32 +290,75 @@ fn node_of(pick: Pick, cells: &[u16], i: usize) -> usize
     }
 }
 
-// Fact i picks one.
-fn picks_one(pick: Pick, cells: &[u16], i: usize) -> bool
-    ensures { λ r. ⌜ r ≡ picks (now (cells .entry)) pick i ⌝ }
+// Fact i, of the link that the pick goes by, picks one. (Open goes by no link.)
+fn chooses(pick: Pick, cells: &[u16], i: usize) -> bool
+    ensures { λ r. ⌜ r ≡ chosen (now (cells .entry)) pick i ⌝ }
 {
-    let p = predicate(cells, i);
-    let o = object(cells, i);
     match pick {
-        Pick::From(l) => p.0 == l.0,
-        Pick::Into(l) => p.0 == l.0,
-        Pick::Typed(c) => (p.0 == 0) & (o.0 == c.0),
-        Pick::Open(e) => !listed(cells, form_first(cells, e), form_second(cells, e), p.0),
+        Pick::From(_) => true,
+        Pick::Into(_) => true,
+        Pick::Typed(c) => object(cells, i).0 == c.0,
+        Pick::Open(_) => false,
     }
 }
 
-// The nodes that the facts pick.
-pub fn facts_set(pick: Pick, cells: &[u16]) -> NodeSet
-    requires { ⌜ wellFormed (now cells) ≡ true ⌝ }
-    ensures { λ r. ⌜ r .words ≡ nodesOf (picked (now (cells .entry)) pick) (nodeCount (now (cells .entry))) ⌝ }
+// The links that form entry e lists.
+fn listed_links(cells: &[u16], e: usize) -> NodeSet
+    ensures { λ r. ⌜ r .words ≡ listedBy (now (cells .entry)) e ⌝ }
 {
-    let count = fact_count(cells);
+    let from = wide(form_first(cells, e));
+    let count = wide(form_second(cells, e));
     let mut words = [0u64; 16];
-    for i in 0..count {
-        let v = node_of(pick, cells, i);
-        insert_if(&mut words, v, picks_one(pick, cells, i));
+    for k in 0..count {
+        insert_if(&mut words, wide(item(cells, from + k)), true);
     }
     NodeSet { words }
+}
+
+// The subjects of facts whose link form entry e does not list.
+fn open_set(cells: &[u16], e: usize) -> NodeSet
+    requires { ⌜ wellFormed (now cells) ≡ true ⌝ }
+    ensures { λ r. ⌜ r .words ≡ nodesOf (picked (now (cells .entry)) (Pick.Open e)) (nodeCount (now (cells .entry))) ⌝ }
+{
+    let count = fact_count(cells);
+    let set = listed_links(cells, e);
+    let links = set.words;
+    let mut words = [0u64; 16];
+    for i in 0..count {
+        let v = wide(subject(cells, i).0);
+        let known = test(&links, wide(predicate(cells, i).0));
+        insert_if(&mut words, v, !known);
+    }
+    NodeSet { words }
+}
+
+// The nodes that the facts of link l pick, where no other fact picks one.
+fn link_set(pick: Pick, l: LinkNo, cells: &[u16], index: &[u16]) -> NodeSet
+    requires { ⌜ Tables (now cells) (now index) × ByLink (now cells) pick (l .0) ⌝ }
+    ensures { λ r. ⌜ r .words ≡ nodesOf (picked (now (cells .entry)) pick) (nodeCount (now (cells .entry))) ⌝ }
+{
+    let mut words = [0u64; 16];
+    let mut next = last_fact(index, l);
+    while 0 < next {
+        let i = next - 1;
+        let v = node_of(pick, cells, i);
+        insert_if(&mut words, v, chooses(pick, cells, i));
+        next = wide(entry(index, 256 + i));
+    }
+    NodeSet { words }
+}
+
+// The nodes that the facts pick.
+pub fn facts_set(pick: Pick, cells: &[u16], index: &[u16]) -> NodeSet
+    requires { ⌜ Tables (now cells) (now index) ⌝ }
+    ensures { λ r. ⌜ r .words ≡ nodesOf (picked (now (cells .entry)) pick) (nodeCount (now (cells .entry))) ⌝ }
+{
+    match pick {
+        Pick::From(l) => link_set(pick, l, cells, index),
+        Pick::Into(l) => link_set(pick, l, cells, index),
+        Pick::Typed(_) => link_set(pick, LinkNo(0), cells, index),
+        Pick::Open(e) => open_set(cells, e),
+    }
 }
 
 // The nodes of which every fact has a link that form entry e lists.
@@ -321,7 +367,7 @@ pub fn closed_set(cells: &[u16], e: usize) -> NodeSet
     ensures { λ r. ⌜ r .words ≡ nodesOf (λ v. not (picked (now (cells .entry)) (Pick.Open e) v)) (nodeCount (now (cells .entry))) ⌝ }
 {
     let n = node_count(cells);
-    NodeSet::whole(n).difference(facts_set(Pick::Open(e), cells))
+    NodeSet::whole(n).difference(open_set(cells, e))
 }
 
 // The nodes below n in the sets of steps i and j; in one of them.

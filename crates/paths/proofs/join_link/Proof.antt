@@ -6,10 +6,10 @@ use native.Mathlib.Omega.{arith}
 use lib.ListN.{length, getD}
 use borrow.Author.Needs.{needs}
 use Rattle.chains.specs.Chains.{lastWith}
-use Rattle.chains.proofs.Chains.{last-le, last-key}
+use Rattle.chains.proofs.Chains.{last-le, last-key, walk-falls, walk-next}
 use Rattle.paths.specs.Facts.{edges}
 use Rattle.paths.specs.Images.{withImages, setCount}
-use Rattle.paths.proofs.Joins.{chain-begins, chain-rest, chain-more, chain-falls, chain-next, chain-ends, joined-small}
+use Rattle.paths.proofs.Joins.{chain-begins, chain-rest, chain-more, chain-ends, joined-small}
 use Rattle.paths.proofs.join_link.Statement.{statement}
 use Rattle.paths.proofs.join_link.Tie as tie
 
@@ -57,7 +57,7 @@ loop-less c =
     let t = c .before .before .before .before .before .before .before .loop in
     let i : ℕ = t .next - 1 in
     let l : i < a .len = omega (arith, t .inv .0, c .before .before .before .before .before .before .loop-test .taken) in
-    let h : c .wide .result ≤ i = chain-falls (a .s .now) (a .p .now) (a .o .now) (a .index .now) (a .len) (a .n) (c .before .before .before .before .before .before .before .before .before .before .before .before .before .before .before .pre) i l (c .wide .ensures ∙ c .before .entry .ensures) in
+    let h : c .wide .result ≤ i = walk-falls (λ k. getD (a .p .now) k 0) (a .len) 256 0 256 (c .before .before .before .before .before .before .before .before .before .before .before .before .before .before .before .pre .indexed) i l (c .wide .ensures ∙ c .before .entry .ensures) in
     omega (arith, h, c .before .before .before .before .before .before .loop-test .taken)
 
 loop-again : tie.Need-loop-again Inv-loop μ-loop
@@ -68,14 +68,14 @@ loop-again c =
     let l : i < a .len = omega (arith, t .inv .0, c .before .before .before .before .before .before .loop-test .taken) in
     let q : t .next ≡ suc i = omega (arith, c .before .before .before .before .before .before .loop-test .taken) in
     let step = c .wide .ensures ∙ c .before .entry .ensures in
-    let h : c .wide .result ≤ i = chain-falls (a .s .now) (a .p .now) (a .o .now) (a .index .now) (a .len) (a .n) (c .before .before .before .before .before .before .before .before .before .before .before .before .before .before .before .pre) i l step in (
+    let h : c .wide .result ≤ i = walk-falls (λ k. getD (a .p .now) k 0) (a .len) 256 0 256 (c .before .before .before .before .before .before .before .before .before .before .before .before .before .before .before .pre .indexed) i l step in (
       omega (arith, h, l),
       c .before .before .before .before .join-fact .kept .0 ∙ t .inv .1,
       joined-small (setCount (a .many)) (cond (a .back) (getD (a .o .now) i 0) (getD (a .s .now) i 0)) (cond (a .back) (getD (a .s .now) i 0) (getD (a .o .now) i 0)) (a .from .now) (t .into) (c .before .before .before .before .join-fact .ensures),
       λ p e.
           let own = t .inv .3 p e in
           let k = own .0 i q in
-          let after = chain-next (a .s .now) (a .p .now) (a .o .now) (a .index .now) (a .len) (a .n) (c .before .before .before .before .before .before .before .before .before .before .before .before .before .before .before .pre) p i l k step in
+          let after = walk-next (λ k. getD (a .p .now) k 0) (a .len) 256 0 256 (c .before .before .before .before .before .before .before .before .before .before .before .before .before .before .before .pre .indexed) p i l k step in
           (λ j f. last-key (λ i. getD (a .p .now) i 0) p i j (sym after ∙ f), chain-more (a .s .now) (a .p .now) (a .o .now) (a .index .now) (a .len) (a .n) (c .before .before .before .before .before .before .before .before .before .before .before .before .before .before .before .pre) (setCount (a .many)) p (a .back) (a .from .now) (t .into) i l k (c .before .before .before .before .join-fact .ensures) after ∙ ap (λ (k : ℕ). withImages (setCount (a .many)) (a .n) (edges (a .s .now) (a .p .now) (a .o .now) p (a .back) k) (a .from .now) (t .into)) (sym q) ∙ own .1),
     )
 

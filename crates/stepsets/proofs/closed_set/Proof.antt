@@ -1,4 +1,3 @@
-use mathlib.Core.List.{List}
 use mathlib.Core.Path.{_∙_, ap}
 use denote.Ref.{now}
 use Prim.Native.Nat.{ℕ}
@@ -17,16 +16,16 @@ node-count-requires c κs = search needs
 whole-requires : tie.Need-whole-requires
 whole-requires c κs = search needs
 
-facts-set-requires : tie.Need-facts-set-requires
-facts-set-requires c κs = search needs
+open-set-requires : tie.Need-open-set-requires
+open-set-requires c κs = search needs
 
 difference-requires : tie.Need-difference-requires
 difference-requires c κs = search needs
 
 returns : tie.Need-returns
-returns c = c .difference .ensures ∙ whole-not (picked (now (c .before .before .before .before .before .args .cells)) (Open (c .before .before .before .before .before .args .e))) _ (c .before .before .whole .ensures ∙ ap (λ (n : ℕ). wordsOf (λ m. ltb m n) 16) (c .before .before .before .node-count .ensures)) (c .before .facts-set .ensures)
+returns c = c .difference .ensures ∙ whole-not (picked (now (c .before .before .before .before .before .args .cells)) (Open (c .before .before .before .before .before .args .e))) _ (c .before .before .whole .ensures ∙ ap (λ (n : ℕ). wordsOf (λ m. ltb m n) 16) (c .before .before .before .node-count .ensures)) (c .before .open-set .ensures)
 
 pub closed-set-spec : {M : Type 1} → statement M
 closed-set-spec =
     tie.close
-    (tie.spec node-count-requires whole-requires facts-set-requires difference-requires returns)
+    (tie.spec node-count-requires whole-requires open-set-requires difference-requires returns)

@@ -1,63 +1,58 @@
-use Prim.Native.Nat.{_≤_, _<_, _-_}
-use mathlib.Core.Path.{_≡_, sym, _∙_}
-use native.Mathlib.Omega.{arith}
+-- `facts_set` meets its contract: From, Into and Typed pick by one link.
 use borrow.Author.Needs.{needs}
-use denote.Ref.{now}
-use Rattle.nodeset.specs.Words.{wordsOf}
-use Rattle.nodeset.proofs.Sets.{length-of}
-use Rattle.stepsets.proofs.Picks.{byFirst, facts-none, facts-more, facts-done}
+use Rattle.stepsets.proofs.Picks.{by-from, by-into, by-typed}
 use Rattle.stepsets.proofs.facts_set.Statement.{statement}
 use Rattle.stepsets.proofs.facts_set.Tie as tie
 
-abbrev Inv-loop : tie.InvT-loop
-Inv-loop pick cells count words₀ i₀ words i = (i ≤ count) × (words ≡ wordsOf (byFirst cells pick i) 16)
+enum-known-pick : tie.Need-enum-known-pick
+enum-known-pick c = search needs
 
-abbrev μ-loop : tie.MeasureT-loop
-μ-loop pick cells count words₀ i₀ words i = count - i
+link-set-requires : tie.Need-link-set-requires
+link-set-requires c κs = (c .before .before .before .before .before .pre, by-from (c .before .before .before .before .before .args .cells .now) (c .before .pick .given .0 .0))
 
-fact-count-requires : tie.Need-fact-count-requires Inv-loop μ-loop
-fact-count-requires c κs = search needs
+enum-known-pick-2 : tie.Need-enum-known-pick-2
+enum-known-pick-2 c = search needs
 
-loop-holds : tie.Need-loop-holds Inv-loop μ-loop
-loop-holds c = (omega arith, facts-none (now (c .before .before .args .cells)) (c .before .before .pre) (c .before .before .args .pick))
+link-set-requires-2 : tie.Need-link-set-requires-2
+link-set-requires-2 c κs = (c .before .before .before .before .before .pre, by-into (c .before .before .before .before .before .args .cells .now) (c .before .pick2 .given .0 .0))
 
-node-of-requires : tie.Need-node-of-requires Inv-loop μ-loop
-node-of-requires c κs = search needs
+enum-told : tie.Need-enum-told
+enum-told c = search needs
 
-slice-aggregate-insert-if : tie.Need-slice-aggregate-insert-if Inv-loop μ-loop
-slice-aggregate-insert-if c = sym (length-of (byFirst (now (c .before .before .before .before .before .before .args .cells)) (c .before .before .before .before .before .before .args .pick) (c .before .before .before .loop .i)) 16 (c .before .before .before .loop .inv .1))
+link-set-requires-3 : tie.Need-link-set-requires-3
+link-set-requires-3 c κs = (c .before .before .before .before .pre, rw (c .enum-told .given .1) (by-typed (c .before .before .before .before .args .cells .now) (c .enum-told .given .0 .0)))
 
-picks-one-requires : tie.Need-picks-one-requires Inv-loop μ-loop
-picks-one-requires c κs = search needs
+enum-known-pick-3 : tie.Need-enum-known-pick-3
+enum-known-pick-3 c = search needs
 
-insert-if-requires : tie.Need-insert-if-requires Inv-loop μ-loop
-insert-if-requires c κs = search needs
+open-set-requires : tie.Need-open-set-requires
+open-set-requires c κs = search needs
 
-add-i : tie.Need-add-i Inv-loop μ-loop
-add-i c = omega arith
+returns : tie.Need-returns
+returns c = rw (c .before .before .pick .given .1) (c .link-set .ensures)
 
-loop-less : tie.Need-loop-less Inv-loop μ-loop
-loop-less c = omega arith
+returns-2 : tie.Need-returns-2
+returns-2 c = rw (c .before .before .pick2 .given .1) (c .link-set2 .ensures)
 
-loop-again : tie.Need-loop-again Inv-loop μ-loop
-loop-again c = (omega arith, c .before .insert-if .ensures ∙ facts-more (now (c .before .before .before .before .before .before .before .before .before .args .cells)) (c .before .before .before .before .before .before .before .before .before .pre) (c .before .before .before .before .before .before .before .before .before .args .pick) (c .before .before .before .before .before .before .loop .i) (c .before .before .before .before .node-of .result) (c .before .before .picks-one .result) (omega (arith, c .before .before .before .before .before .before .before .fact-count .ensures)) (c .before .before .before .before .before .before .loop .inv .1) (c .before .before .before .before .node-of .ensures) (c .before .before .picks-one .ensures))
+returns-3 : tie.Need-returns-3
+returns-3 c = search needs
 
-returns : tie.Need-returns Inv-loop μ-loop
-returns c = facts-done (now (c .before .before .before .before .args .cells)) (c .before .before .before .before .pre) (c .before .before .before .before .args .pick) (c .before .loop .i) (omega (arith, c .before .before .fact-count .ensures)) (c .before .loop .inv .1)
+returns-4 : tie.Need-returns-4
+returns-4 c = rw (c .before .before .pick3 .given .1) (c .open-set .ensures)
 
 pub facts-set-spec : {M : Type 1} → statement M
 facts-set-spec =
     tie.close
     (tie.spec
-    Inv-loop
-    μ-loop
-    fact-count-requires
-    loop-holds
-    node-of-requires
-    slice-aggregate-insert-if
-    picks-one-requires
-    insert-if-requires
-    add-i
-    loop-less
-    loop-again
-    returns)
+    enum-known-pick
+    link-set-requires
+    enum-known-pick-2
+    link-set-requires-2
+    enum-told
+    link-set-requires-3
+    enum-known-pick-3
+    open-set-requires
+    returns
+    returns-2
+    returns-3
+    returns-4)
