@@ -1,25 +1,20 @@
 -- The arms of the match over the entry codes: what a callee stored is the part of the entry with that code.
-use Prim.Native.Nat.{ℕ, zero, suc, _+_, _≤_, _<_}
+use Prim.Native.Nat.{ℕ, suc, _+_, _≤_, _<_}
 use mathlib.Core.List.{List, [], _∷_}
 use mathlib.Core.Path.{_≡_, refl, sym, ap, _∙_, subst}
-use mathlib.Core.Logic.{⊎-elim}
-use native.Mathlib.Nat.{eq-or-lt-of-le, add-zero}
+use native.Mathlib.Nat.{add-zero}
 use native.Mathlib.Omega.{arith}
 use lib.ListN.{getD, List·getD-eq-default}
 use Rattle.tables.specs.Layout.{formCodeAt, formFirstAt, formSecondAt, formThirdAt, formFourthAt, limitAt, rootAt}
 use Rattle.tables.specs.Entries.{Entry, entryOf}
 use Rattle.tables.specs.Decode.{entryAt}
-use Rattle.tablecheck.proofs.Codes.{Each}
+use Rattle.tablecheck.proofs.Codes.{in-range}
 use Rattle.plan.specs.Steps.{Step, numbersOf}
 use Rattle.plan.specs.Layout.{withSteps}
 use Rattle.translation.specs.Compile.{Part, taken, two, countPart, entryPart}
 use Rattle.compiler.specs.Stores.{numberIn, TwoAdded, Added}
 use Rattle.translation.proofs.Whole.{byCode}
 use Rattle.compiler.proofs.Laws.{two-added}
-
-in-range : (P : ℕ → Type 0) (m n k : ℕ) → m ≤ k → k < m + n → Each P m n → P k
-in-range P m zero k l h e = absurd (omega arith)
-in-range P m (suc n) k l h e = ⊎-elim (λ q. subst P q (e .0)) (λ l′. in-range P (suc m) n k l′ (omega arith) (e .1)) (eq-or-lt-of-le l)
 
 -- cs: the cells; ps and qs: the plan before and after; ks and bs: the keeping and breaking steps so far
 module _ (cs ps qs ks bs : List ℕ) (e n code next k m : ℕ) (ec : code ≡ formCodeAt cs e) where

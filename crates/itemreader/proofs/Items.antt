@@ -293,3 +293,12 @@ module _ (i k : ℕ) where
 
 pub listed-got : (x : Read (List ℕ)) (ks : List ℕ) (next i : ℕ) (before after : List ℕ) → x ≡ got ks next → Listed x i before after → after ≡ putItems i ks before
 listed-got x ks next i before after e w = rw e at w
+
+-- ---- a value, by the answer for it
+pub value-got : (x : Read ℤ) (r : Value) (v : ℤ) (next : ℕ) → r ≡ valueOf x → r ≡ Value.Is v next → x ≡ got v next
+value-got (got y n) r v next p q = cc
+value-got (refused k) r v next p q = let z : _≡_ {A = ℕ} 0 1 = cc in absurd (omega arith)
+
+pub value-refused : (x : Read ℤ) (r : Value) (k : ℕ) → r ≡ valueOf x → r ≡ Value.No k → x ≡ refused k
+value-refused (got y n) r k p q = let z : _≡_ {A = ℕ} 0 1 = cc in absurd (omega arith)
+value-refused (refused j) r k p q = cc

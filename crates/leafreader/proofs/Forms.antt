@@ -112,14 +112,6 @@ module _ (n : Ended) (m p : ℕ) (cs mid : List ℕ) (vs : List ℤ) where
   path-closes f code h e c w = rw (w, ← c) (h n e p cs vs)
 
 -- ---- values
-pub value-got : (x : Read ℤ) (r : Value) (v : ℤ) (next : ℕ) → r ≡ valueOf x → r ≡ Value.Is v next → x ≡ got v next
-value-got (got y n) r v next p q = cc
-value-got (refused k) r v next p q = let z : _≡_ {A = ℕ} 0 1 = cc in absurd (omega arith)
-
-pub value-refused : (x : Read ℤ) (r : Value) (k : ℕ) → r ≡ valueOf x → r ≡ Value.No k → x ≡ refused k
-value-refused (got y n) r k p q = let z : _≡_ {A = ℕ} 0 1 = cc in absurd (omega arith)
-value-refused (refused j) r k p q = cc
-
 pub value-stored : {x : Read Shape} {n : Begun} {cs cs' : List ℕ} {vs : List ℤ} {r : Form} (i : ℕ) (v w : ℤ) → w ≡ v → FormRead x n cs cs' vs (set vs i v) r → FormRead x n cs cs' vs (set vs i w) r
 value-stored i v w e p = rw e p
 

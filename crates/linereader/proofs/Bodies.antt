@@ -106,14 +106,6 @@ pub item-stop : (s : List ℕ) (a : Book) (k : Slot) (f : Arg k → ℕ) (n : Be
 item-stop s a k f n at r j m h e q = item-no s a (readersAt s a 31) k f n at r j m h e q
 
 -- ---- a value
-pub value-got : (x : Read ℤ) (r : Value) (v : ℤ) (next : ℕ) → r ≡ valueOf x → r ≡ Value.Is v next → x ≡ got v next
-value-got (got y n) r v next p q = cc
-value-got (refused j) r v next p q = let z : _≡_ {A = ℕ} 0 1 = cc in absurd (omega arith)
-
-pub value-no : (x : Read ℤ) (r : Value) (k : ℕ) → r ≡ valueOf x → r ≡ Value.No k → x ≡ refused k
-value-no (got y n) r k p q = let z : _≡_ {A = ℕ} 0 1 = cc in absurd (omega arith)
-value-no (refused j) r k p q = cc
-
 pub value-within : (len : ℕ) (r : Value) (v : ℤ) (next : ℕ) → Inside len r → r ≡ Value.Is v next → next ≤ len
 value-within len r v next h e = subst (λ (x : Value). Inside len x) e h
 

@@ -18,6 +18,10 @@ pub record Rule : Type 0 where
   pub shape : ℕ
   pub target : Target
 
+-- what stands past the last rule of a list
+abbrev pub noRule : Rule
+noRule = record { shape = 0; target = targetNode 0 }
+
 unfoldable pub selects : Graph → Target → ℕ → Bool
 selects g (targetNode c) v = eqb v c
 selects g (subjectsOf p) v = anyb (λ t. eqb (t .subject) v && eqb (t .predicate) p) (g .triples)

@@ -70,7 +70,8 @@ fn link_at(column: &[u16], i: usize) -> LinkNo
     LinkNo(column[i])
 }
 
-fn pick(first: bool, a: usize, b: usize) -> usize
+// The first of two numbers, or the second.
+pub fn pick(first: bool, a: usize, b: usize) -> usize
     ensures { λ r. ⌜ r ≡ cond first a b ⌝ }
 {
     if first { a } else { b }

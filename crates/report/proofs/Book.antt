@@ -18,7 +18,7 @@ use Rattle.text.specs.Pool.{padded, allNames}
 use Rattle.text.proofs.Items.{name-short, name-bytes}
 use Rattle.text.proofs.Places.{names-at}
 use Rattle.text.proofs.Pool.{padded-length}
-use Rattle.model.specs.Rules.{Rule, violates, violations}
+use Rattle.model.specs.Rules.{Rule, violates, violations, noRule}
 use Rattle.model.specs.Books.{Name, Book, nodes, names, rules, graphOf, schema, listOf}
 use Rattle.model.specs.Valid.{capacity, admissible}
 use Rattle.model.proofs.Lines.{names-within}
@@ -36,7 +36,7 @@ use Rattle.stores.proofs.Prefixes.{prefix-valid}
 use Rattle.lists.specs.Rows.{over, withRows, withLengths}
 use Rattle.lists.proofs.ReadOff.{length-read, nodes-read}
 use Rattle.lists.proofs.Rows.{few}
-use Rattle.report.specs.Report.{headLine, breakLines, foundLine, ruleLines, found, firstLine, lastLine, report, noRule, part, joined}
+use Rattle.report.specs.Report.{headLine, breakLines, foundLine, ruleLines, found, firstLine, lastLine, report, part, joined}
 use Rattle.report.specs.Pages.{beforeZero, nameIn, rowIn, foundIn, partIn, rowOk, partOk}
 use Rattle.report.specs.Answers.{refused, wrote, long, right, known, text, partSaid, partAfter}
 use Rattle.report.proofs.Report.{rule-part, last-part, next-low, next-rule, next-count, parts-joined}

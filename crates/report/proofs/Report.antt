@@ -12,12 +12,12 @@ use Rattle.text.specs.Decimals.{decimal, digitsOf}
 use Rattle.model.specs.Graph.{valueOf, datatypeOf, languageOf, holds, hasTriple}
 use Rattle.model.specs.Paths.{ends, endsOf}
 use Rattle.model.specs.Shapes.{isKind, satisfies, within, subset, noneShared, allPairs, less, lessEq, sameLang, conforms, expand}
-use Rattle.model.specs.Rules.{Rule, selects, violates, violations}
+use Rattle.model.specs.Rules.{Rule, selects, violates, violations, noRule}
 use Rattle.model.specs.Books.{Book, newTerms, newTriples, newShapes, newNames, newRules, joins, collect, graphOf, schemaFrom, schema, listOf, builtIn, names, rules}
 use Rattle.model.specs.Cases.{bookB}
 use Rattle.grammar.specs.Writing.{spaced, bracket, nameOf}
 use Rattle.grammar.specs.Cases.{textOf}
-use Rattle.report.specs.Report.{line, breakLines, ruleLines, linesFrom, found, firstLine, lastLine, report, refusalReport, noRule, part, joined}
+use Rattle.report.specs.Report.{line, breakLines, ruleLines, linesFrom, found, firstLine, lastLine, report, refusalReport, part, joined}
 
 -- ---- document 01's reports
 pub report-of-B : report bookB ≡ textOf ("(book 4 3 1)" ∷ "(breaks 0 left)" ∷ "(found 1)" ∷ [])

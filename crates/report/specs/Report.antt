@@ -6,7 +6,7 @@ use lib.Dec.{ltb}
 use lib.ListN.{length, getD}
 use Rattle.base.specs.Bytes.{bytes}
 use Rattle.text.specs.Decimals.{decimal}
-use Rattle.model.specs.Rules.{Rule, targetNode}
+use Rattle.model.specs.Rules.{Rule, noRule}
 use Rattle.model.specs.Books.{Name, Book, nodes, names, collect, newTriples, rules, listOf}
 use Rattle.grammar.specs.Writing.{bracket, nameOf}
 
@@ -59,10 +59,6 @@ module _ (b : Book) where
 
   unfoldable pub report : List ℕ
   report = firstLine ++ (linesFrom 0 (rules b) ++ lastLine)
-
--- no rule of a book
-abbrev pub noRule : Rule
-noRule = record { shape = 0; target = targetNode 0 }
 
 -- the report in parts: 0 the first line, then one for each rule, then the last line
 unfoldable pub part : Book → ℕ → List ℕ

@@ -24,7 +24,7 @@ abbrev pub Each : (ℕ → Type 0) → ℕ → ℕ → Type 0
 Each P m zero = Unit {0}
 Each P m (suc n) = P m × Each P (suc m) n
 
-in-range : (P : ℕ → Type 0) (m n k : ℕ) → m ≤ k → k < m + n → Each P m n → P k
+pub in-range : (P : ℕ → Type 0) (m n k : ℕ) → m ≤ k → k < m + n → Each P m n → P k
 in-range P m zero k l h e = absurd (omega arith)
 in-range P m (suc n) k l h e = ⊎-elim (λ q. subst P q (e .0)) (λ l′. in-range P (suc m) n k l′ (omega arith) (e .1)) (eq-or-lt-of-le l)
 

@@ -35,11 +35,6 @@ module _ (p : ℕ → Bool) (s : List ℕ) (t : ℕ) where
   unfolding allb
   all-fails i h k e = rw (slice-cons i t s 0 h k, e)
 
-pub allb-mono : (p q : ℕ → Bool) → ((x : ℕ) → p x ≡ true → q x ≡ true) → (w : List ℕ) → allb p w ≡ true → allb q w ≡ true
-unfolding allb
-allb-mono p q h [] e = refl
-allb-mono p q h (x ∷ w) e = and-both (q x) (allb q w) (h x (and-left (p x) (allb p w) e)) (allb-mono p q h w (and-right (p x) (allb p w) e))
-
 -- ---- two lists, compared from an index on
 module _ (a b : List ℕ) (j : ℕ) where
   pub eql-step : j < length a → j < length b → getD a j 0 ≡ getD b j 0 → eql (drop j a) (drop j b) ≡ eql (drop (j + 1) a) (drop (j + 1) b)

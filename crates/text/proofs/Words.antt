@@ -11,10 +11,11 @@ use lib.Dec.{eqb, ltb}
 use lib.ListN.{length, getD, length-append}
 use lib.Seq.{slice, slice-empty, slice-cons, getD-append-seam}
 use Rattle.base.specs.Lists.{allb}
+use Rattle.base.proofs.Lists.{allb-weaker}
 use Rattle.base.proofs.Bools.{bool-cases, and-left, and-right, and-both, or-cases, never-both}
 use Rattle.text.specs.Items.{edge, itemEnd, nameByte, isName}
 use Rattle.text.specs.Decimals.{digit}
-use Rattle.text.proofs.Parts.{inside, allb-mono}
+use Rattle.text.proofs.Parts.{inside}
 use Rattle.text.proofs.Items.{itemEnd-out, itemEnd-edge, itemEnd-step, itemEnd-from, itemEnd-within, name-bytes}
 use Rattle.text.proofs.Spans.{Span, span-head, span-none, span-in, span-of}
 
@@ -120,7 +121,7 @@ unfolding digit
 digit-plain = test-plain digit refl refl refl refl
 
 pub names-plain : (w : List ℕ) → isName w ≡ true → allb plain w ≡ true
-names-plain w e = allb-mono nameByte plain name-plain w (name-bytes w e)
+names-plain w e = allb-weaker nameByte plain w name-plain (name-bytes w e)
 
 pub digits-plain : (w : List ℕ) → allb digit w ≡ true → allb plain w ≡ true
-digits-plain w e = allb-mono digit plain digit-plain w e
+digits-plain w e = allb-weaker digit plain w digit-plain e

@@ -11,7 +11,7 @@ use Rattle.base.specs.Bounded.{members}
 use Rattle.base.proofs.Bounded.{member-members, members-ascending, size-members, size-le}
 use Rattle.model.specs.Graph.{Graph}
 use Rattle.model.specs.Shapes.{Shape}
-use Rattle.model.specs.Rules.{Rule, selects, violates, violations}
+use Rattle.model.specs.Rules.{Rule, selects, violates, violations, noRule}
 use Rattle.model.specs.Books.{Book, graphOf, schema, rules, conformsIn, listOf}
 use Rattle.model.specs.Sizes.{formsIn}
 use Rattle.model.specs.Valid.{admissible}
@@ -27,7 +27,7 @@ use Rattle.translation.specs.Compile.{stepsOf, planOf}
 use Rattle.translation.proofs.Plans.{plan-few, plan-count}
 use Rattle.lists.specs.Rows.{row}
 use Rattle.tablerun.specs.Lists.{listAt}
-use Rattle.validation.specs.Claim.{noRule, ruleOf, breaks, Right}
+use Rattle.validation.specs.Claim.{ruleOf, breaks, Right}
 
 module _ (b : Book) (ok : admissible b ≡ true) where
   -- the list of rule r

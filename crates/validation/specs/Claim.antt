@@ -6,7 +6,7 @@ use mathlib.Core.Bool.{Bool, true, not, _&&_}
 use lib.Dec.{ltb}
 use lib.ListN.{length, getD}
 use Rattle.base.specs.Lists.{member, ascending}
-use Rattle.model.specs.Rules.{Rule, targetNode, selects}
+use Rattle.model.specs.Rules.{Rule, selects, noRule}
 use Rattle.model.specs.Books.{Book, graphOf, rules, conformsIn}
 use Rattle.model.specs.Sizes.{formsIn}
 use Rattle.model.specs.Refusals.{codeOf, lineOf}
@@ -18,9 +18,6 @@ use Rattle.validation.specs.declared.Validated.{Validated}
 use Rattle.validation.specs.declared.Validated.the-variants.{Steps, Refused}
 
 -- rule r of a book, by its order among the rule lines
-abbrev pub noRule : Rule
-noRule = record { shape = 0; target = targetNode 0 }
-
 abbrev pub ruleOf : Book → ℕ → Rule
 ruleOf b r = getD (rules b) r noRule
 

@@ -21,6 +21,7 @@ use nodeset::test;
 use paths::End;
 use paths::INDEX_CELLS;
 use paths::index_table;
+use paths::pick;
 use tables::layout::CELLS;
 use tables::layout::VALUES;
 use tables::reads::form_code;
@@ -46,13 +47,6 @@ ghost use Rattle.paths.specs.Facts.{Tables};
 ghost use Rattle.verdict.specs.Answers.{decisionOf, judgedOn, judged, isGiven, tallied};
 ghost use Rattle.verdict.specs.Memo.{yesPlace, noPlace, Ready, Settled};
 ghost use Rattle.verdict.specs.Parts.{looksAtEnds, hasParts, firstPart, secondPart, looksAt, PartsKnown, Enough};
-
-// The first of two numbers, or the second.
-fn pick(first: bool, a: usize, b: usize) -> usize
-    ensures { λ r. ⌜ r ≡ cond first a b ⌝ }
-{
-    if first { a } else { b }
-}
 
 // Node v is known to conform to entry e.
 fn known(memo: &[u64], e: usize, v: usize) -> bool

@@ -8,7 +8,8 @@ use Rattle.grammar.specs.Syntax.{value}
 use Rattle.grammar.specs.Reading.{argAt}
 use Rattle.stores.specs.Entries.{putForm, putValue}
 use Rattle.itemreader.proofs.Heads.{rest-refused}
-use Rattle.leafreader.proofs.Forms.{form-no, form-is, rest-one, closed-form, closed-within, value-got, value-refused, value-stored}
+use Rattle.itemreader.proofs.Items.{value-got, value-refused}
+use Rattle.leafreader.proofs.Forms.{form-no, form-is, rest-one, closed-form, closed-within, value-stored}
 use mir.Val.{toZ, ofZ}
 use mir.Syntax.{w64}
 use mir.Facts.{toZ-ofZ}

@@ -12,9 +12,9 @@ use Rattle.grammar.specs.Syntax.{new, literalType, value, numberL, lineFamily}
 use Rattle.grammar.specs.Reading.{argAt, after, readersAt, lineRoom, begunAbove}
 use Rattle.encoding.specs.Rows.{nodeRow}
 use Rattle.itemreader.specs.Answers.{same}
-use Rattle.itemreader.proofs.Items.{below-is, number-got}
+use Rattle.itemreader.proofs.Items.{below-is, number-got, value-got, value-refused}
 use Rattle.linereader.specs.Storing.{lineEnd, lineBody}
-use Rattle.linereader.proofs.Bodies.{item-stop, new-got, new-facts, node-room, value-got, value-no, value-within, done-no, done-same, body-is, stop₁, stop₂, stop₃, all₃}
+use Rattle.linereader.proofs.Bodies.{item-stop, new-got, new-facts, node-room, value-within, done-no, done-same, body-is, stop₁, stop₂, stop₃, all₃}
 use borrow.Author.Needs.{needs}
 use Rattle.linereader.proofs.number_line.Statement.{statement}
 use Rattle.linereader.proofs.number_line.Tie as tie
@@ -125,7 +125,7 @@ returns-3 c =
     let b₂ = after literalType (v .0 .0) b₁ in
     let e = new-got S a nodes (begunAbove S a) (s .at) (r .result) (u .0 .0) (u .0 .1 .0) (r .ensures .0 a h) (u .1) in
     let e₂ = number-got (argAt S a R literalType b₁ (u .0 .1 .0)) (r₂ .result) (v .0 .0) (v .0 .1 .0) (r₂ .ensures .0 a h R b₁) (v .1) in
-    let e₃ = value-no (argAt S a R value b₂ (v .0 .1 .0)) (r₃ .result) (k .0 .0) (r₃ .ensures .0 a R b₂) (k .1) in
+    let e₃ = value-refused (argAt S a R value b₂ (v .0 .1 .0)) (r₃ .result) (k .0 .0) (r₃ .ensures .0 a R b₂) (k .1) in
     done-no a (s .counts) (lineBody S a numberL (s .at)) _ (k .0 .0) (s .names .now) (s .cells .now) (s .values .now)
     (body-is S a numberL (s .at) ∙ stop₃ S a (lineRoom S a numberL) (new nodes) literalType value [] (lineFamily .build numberL) b (s .at) w (u .0 .1 .0) e (v .0 .0) (v .0 .1 .0) e₂ (k .0 .0) e₃) refl
 
