@@ -36,7 +36,7 @@ use Rattle.itemreader.specs.declared.Counts.{Counts}
 use Rattle.itemreader.specs.declared.Pool as code
 use Rattle.itemreader.specs.declared.Item.{Item}
 use Rattle.itemreader.specs.declared.Value.{Value}
-use Rattle.itemreader.specs.Answers.{poolOf, itemOf, same, Below, Counted, itemsAfter, Listed}
+use Rattle.itemreader.specs.Answers.{poolOf, itemOf, valueOf, same, Below, Counted, itemsAfter, Listed}
 use Rattle.itemreader.specs.Held.{countOf, Limits}
 
 -- ---- the item after a byte that is not 0: where it lies
