@@ -1,7 +1,6 @@
 // java Jena.java FOLDER SECONDS: times Apache Jena SHACL on FOLDER/data.ttl and FOLDER/shapes.ttl. Prints nanoseconds of this
 // thread's processor time for read (both texts), compile (the shapes), run (the validation) and whole, the best of the rounds of
 // so many seconds, and writes the breaks, `RULE TERM` a line, to FOLDER/breaks.
-import java.lang.management.ManagementFactory;
 import java.nio.file.Files;
 import java.nio.file.Path;
 import java.util.TreeSet;
@@ -23,7 +22,7 @@ class Jena {
   }
 
   static long now() {
-    return ManagementFactory.getThreadMXBean().getCurrentThreadCpuTime();
+    return System.nanoTime();
   }
 
   static String term(Node n) {
