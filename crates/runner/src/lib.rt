@@ -57,13 +57,13 @@ pub enum Ran {
     Refused(Refusal),
 }
 
-// The set of step k, from the sets of the steps before it. The rows of ends that it looks at are kept for the next step: first
-// holds those of number end, second those of number link.
+// The set of step k, from the sets of the steps before it. The rows of ends that it looks at are kept for the next step: f
+// holds those of number e, and s those of number t.
 fn step_set(
-    first: &mut [u64],
-    end: &mut usize,
-    second: &mut [u64],
-    link: &mut usize,
+    f: &mut [u64],
+    e: &mut usize,
+    s: &mut [u64],
+    t: &mut usize,
     cells: &[u16],
     index: &[u16],
     values: &[i64],
@@ -71,16 +71,15 @@ fn step_set(
     work: &[u64],
     k: usize,
 ) -> NodeSet
-    requires { ⌜ Tables (now cells) (now index) × (k < 512) × (stepOk (now cells) k (stepAt (now plan) k) ≡ true) × Held (now cells) (now end) (now first) × Held (now cells) (now link) (now second) ⌝ }
+    requires { ⌜ Tables (now cells) (now index) × (k < 512) × (stepOk (now cells) k (stepAt (now plan) k) ≡ true) × Held (now cells) (now e) (now f) × Held (now cells) (now t) (now s) ⌝ }
     ensures { λ r. ⌜ r .words ≡ stepFrom (now (cells .entry)) (now (values .entry)) (now (plan .entry)) (now (work .entry)) k ⌝ }
-    ensures { λ _. ⌜ Held (now (cells .entry)) (now (end .exit)) (now (first .exit)) ⌝ }
-    ensures { λ _. ⌜ Held (now (cells .entry)) (now (link .exit)) (now (second .exit)) ⌝ }
+    ensures { λ _. ⌜ Held (now (cells .entry)) (now (e .exit)) (now (f .exit)) ⌝ }
+    ensures { λ _. ⌜ Held (now (cells .entry)) (now (t .exit)) (now (s .exit)) ⌝ }
 {
     let n = node_count(cells);
     let a = step_first(plan, k);
     let b = step_second(plan, k);
-    let lo = step_third(plan, k);
-    let hi = step_fourth(plan, k);
+    let count = Ask::Count(step_third(plan, k), step_fourth(plan, k));
     let c = step_node(plan, k);
     let p = step_link(plan, k);
     let l = step_second_link(plan, k);
@@ -93,138 +92,20 @@ fn step_set(
         5 => plain_set(Ask::Test(a), true, cells, values),
         6 => both_set(work, a, b, n),
         7 => either_set(work, a, b, n),
-        8 => path_set(
-            first,
-            end,
-            Ask::Count(lo, hi),
-            false,
-            cells,
-            index,
-            values,
-            a,
-            work,
-            b,
-        ),
-        9 => path_set(
-            first,
-            end,
-            Ask::Every,
-            false,
-            cells,
-            index,
-            values,
-            a,
-            work,
-            b,
-        ),
-        10 => ends_set(
-            first,
-            end,
-            second,
-            link,
-            Ask::Equal,
-            false,
-            cells,
-            index,
-            values,
-            a,
-            l,
-        ),
-        11 => ends_set(
-            first,
-            end,
-            second,
-            link,
-            Ask::Equal,
-            true,
-            cells,
-            index,
-            values,
-            a,
-            l,
-        ),
-        12 => ends_set(
-            first,
-            end,
-            second,
-            link,
-            Ask::Apart,
-            false,
-            cells,
-            index,
-            values,
-            a,
-            l,
-        ),
-        13 => ends_set(
-            first,
-            end,
-            second,
-            link,
-            Ask::Apart,
-            true,
-            cells,
-            index,
-            values,
-            a,
-            l,
-        ),
+        8 => path_set(f, e, count, false, cells, index, values, a, work, b),
+        9 => path_set(f, e, Ask::Every, false, cells, index, values, a, work, b),
+        10 => ends_set(f, e, s, t, Ask::Equal, false, cells, index, values, a, l),
+        11 => ends_set(f, e, s, t, Ask::Equal, true, cells, index, values, a, l),
+        12 => ends_set(f, e, s, t, Ask::Apart, false, cells, index, values, a, l),
+        13 => ends_set(f, e, s, t, Ask::Apart, true, cells, index, values, a, l),
         14 => closed_set(cells, a),
         15 => facts_set(Pick::Open(a), cells, index),
-        16 => ends_set(
-            first,
-            end,
-            second,
-            link,
-            Ask::Less,
-            false,
-            cells,
-            index,
-            values,
-            a,
-            l,
-        ),
-        17 => ends_set(
-            first,
-            end,
-            second,
-            link,
-            Ask::Less,
-            true,
-            cells,
-            index,
-            values,
-            a,
-            l,
-        ),
-        18 => ends_set(
-            first,
-            end,
-            second,
-            link,
-            Ask::LessEq,
-            false,
-            cells,
-            index,
-            values,
-            a,
-            l,
-        ),
-        19 => ends_set(
-            first,
-            end,
-            second,
-            link,
-            Ask::LessEq,
-            true,
-            cells,
-            index,
-            values,
-            a,
-            l,
-        ),
-        20 => lang_set(first, end, false, cells, index, values, a),
-        21 => lang_set(first, end, true, cells, index, values, a),
+        16 => ends_set(f, e, s, t, Ask::Less, false, cells, index, values, a, l),
+        17 => ends_set(f, e, s, t, Ask::Less, true, cells, index, values, a, l),
+        18 => ends_set(f, e, s, t, Ask::LessEq, false, cells, index, values, a, l),
+        19 => ends_set(f, e, s, t, Ask::LessEq, true, cells, index, values, a, l),
+        20 => lang_set(f, e, false, cells, index, values, a),
+        21 => lang_set(f, e, true, cells, index, values, a),
         22 => facts_set(Pick::From(p), cells, index),
         23 => facts_set(Pick::Into(p), cells, index),
         24 => facts_set(Pick::Typed(c), cells, index),

@@ -71,10 +71,10 @@ read c = record {
 }
 
 -- the rows that no arm has touched
-first-kept : (c : Place) → Held (read c .cs) (c .before .before .before .before .before .before .before .before .before .before .before .before .before .before .before .args .end .now) (c .before .before .before .before .before .before .before .before .before .before .before .before .before .before .before .args .first .now)
+first-kept : (c : Place) → Held (read c .cs) (c .before .before .before .before .before .before .before .before .before .before .before .before .before .before .before .args .e .now) (c .before .before .before .before .before .before .before .before .before .before .before .before .before .before .before .args .f .now)
 first-kept c = c .before .before .before .before .before .before .before .before .before .before .before .before .before .before .before .pre .3
 
-second-kept : (c : Place) → Held (read c .cs) (c .before .before .before .before .before .before .before .before .before .before .before .before .before .before .before .args .link .now) (c .before .before .before .before .before .before .before .before .before .before .before .before .before .before .before .args .second .now)
+second-kept : (c : Place) → Held (read c .cs) (c .before .before .before .before .before .before .before .before .before .before .before .before .before .before .before .args .t .now) (c .before .before .before .before .before .before .before .before .before .before .before .before .before .before .before .args .s .now)
 second-kept c = c .before .before .before .before .before .before .before .before .before .before .before .before .before .before .before .pre .4
 
 node-count-requires : tie.Need-node-count-requires
