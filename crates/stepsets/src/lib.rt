@@ -302,8 +302,13 @@ fn chooses(pick: Pick, cells: &[u16], i: usize) -> bool
     }
 }
 
+// A set of links: sixteen words, link l at bit l % 64 of word l / 64.
+pub struct LinkSet {
+    pub words: [u64; 16],
+}
+
 // The links that form entry e lists.
-fn listed_links(cells: &[u16], e: usize) -> NodeSet
+fn listed_links(cells: &[u16], e: usize) -> LinkSet
     ensures { λ r. ⌜ r .words ≡ listedBy (now (cells .entry)) e ⌝ }
 {
     let from = wide(form_first(cells, e));
@@ -312,7 +317,7 @@ fn listed_links(cells: &[u16], e: usize) -> NodeSet
     for k in 0..count {
         insert_if(&mut words, wide(item(cells, from + k)), true);
     }
-    NodeSet { words }
+    LinkSet { words }
 }
 
 // The subjects of facts whose link form entry e does not list.
