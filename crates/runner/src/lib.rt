@@ -42,7 +42,7 @@ ghost use lib.ListN.{length};
 ghost use Rattle.tables.specs.Layout.{cellCount, nodeCount};
 ghost use Rattle.tables.specs.WellFormed.{wellFormed};
 ghost use Rattle.paths.specs.Facts.{Tables};
-ghost use Rattle.stepsets.specs.Ends.{Held, Empty};
+ghost use Rattle.stepsets.specs.Ends.{Held, RowsFor};
 ghost use Rattle.plan.specs.Layout.{stepAt};
 ghost use Rattle.plan.specs.WellFormed.{stepOk, planWellFormed};
 ghost use Rattle.runner.specs.Run.{workCount, saidOf, filled, lentLong, runSaid, workAfter};
@@ -147,7 +147,7 @@ fn run_step(
     store(&mut work[at..], set);
 }
 
-// All steps, in their order, with rows for all nodes that hold nothing yet.
+// All steps, in their order, with two arrays of rows for all nodes.
 fn run_all(
     work: &mut [u64],
     first: &mut [u64],
@@ -157,7 +157,7 @@ fn run_all(
     values: &[i64],
     plan: &[u16],
 )
-    requires { ⌜ Tables (now cells) (now index) × (planWellFormed (now cells) (now plan) ≡ true) × (workCount ≤ length (now work)) × Empty (now cells) (now first) × Empty (now cells) (now second) ⌝ }
+    requires { ⌜ Tables (now cells) (now index) × (planWellFormed (now cells) (now plan) ≡ true) × (workCount ≤ length (now work)) × RowsFor (now cells) (now first) × RowsFor (now cells) (now second) ⌝ }
     ensures { λ _. ⌜ now (work .exit) ≡ filled (now (cells .entry)) (now (values .entry)) (now (plan .entry)) (now (work .entry)) ⌝ }
 {
     let mut end = NO_END;

@@ -30,7 +30,7 @@ use Rattle.paths.proofs.Parts.{part, lent-ok, lent-triples}
 use Rattle.paths.proofs.Nodes.{ends-nodes}
 use Rattle.rows.specs.Rows.{rowsOf}
 use Rattle.rows.proofs.Passes.{length-rows, within-rows, within-zeros, has-row}
-use Rattle.stepsets.specs.Ends.{endNumbered, numberOk, EndOf, endRows, Held, Empty}
+use Rattle.stepsets.specs.Ends.{endNumbered, numberOk, EndOf, endRows, Held, RowsFor}
 
 -- ---- the ends that a number names
 -- a number below 65,536 is END f of the tables; one from there on a link
@@ -72,12 +72,12 @@ end-link x p l e = record { same = λ cs. ap (λ (k : ℕ). along (predicate k))
 
 -- ---- rows that are kept
 -- no END has number 65,534, so that rows with nothing past them may stand for it; zeros are such rows
-pub held-none : (cs : List ℕ) {rows : List ℕ} → wellFormed cs ≡ true → Empty cs rows → Held cs 65534 rows
+pub held-none : (cs : List ℕ) {rows : List ℕ} → wellFormed cs ≡ true → RowsFor cs rows → Held cs 65534 rows
 unfolding numberOk tables.endOk
 held-none cs {rows} ok h = record { room = h .room; within = h .within; ends = λ w. absurd (never-both w (ap (λ (b : Bool). b || eqb 65534 noNumber) (le-ltb 65534 (pathCount cs) (omega (arith, sound cs ok .paths))))) }
 
-pub empty-zeros : (cs : List ℕ) (words : ℕ) {rows : List ℕ} → 16 * nodeCount cs ≤ words → rows ≡ replicate words 0 → Empty cs rows
-empty-zeros cs words l e = record { room = subst (λ (k : ℕ). 16 * nodeCount cs ≤ k) (sym (ap length e ∙ length-replicate {A = ℕ} words 0)) l; within = within-zeros (nodeCount cs) words e }
+pub rows-zeros : (cs : List ℕ) (words : ℕ) {rows : List ℕ} → 16 * nodeCount cs ≤ words → rows ≡ replicate words 0 → RowsFor cs rows
+rows-zeros cs words l e = record { room = subst (λ (k : ℕ). 16 * nodeCount cs ≤ k) (sym (ap length e ∙ length-replicate {A = ℕ} words 0)) l; within = within-zeros (nodeCount cs) words e }
 
 -- filled anew
 pub held-anew : (cs : List ℕ) (x y : ℕ) {end : End} {rows now : List ℕ} → Held cs y rows → EndOf x end → now ≡ rowsOf (nodeCount cs) (endsOf (nodeCount cs) (triplesAt cs) (endIn cs end)) (length rows) → Held cs x now

@@ -37,7 +37,7 @@ pub record Held (cs : List ℕ) (x : ℕ) (rows : List ℕ) : Type 0 where
   pub within : Within (nodeCount cs) rows
   pub ends : numberOk cs x ≡ true → rows ≡ endRows cs x (length rows)
 
--- rows for all nodes that hold nothing yet
-pub record Empty (cs rows : List ℕ) : Type 0 where
+-- rows for all nodes, with nothing past them, whatever they hold
+pub record RowsFor (cs rows : List ℕ) : Type 0 where
   pub room : 16 * nodeCount cs ≤ length rows
   pub within : Within (nodeCount cs) rows

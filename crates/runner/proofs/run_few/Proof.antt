@@ -3,7 +3,7 @@ use Prim.Native.Nat.{_*_, _≤_}
 use mathlib.Core.Path.{refl}
 use native.Mathlib.Omega.{arith}
 use Rattle.tables.specs.Layout.{nodeCount}
-use Rattle.stepsets.proofs.Rows.{empty-zeros}
+use Rattle.stepsets.proofs.Rows.{rows-zeros}
 use borrow.Author.Needs.{needs}
 use Rattle.runner.proofs.run_few.Statement.{statement}
 use Rattle.runner.proofs.run_few.Tie as tie
@@ -19,7 +19,7 @@ run-all-requires c κs =
     let a = c .before .before .before .before .before .before .before .args in
     let pre = c .before .before .before .before .before .before .before .pre in
     let l : 16 * nodeCount (a .cells .now) ≤ 1024 = omega (arith, pre .3) in
-    (pre .0, pre .1, pre .2, empty-zeros (a .cells .now) 1024 l refl, empty-zeros (a .cells .now) 1024 l refl)
+    (pre .0, pre .1, pre .2, rows-zeros (a .cells .now) 1024 l refl, rows-zeros (a .cells .now) 1024 l refl)
 
 same-length : tie.Need-same-length
 same-length c = search needs

@@ -4,7 +4,7 @@ use mathlib.Core.Path.{refl}
 use native.Mathlib.Omega.{arith}
 use Rattle.tables.specs.Layout.{nodeCount}
 use Rattle.tables.proofs.WellFormed.{sound}
-use Rattle.stepsets.proofs.Rows.{empty-zeros}
+use Rattle.stepsets.proofs.Rows.{rows-zeros}
 use borrow.Author.Needs.{needs}
 use Rattle.runner.proofs.run_many.Statement.{statement}
 use Rattle.runner.proofs.run_many.Tie as tie
@@ -20,7 +20,7 @@ run-all-requires c κs =
     let a = c .before .before .before .before .before .before .before .args in
     let pre = c .before .before .before .before .before .before .before .pre in
     let l : 16 * nodeCount (a .cells .now) ≤ 16384 = omega (arith, sound (a .cells .now) (pre .0 .ok) .nodes) in
-    (pre .0, pre .1, pre .2, empty-zeros (a .cells .now) 16384 l refl, empty-zeros (a .cells .now) 16384 l refl)
+    (pre .0, pre .1, pre .2, rows-zeros (a .cells .now) 16384 l refl, rows-zeros (a .cells .now) 16384 l refl)
 
 same-length : tie.Need-same-length
 same-length c = search needs
