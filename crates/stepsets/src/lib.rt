@@ -57,7 +57,7 @@ ghost use Rattle.stepsets.specs.Picks.{nodeOf, picked, chosen, ByLink, l
 // Ends have numbers: `id` and path entries those of the tables, links those from here on.
 const FIRST_LINK: usize = 65536;
 
-// A number that no end has: rows that hold nothing.
+// A number that no end has, for rows that were not filled yet.
 pub const NO_END: usize = 65534;
 
 // What is asked of each node: that it is a node; that it meets the test of a form entry; how many of its ends are in a set,

@@ -8,15 +8,12 @@ use Rattle.runner.proofs.both_right.Lts as lts
 use Rattle.plancheck.proofs.plan_well_formed.Reads as plan-well-formed-reads
 use Rattle.tablecheck.proofs.well_formed.Reads as well-formed-reads
 
--- src/lib.rt:129:5
 well-formed-requires : tie.Need-well-formed-requires
 well-formed-requires c κs = search needs
 
--- src/lib.rt:129:26
 plan-well-formed-requires : tie.Need-plan-well-formed-requires
 plan-well-formed-requires c κs = search needs
 
--- src/lib.rt:126:1
 returns : tie.Need-returns
 returns c = ap₂ (λ (x y : Bool). x && y) (c .before .well-formed .ensures) (c .plan-well-formed .ensures)
 

@@ -12,11 +12,9 @@ use Rattle.runner.proofs.lent_long.Reads as reads
 use Rattle.runner.proofs.lent_long.Lts as lts
 use Rattle.tables.proofs.lent.enough.Reads as enough-reads
 
--- src/lib.rt:122:5
 enough-requires : tie.Need-enough-requires
 enough-requires c κs = search needs
 
--- src/lib.rt:119:1
 returns : tie.Need-returns
 unfolding lentLong
 returns c = ap (λ (x : Bool). x && (leb planCount (length (now (c .before .before .before .before .before .args .plan))) && leb workCount (length (now (c .before .before .before .before .before .args .work))))) (c .enough .ensures)

@@ -20,43 +20,33 @@ use Rattle.runner.proofs.both_right.Reads as both-right-reads
 use Rattle.runner.proofs.lent_long.Reads as lent-long-reads
 use Rattle.runner.proofs.run_steps.Reads as run-steps-reads
 
--- src/lib.rt:144:9
 lent-long-requires : tie.Need-lent-long-requires
 lent-long-requires c κs = search needs
 
--- src/lib.rt:145:9
 same-length : tie.Need-same-length
 same-length c = search needs
 
--- src/lib.rt:145:9
 returns : tie.Need-returns
 returns c = let a = c .before .before .before .before .before .before .before .args in short (now (a .names)) (now (a .cells)) (now (a .values)) (now (a .plan)) (now (a .work)) (sym (c .before .lent-long .ensures) ∙ not-true (c .before .lent-long .result) (c .if1 .taken))
 
--- src/lib.rt:147:9
 slice-aggregate-cs : tie.Need-slice-aggregate-cs
 slice-aggregate-cs c = let a = c .before .before .before .before .before .before .before .before .args in sym (length-take-le 16602 (now (a .cells)) (lent (now (a .names)) (now (a .cells)) (now (a .values)) (now (a .plan)) (now (a .work)) (sym (c .before .before .lent-long .ensures) ∙ not-false (c .before .before .lent-long .result) (c .before .if1 .left)) .tables .cells))
 
--- src/lib.rt:148:9
 slice-aggregate-ps : tie.Need-slice-aggregate-ps
 slice-aggregate-ps c = let a = c .before .before .before .before .before .before .before .before .before .args in sym (length-take-le 2593 (now (a .plan)) (lent (now (a .names)) (now (a .cells)) (now (a .values)) (now (a .plan)) (now (a .work)) (sym (c .before .before .before .lent-long .ensures) ∙ not-false (c .before .before .before .lent-long .result) (c .before .before .if1 .left)) .plan))
 
--- src/lib.rt:149:9
 both-right-requires : tie.Need-both-right-requires
 both-right-requires c κs = search needs
 
--- src/lib.rt:150:9
 same-length-2 : tie.Need-same-length-2
 same-length-2 c = search needs
 
--- src/lib.rt:150:9
 returns-2 : tie.Need-returns-2
 returns-2 c = let a = c .before .before .before .before .before .before .before .before .before .before .before .args in malformed (now (a .names)) (now (a .cells)) (now (a .values)) (now (a .plan)) (now (a .work)) (sym (c .before .before .before .before .before .lent-long .ensures) ∙ not-false (c .before .before .before .before .before .lent-long .result) (c .before .before .before .before .if1 .left)) (sym (c .before .both-right .ensures) ∙ not-true (c .before .both-right .result) (c .if2 .taken))
 
--- src/lib.rt:152:25
 slice-aggregate-run-steps : tie.Need-slice-aggregate-run-steps
 slice-aggregate-run-steps c = let a = c .before .before .before .before .before .before .before .before .before .before .before .before .before .args in sym (length-take-le 1136 (now (a .values)) (lent (now (a .names)) (now (a .cells)) (now (a .values)) (now (a .plan)) (now (a .work)) (sym (c .before .before .before .before .before .before .before .lent-long .ensures) ∙ not-false (c .before .before .before .before .before .before .before .lent-long .result) (c .before .before .before .before .before .before .if1 .left)) .tables .values))
 
--- src/lib.rt:152:5
 run-steps-requires : tie.Need-run-steps-requires
 run-steps-requires c κs =
     let a = c .before .before .before .before .before .before .before .before .before .before .before .before .before .args in
@@ -65,11 +55,9 @@ run-steps-requires c κs =
     let w : (wellFormed cs && planWellFormed cs (take 2593 (now (a .plan)))) ≡ true = sym (c .before .before .before .both-right .ensures) ∙ not-false (c .before .before .before .both-right .result) (c .before .before .if2 .left) in
     (le-of-eq (sym (length-take-le 16602 (now (a .cells)) (l .tables .cells))), and-left (wellFormed cs) (planWellFormed cs (take 2593 (now (a .plan)))) w, and-right (wellFormed cs) (planWellFormed cs (take 2593 (now (a .plan)))) w, l .work)
 
--- src/lib.rt:134:1
 same-length-3 : tie.Need-same-length-3
 same-length-3 c = search needs
 
--- src/lib.rt:134:1
 returns-3 : tie.Need-returns-3
 returns-3 c = let a = c .before .before .before .before .before .before .before .before .before .before .before .before .before .before .before .before .args in done (now (a .names)) (now (a .cells)) (now (a .values)) (now (a .plan)) (now (a .work)) (sym (c .before .before .before .before .before .before .before .before .before .before .lent-long .ensures) ∙ not-false (c .before .before .before .before .before .before .before .before .before .before .lent-long .result) (c .before .before .before .before .before .before .before .before .before .if1 .left)) (sym (c .before .before .before .before .before .before .both-right .ensures) ∙ not-false (c .before .before .before .before .before .before .both-right .result) (c .before .before .before .before .before .if2 .left)) (c .before .before .run-steps .last .0) (c .before .before .run-steps .ensures)
 
