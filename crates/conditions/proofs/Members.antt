@@ -10,7 +10,7 @@ use borrow.Author.Tests.{eq-eqb, eqb-true, eqb-false, ltb-true, ltb-false, lt-lt
 use Rattle.base.specs.Bounded.{_⇒_, every}
 use Rattle.base.proofs.Bools.{bool-cases, same-test, not-and}
 use Rattle.base.proofs.Bounded.{every-at, every-all, every-fails, every-more, every-ext}
-use Rattle.nodeset.specs.Words.{has, wordsOf, difference, intersection}
+use Rattle.nodeset.specs.Words.{has, wordsOf}
 use Rattle.nodeset.specs.Members.{nextFrom}
 use Rattle.nodeset.proofs.Members.{Next, next-found, next-none}
 use Rattle.nodeset.proofs.Sets.{wordsOf-ext, has-of, length-of, zeros}
@@ -105,20 +105,13 @@ module _ (p t : ℕ → Bool) (n : ℕ) where
   gathered-all {ws} {x} s l = s .words ∙ ap (λ (k : ℕ). wordsOf (upTo k) 16) (let e : x ≡ n = omega (arith, s .within) in e)
 
 -- ---- one set in another, and two sets apart
-module _ (a b : List ℕ) (n : ℕ) (room : n ≤ 1024) where
-  low : {ws : List ℕ} (p : ℕ → Bool) → ws ≡ wordsOf p 16 → eqb (nextFrom (has ws) 0 n) n ≡ every (λ x. not (p x)) n
-  low {ws} p e = empty-below (has ws) n ∙ every-ext (λ x. not (has ws x)) (λ x. not (p x)) n (λ x l. ap not (has-of p 16 e x (omega arith)))
+pub subset-next : (a b : List ℕ) (n : ℕ) {k : ℕ} → k ≡ nextFrom (λ m. has a m && not (has b m)) 0 n → eqb k n ≡ subset n (has a) (has b)
+unfolding subset
+subset-next a b n g =
+    ap (λ (k : ℕ). eqb k n) g
+    ∙ empty-below (λ m. has a m && not (has b m)) n
+    ∙ every-ext (λ x. not (has a x && not (has b x))) (λ x. has a x ⇒ has b x) n (λ x l. not-and (has a x) (not (has b x)) ∙ ap (λ (t : Bool). not (has a x) || t) (Bool·not-not (has b x)))
 
-  pub subset-next : (k : ℕ) {la ws : List ℕ} → la ≡ wordsOf (has a) 16 → ws ≡ difference la b → k ≡ nextFrom (has ws) 0 n → eqb k n ≡ subset n (has a) (has b)
-  unfolding subset difference
-  subset-next k {la} {ws} e f g =
-      ap (λ (k : ℕ). eqb k n) g
-      ∙ low (λ m. has la m && not (has b m)) (f ∙ ap (wordsOf (λ m. has la m && not (has b m))) (length-of (has a) 16 e))
-      ∙ every-ext (λ x. not (has la x && not (has b x))) (λ x. has a x ⇒ has b x) n (λ x l. ap (λ (t : Bool). not (t && not (has b x))) (has-of (has a) 16 e x (omega arith)) ∙ not-and (has a x) (not (has b x)) ∙ ap (λ (t : Bool). not (has a x) || t) (Bool·not-not (has b x)))
-
-  pub apart-next : (k : ℕ) {la ws : List ℕ} → la ≡ wordsOf (has a) 16 → ws ≡ intersection la b → k ≡ nextFrom (has ws) 0 n → eqb k n ≡ noneShared n (has a) (has b)
-  unfolding noneShared intersection
-  apart-next k {la} {ws} e f g =
-      ap (λ (k : ℕ). eqb k n) g
-      ∙ low (λ m. has la m && has b m) (f ∙ ap (wordsOf (λ m. has la m && has b m)) (length-of (has a) 16 e))
-      ∙ every-ext (λ x. not (has la x && has b x)) (λ x. not (has a x && has b x)) n (λ x l. ap (λ (t : Bool). not (t && has b x)) (has-of (has a) 16 e x (omega arith)))
+pub apart-next : (a b : List ℕ) (n : ℕ) {k : ℕ} → k ≡ nextFrom (λ m. has a m && has b m) 0 n → eqb k n ≡ noneShared n (has a) (has b)
+unfolding noneShared
+apart-next a b n g = ap (λ (k : ℕ). eqb k n) g ∙ empty-below (λ m. has a m && has b m) n

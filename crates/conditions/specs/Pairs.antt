@@ -9,10 +9,10 @@ use Rattle.base.specs.Bounded.{_⇒_, every}
 use Rattle.base.specs.Lists.{member, allb}
 use Rattle.model.specs.Graph.{Term, Triple, valueOf, holds}
 use Rattle.model.specs.Shapes.{allPairs, less, lessEq, sameLang}
-use Rattle.tables.specs.Layout.{nodeCount}
+use Rattle.tables.specs.Layout.{nodeCount, langAt}
 use Rattle.tables.specs.Decode.{termAt}
 use Rattle.conditions.specs.declared.Pair.{Pair}
-use Rattle.conditions.specs.declared.Pair.the-variants.{Less, LessEq, OtherLang}
+use Rattle.conditions.specs.declared.Pair.the-variants.{Less, LessEq}
 
 -- every triple out of v has one of the predicates ps
 unfoldable pub onlyListed : List Triple → List ℕ → ℕ → Bool
@@ -22,17 +22,14 @@ onlyListed ts ps v = allb (λ t. eqb (t .subject) v ⇒ member (t .predicate) ps
 unfoldable pub pairOk : Pair → Term → Term → Bool
 pairOk Less a b = less a b
 pairOk LessEq a b = lessEq a b
-pairOk OtherLang a b = not (sameLang a b)
-
--- with y, of n nodes, go those below this: all, but for languages only the nodes before y, since their order is of no account
-unfoldable pub partnersBelow : Pair → ℕ → ℕ → ℕ
-partnersBelow Less y n = n
-partnersBelow LessEq y n = n
-partnersBelow OtherLang y n = y
 
 -- r holds of each x of a below m y, and y, for each y of b below n
 unfoldable pub eachPair : ℕ → (ℕ → ℕ) → (ℕ → Bool) → (ℕ → Bool) → (ℕ → ℕ → Bool) → Bool
 eachPair n m a b r = every (λ y. b y ⇒ every (λ x. a x ⇒ r x y) (m y)) n
+
+-- no two members of a have the same number of a language in the tables, the lower of two first
+unfoldable pub langsDiffer : List ℕ → (ℕ → Bool) → Bool
+langsDiffer cs a = eachPair (nodeCount cs) (λ y. y) a a (λ x y. not (eqb (langAt cs x) (langAt cs y)))
 
 -- no two different members of a have the same language
 abbrev pub unlikeLangs : List ℕ → List ℤ → (ℕ → Bool) → Bool

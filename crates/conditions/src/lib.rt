@@ -5,16 +5,15 @@
 //   closed_holds                every fact out of a node has a listed link
 //   less_holds, lesseq_holds    each member of one set has a number less than, or at most, that of each member of another
 //   onelang_holds               no two members of a set have the same language
-//   onelang_among, languages    .. no two that are in another set; the set of the nodes that have a language
+//   langs_differ, languages     .. no two of those that have one; the set of the nodes that have one
 //   subset_holds, equal_holds, apart_holds
 //                               one set in another; two sets with the same members, with none in common
 //   insert_if                   a number joins a set, or not
 use nodeset::NodeSet;
 use nodeset::insert;
-use nodeset::intersect_into;
-use nodeset::load;
 use nodeset::next_member;
-use nodeset::subtract_into;
+use nodeset::next_outside;
+use nodeset::next_shared;
 use tables::reads::fact_count;
 use tables::reads::form_code;
 use tables::reads::form_first;
@@ -42,7 +41,7 @@ ghost use Rattle.nodeset.specs.Words.{has, wordsOf};
 ghost use Rattle.model.specs.Shapes.{nodeKind, datatype, satisfies, conforms, subset, noneShared, allPairs, less, lessEq, sameLang};
 ghost use Rattle.tables.specs.Layout.{nodeCount, kindAt, subjectAt, predicateAt, formCodeAt, formFirstAt, formSecondAt};
 ghost use Rattle.tables.specs.Decode.{termAt, triplesAt, graphAt, kindOf, itemsAt, shapeAt};
-ghost use Rattle.conditions.specs.Pairs.{onlyListed, pairOk, partnersBelow, eachPair, unlikeLangs, covers, Lowest};
+ghost use Rattle.conditions.specs.Pairs.{onlyListed, pairOk, eachPair, langsDiffer, unlikeLangs, covers, Lowest};
 
 // x is one of n items from number i on.
 fn listed(cells: &[u16], i: u16, n: u16, x: u16) -> bool
@@ -139,7 +138,6 @@ pub fn test_holds(cells: &[u16], values: &[i64], e: usize, v: usize) -> bool
 enum Pair {
     Less,
     LessEq,
-    OtherLang,
 }
 
 fn pair_holds(pair: Pair, cells: &[u16], values: &[i64], x: usize, y: usize) -> bool
@@ -153,39 +151,24 @@ fn pair_holds(pair: Pair, cells: &[u16], values: &[i64], x: usize, y: usize) -> 
         Pair::LessEq => {
             has_number(cells, x) & (has_number(cells, y) & (number(values, x) <= number(values, y)))
         }
-        Pair::OtherLang => {
-            !(has_language(cells, x)
-                & (has_language(cells, y) & (node_lang(cells, x) == node_lang(cells, y))))
-        }
-    }
-}
-
-fn partners_below(pair: Pair, y: usize, n: usize) -> usize
-    ensures { λ r. ⌜ r ≡ partnersBelow pair y n ⌝ }
-{
-    match pair {
-        Pair::Less => n,
-        Pair::LessEq => n,
-        Pair::OtherLang => y,
     }
 }
 
 // Each pair holds. The first that does not ends the search; only members cost anything.
 fn pairs_hold(pair: Pair, cells: &[u16], values: &[i64], a: &[u64], b: &[u64]) -> bool
-    ensures { λ r. ⌜ r ≡ eachPair (nodeCount (now (cells .entry))) (λ y. partnersBelow pair y (nodeCount (now (cells .entry)))) (has (now (a .entry))) (has (now (b .entry))) (λ x y. pairOk pair (termAt (now (cells .entry)) (now (values .entry)) x) (termAt (now (cells .entry)) (now (values .entry)) y)) ⌝ }
+    ensures { λ r. ⌜ r ≡ eachPair (nodeCount (now (cells .entry))) (λ y. nodeCount (now (cells .entry))) (has (now (a .entry))) (has (now (b .entry))) (λ x y. pairOk pair (termAt (now (cells .entry)) (now (values .entry)) x) (termAt (now (cells .entry)) (now (values .entry)) y)) ⌝ }
 {
     let n = node_count(cells);
     let mut ok = true;
     let mut y = next_member(b, 0, n);
     'search: while y < n {
-        let m = partners_below(pair, y, n);
-        let mut x = next_member(a, 0, m);
-        while x < m {
+        let mut x = next_member(a, 0, n);
+        while x < n {
             if !pair_holds(pair, cells, values, x, y) {
                 ok = false;
                 break 'search;
             }
-            x = next_member(a, x + 1, m);
+            x = next_member(a, x + 1, n);
         }
         y = next_member(b, y + 1, n);
     }
@@ -263,14 +246,42 @@ fn with_language(cells: &[u16], a: &[u64]) -> NodeSet
     NodeSet { words }
 }
 
-// No two members of a have the same language. With 32 languages, two of the first 33 that have one have the same.
-pub fn onelang_holds(cells: &[u16], values: &[i64], a: &[u64]) -> bool
+// No two numbers in both sets have the same language, where both have only nodes that have one. The first pair that has ends the
+// search; before has the languages of those before y. With 32 languages, two of the first 33 have the same.
+pub fn langs_differ(cells: &[u16], a: &[u64], b: &[u64]) -> bool
     requires { ⌜ nodeCount (now cells) ≤ 1024 ⌝ }
-    ensures { λ r. ⌜ r ≡ unlikeLangs (now (cells .entry)) (now (values .entry)) (has (now (a .entry))) ⌝ }
+    ensures { λ r. ⌜ r ≡ langsDiffer (now (cells .entry)) (λ w. has (now (a .entry)) w && has (now (b .entry)) w) ⌝ }
+{
+    let n = node_count(cells);
+    let mut before = [0u16; 1024];
+    let mut count = 0;
+    let mut differ = true;
+    let mut y = next_shared(a, b, 0, n);
+    'search: while y < n {
+        let lang = node_lang(cells, y);
+        let mut k = 0;
+        while k < count {
+            if before[k] == lang {
+                differ = false;
+                break 'search;
+            }
+            k += 1;
+        }
+        before[count] = lang;
+        count += 1;
+        y = next_shared(a, b, y + 1, n);
+    }
+    differ
+}
+
+// No two members of a have the same language.
+pub fn onelang_holds(cells: &[u16], a: &[u64]) -> bool
+    requires { ⌜ nodeCount (now cells) ≤ 1024 ⌝ }
+    ensures { λ r. ⌜ ((vs : List ℤ) → r ≡ unlikeLangs (now (cells .entry)) vs (has (now (a .entry)))) ⌝ }
 {
     let s = with_language(cells, a);
     let words = s.words;
-    pairs_hold(Pair::OtherLang, cells, values, &words, &words)
+    langs_differ(cells, &words, &words)
 }
 
 // The nodes that have a language.
@@ -282,31 +293,15 @@ pub fn languages(cells: &[u16]) -> NodeSet
     with_language(cells, &words)
 }
 
-// No two members of a that are in b have the same language. Where b has all nodes with a language, no two members of a.
-pub fn onelang_among(cells: &[u16], values: &[i64], a: &[u64], b: &[u64]) -> bool
-    requires { ⌜ nodeCount (now cells) ≤ 1024 ⌝ }
-    ensures { λ r. ⌜ r ≡ unlikeLangs (now (cells .entry)) (now (values .entry)) (λ w. has (now (a .entry)) w && has (now (b .entry)) w) ⌝ }
-{
-    let s = load(a);
-    let mut words = s.words;
-    intersect_into(&mut words, b);
-    pairs_hold(Pair::OtherLang, cells, values, &words, &words)
-}
-
 // Each number of a below n is in b.
 pub fn subset_holds(a: &[u64], b: &[u64], n: usize) -> bool
-    requires { ⌜ n ≤ 1024 ⌝ }
     ensures { λ r. ⌜ r ≡ subset n (has (now (a .entry))) (has (now (b .entry))) ⌝ }
 {
-    let s = load(a);
-    let mut words = s.words;
-    subtract_into(&mut words, b);
-    next_member(&words, 0, n) == n
+    next_outside(a, b, 0, n) == n
 }
 
 // The two sets have the same numbers below n.
 pub fn equal_holds(a: &[u64], b: &[u64], n: usize) -> bool
-    requires { ⌜ n ≤ 1024 ⌝ }
     ensures { λ r. ⌜ r ≡ (subset n (has (now (a .entry))) (has (now (b .entry))) && subset n (has (now (b .entry))) (has (now (a .entry)))) ⌝ }
 {
     subset_holds(a, b, n) & subset_holds(b, a, n)
@@ -314,11 +309,7 @@ pub fn equal_holds(a: &[u64], b: &[u64], n: usize) -> bool
 
 // No number below n is in both sets.
 pub fn apart_holds(a: &[u64], b: &[u64], n: usize) -> bool
-    requires { ⌜ n ≤ 1024 ⌝ }
     ensures { λ r. ⌜ r ≡ noneShared n (has (now (a .entry))) (has (now (b .entry))) ⌝ }
 {
-    let s = load(a);
-    let mut words = s.words;
-    intersect_into(&mut words, b);
-    next_member(&words, 0, n) == n
+    next_shared(a, b, 0, n) == n
 }

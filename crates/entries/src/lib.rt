@@ -122,5 +122,5 @@ pub fn lang_holds(cells: &[u16], index: &[u16], values: &[i64], e: usize, v: usi
 {
     let set = ends_of(cells, index, End::Path(wide(form_first(cells, e))), v);
     let words = set.words;
-    onelang_holds(cells, values, &words)
+    onelang_holds(cells, &words)
 }

@@ -2,7 +2,7 @@
 use Prim.Native.Nat.{ℕ, zero, suc, _+_, _-_, _*_, _/_, _%_, _^_, _≤_, _<_}
 use mathlib.Core.Bool.{Bool, true, false, cond}
 use mathlib.Core.List.{List}
-use mathlib.Core.Path.{_≡_, refl, sym, ap, _∙_, subst}
+use mathlib.Core.Path.{_≡_, refl, sym, ap, ap₂, _∙_, subst}
 use native.Mathlib.Nat.{add-zero, add-suc, suc-add, le-of-suc-le-suc, lt-of-le-of-lt, lt-of-lt-of-le, div-eq-of-lt}
 use native.Mathlib.Numerals.{one-add, add-one}
 use native.Mathlib.Omega.{arith}
@@ -15,6 +15,8 @@ use borrow.Author.Tests.{eqb-true, ltb-true, ltb-false}
 use Rattle.base.proofs.Bools.{bool-cases, never-both}
 use Rattle.nodeset.specs.Words.{bit, has}
 use Rattle.nodeset.specs.Members.{nextOf, nextFrom}
+use Rattle.nodeset.specs.Operations.{keeps}
+use Rattle.nodeset.specs.declared.Operation.{Operation}
 use Rattle.nodeset.proofs.Bits.{two, bit-zero}
 use Rattle.nodeset.proofs.Sets.{has-at}
 
@@ -71,6 +73,15 @@ module _ (p : ℕ → Bool) (n : ℕ) where
   pub next-found : (i : ℕ) → i ≤ n → Next p i n (nextFrom p i n)
   next-found i l = found (n - i) i (omega arith)
 
+-- the same numbers, the same next one
+pub next-ext : (p q : ℕ → Bool) (i n : ℕ) → ((m : ℕ) → p m ≡ q m) → nextFrom p i n ≡ nextFrom q i n
+unfolding nextFrom nextOf
+next-ext p q i n h = go (n - i)
+  where
+    go : (k : ℕ) → nextOf p n k ≡ nextOf q n k
+    go zero = refl
+    go (suc k) = ap₂ (λ (b : Bool) (r : ℕ). cond b (n - suc k) r) (h (n - suc k)) (go k)
+
 -- ---- the digits of a word from a place on
 
 -- digit i from digit k on
@@ -110,50 +121,54 @@ trailing-hit (suc k) x a b = go (x % 2) refl (λ h. trailing-hit k (x / 2) h (sh
     go (suc zero) e ih = bit-first x ∙ ap (λ (y : ℕ). eqb y 1) e
     go (suc (suc d)) e ih = absurd (omega arith)
 
--- ---- the search, word by word: what the word of number i has from i on
+-- ---- the search, word by word: what the word w of number i, with the digits of p, has from i on
 
-module _ (ws : List ℕ) (i : ℕ) where
+module _ (p : ℕ → Bool) (i w : ℕ) (digits : (k : ℕ) → k < 64 → p (i / 64 * 64 + k) ≡ bit w k) where
   -- the word's digits from i on
   abbrev pub rest : ℕ
-  rest = getD ws (i / 64) 0 / 2 ^ (i % 64)
+  rest = w / 2 ^ (i % 64)
 
-  has-rest : (j : ℕ) → j < 64 - i % 64 → has ws (i + j) ≡ bit rest j
+  has-rest : (j : ℕ) → j < 64 - i % 64 → p (i + j) ≡ bit rest j
   has-rest j l =
-      ap (has ws) (let e : i + j ≡ i / 64 * 64 + (i % 64 + j) = omega arith in e)
-      ∙ has-at ws (i / 64) (i % 64 + j) (omega arith) ∙ sym (bit-shr (getD ws (i / 64) 0) (i % 64) j)
+      ap p (let e : i + j ≡ i / 64 * 64 + (i % 64 + j) = omega arith in e)
+      ∙ digits (i % 64 + j) (omega arith) ∙ sym (bit-shr w (i % 64) j)
 
   -- nothing is left in the word
-  pub rest-none : (x : ℕ) → x ≡ rest → x ≡ 0 → (j : ℕ) → j < 64 - i % 64 → has ws (i + j) ≡ false
+  rest-none : (x : ℕ) → x ≡ rest → x ≡ 0 → (j : ℕ) → j < 64 - i % 64 → p (i + j) ≡ false
   rest-none x e z j l = has-rest j l ∙ ap (λ (y : ℕ). bit y j) (sym e ∙ z) ∙ bit-zero j
 
-  module _ (x : ℕ) (e : x ≡ rest) (pos : 0 < x) (small : getD ws (i / 64) 0 < 2 ^ 64) where
+  module _ (x : ℕ) (e : x ≡ rest) (pos : 0 < x) (small : w < 2 ^ 64) where
     rest-lt : x < 2 ^ (64 - i % 64)
-    rest-lt = subst (λ (y : ℕ). y < 2 ^ (64 - i % 64)) (sym e) (shr-lt (64 - i % 64) (i % 64) (subst (λ (m : ℕ). getD ws (i / 64) 0 < 2 ^ m) (let q : 64 ≡ 64 - i % 64 + i % 64 = omega arith in q) small))
+    rest-lt = subst (λ (y : ℕ). y < 2 ^ (64 - i % 64)) (sym e) (shr-lt (64 - i % 64) (i % 64) (subst (λ (m : ℕ). w < 2 ^ m) (let q : 64 ≡ 64 - i % 64 + i % 64 = omega arith in q) small))
 
     x-lt : x < 2 ^ 64
-    x-lt = subst (λ (y : ℕ). y < 2 ^ 64) (sym e) (lt-of-le-of-lt (shr-le (getD ws (i / 64) 0) (i % 64)) small)
+    x-lt = subst (λ (y : ℕ). y < 2 ^ 64) (sym e) (lt-of-le-of-lt (shr-le w (i % 64)) small)
 
     -- the lowest digit that is set lies in the word
     place : trailingZeros 64 x < 64 - i % 64
     place = bool-cases (λ b. ltb (trailingZeros 64 x) (64 - i % 64) ≡ b → trailingZeros 64 x < 64 - i % 64) (ltb (trailingZeros 64 x) (64 - i % 64)) (λ _ h. ltb-true (trailingZeros 64 x) (64 - i % 64) h)
         (λ _ h. absurd (never-both (trailing-hit 64 x pos x-lt) (bit-high x (64 - i % 64) (trailingZeros 64 x) rest-lt (ltb-false (trailingZeros 64 x) (64 - i % 64) h)))) refl
 
-    pub rest-low : (j : ℕ) → j < trailingZeros 64 x → has ws (i + j) ≡ false
+    rest-low : (j : ℕ) → j < trailingZeros 64 x → p (i + j) ≡ false
     rest-low j l = has-rest j (omega (arith, place)) ∙ ap (λ (y : ℕ). bit y j) (sym e) ∙ trailing-low 64 x j l
 
-    pub rest-hit : has ws (i + trailingZeros 64 x) ≡ true
+    rest-hit : p (i + trailingZeros 64 x) ≡ true
     rest-hit = has-rest (trailingZeros 64 x) place ∙ ap (λ (y : ℕ). bit y (trailingZeros 64 x)) (sym e) ∙ trailing-hit 64 x pos x-lt
 
   -- the search at i, where x is what the word has from i on
   module _ (n : ℕ) (l : i < n) (x : ℕ) (e : x ≡ rest) where
-    pub search-hit : 0 < x → getD ws (i / 64) 0 < 2 ^ 64 → trailingZeros 64 x < n - i → i + trailingZeros 64 x ≡ nextFrom (has ws) i n
-    search-hit pos small h = sym (next-skip (has ws) n (trailingZeros 64 x) i (omega arith) (rest-low x e pos small) ∙ next-here (has ws) n (i + trailingZeros 64 x) (omega arith) (rest-hit x e pos small))
+    pub search-hit : 0 < x → w < 2 ^ 64 → trailingZeros 64 x < n - i → i + trailingZeros 64 x ≡ nextFrom p i n
+    search-hit pos small h = sym (next-skip p n (trailingZeros 64 x) i (omega arith) (rest-low x e pos small) ∙ next-here p n (i + trailingZeros 64 x) (omega arith) (rest-hit x e pos small))
 
-    pub search-past : 0 < x → getD ws (i / 64) 0 < 2 ^ 64 → n - i ≤ trailingZeros 64 x → n ≡ nextFrom (has ws) i n
-    search-past pos small h = sym (next-none (has ws) n (trailingZeros 64 x) i (omega arith) h (rest-low x e pos small))
+    pub search-past : 0 < x → w < 2 ^ 64 → n - i ≤ trailingZeros 64 x → n ≡ nextFrom p i n
+    search-past pos small h = sym (next-none p n (trailingZeros 64 x) i (omega arith) h (rest-low x e pos small))
 
-    pub search-end : x ≤ 0 → n - i ≤ 64 - i % 64 → n ≡ nextFrom (has ws) i n
-    search-end z h = sym (next-none (has ws) n (64 - i % 64) i (omega arith) h (rest-none x e (le-zero z)))
+    pub search-end : x ≤ 0 → n - i ≤ 64 - i % 64 → n ≡ nextFrom p i n
+    search-end z h = sym (next-none p n (64 - i % 64) i (omega arith) h (rest-none x e (le-zero z)))
 
-    pub search-on : x ≤ 0 → 64 - i % 64 < n - i → nextFrom (has ws) (i + (64 - i % 64)) n ≡ nextFrom (has ws) i n
-    search-on z h = sym (next-skip (has ws) n (64 - i % 64) i (omega arith) (rest-none x e (le-zero z)))
+    pub search-on : x ≤ 0 → 64 - i % 64 < n - i → nextFrom p (i + (64 - i % 64)) n ≡ nextFrom p i n
+    search-on z h = sym (next-skip p n (64 - i % 64) i (omega arith) (rest-none x e (le-zero z)))
+
+-- the digits of two words put together are those of the two sets
+pub kept-digits : (op : Operation) (a b : List ℕ) (i w : ℕ) → ((k : ℕ) → bit w k ≡ keeps op (bit (getD a (i / 64) 0) k) (bit (getD b (i / 64) 0) k)) → (k : ℕ) → k < 64 → keeps op (has a (i / 64 * 64 + k)) (has b (i / 64 * 64 + k)) ≡ bit w k
+kept-digits op a b i w h k l = ap₂ (keeps op) (has-at a (i / 64) k l) (has-at b (i / 64) k l) ∙ sym (h k)

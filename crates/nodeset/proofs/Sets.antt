@@ -42,6 +42,11 @@ has-drop ws i m =
     let r : m % 64 ≡ (i * 64 + m) % 64 = omega arith in
     ap (λ (y : ℕ). bit y (m % 64)) (getD-drop i ws (m / 64) 0) ∙ ap₂ (λ (a b : ℕ). bit (getD ws a 0) b) q r
 
+-- what the first k words have
+has-take : (ws : List ℕ) (k m : ℕ) → m < k * 64 → has (take k ws) m ≡ has ws m
+unfolding has
+has-take ws k m l = ap (λ (y : ℕ). bit y (m % 64)) (getD-take k ws (m / 64) 0 (let e : m / 64 < k = omega arith in e))
+
 -- ---- the words of a set
 
 length-wordsFrom : (p : ℕ → Bool) (i k : ℕ) → length (wordsFrom p i k) ≡ k
@@ -267,6 +272,10 @@ ones-word : (a b : List ℕ) (i : ℕ) → getD b i 0 < 2 ^ 64 → ones (bitAnd 
 ones-word a b i h =
     ones-size 64 (bitAnd (getD a i 0) (getD b i 0)) (lt-of-le-of-lt (and-le-r (getD a i 0) (getD b i 0)) h)
     ∙ size-ext (bit (bitAnd (getD a i 0) (getD b i 0))) (λ d. both a b (i * 64 + d)) 64 (λ d l. bit-and (getD a i 0) (getD b i 0) d ∙ sym (ap₂ (λ (x y : Bool). x && y) (has-at a i d l) (has-at b i d l)))
+
+-- in the first k words
+pub size-first : (a b : List ℕ) (k : ℕ) → size (both (take k a) (take k b)) (k * 64) ≡ size (both a b) (k * 64)
+size-first a b k = size-ext (both (take k a) (take k b)) (both a b) (k * 64) (λ m l. ap₂ (λ (x y : Bool). x && y) (has-take a k m l) (has-take b k m l))
 
 -- the ones of the ANDed words are as many as the shared members
 pub ones-both : (a b : List ℕ) (k : ℕ) → ((i : ℕ) → getD b i 0 < 2 ^ 64) → onesBoth a b k ≡ size (both a b) (k * 64)

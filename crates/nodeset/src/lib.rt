@@ -6,7 +6,9 @@
 //   union_into, intersect_into, subtract_into
 //                         the first set becomes the union, the intersection, the difference of the two
 //   count_both            how many numbers below 1,024 are in both sets
-//   next_member           the least member from a number on and below n, n where there is none
+//   next_member, next_shared, next_outside
+//                         the least number from a number on and below n that is in the set, in both sets, in the first alone;
+//                         n where there is none
 //   load, store           the first sixteen words as a node set, and a node set over the first sixteen words
 //
 // Operations on a node set, sixteen words by value:
@@ -15,7 +17,7 @@
 //   test, with            n is in the set; the set with n
 //   union, intersection, difference, count
 ghost use mathlib.Core.Path.{_≡_};
-ghost use mathlib.Core.Bool.{false};
+ghost use mathlib.Core.Bool.{false, not, _&&_};
 ghost use Prim.Native.Nat.{ℕ, _+_, _*_, _≤_, _<_};
 ghost use lib.ListN.{getD, set};
 ghost use lib.Dec.{ltb};
@@ -129,7 +131,7 @@ fn ones_of_four(a: &[u64], b: &[u64], i: usize) -> usize
 }
 
 // How many numbers below 1,024 are in both sets: the ones of sixteen ANDed words.
-pub fn count_both(a: &[u64], b: &[u64]) -> usize
+fn count_words(a: &[u64], b: &[u64]) -> usize
     ensures { λ r. ⌜ r ≡ size (both (now (a .entry)) (now (b .entry))) 1024 ⌝ }
 {
     let mut total: usize = 0;
@@ -139,13 +141,24 @@ pub fn count_both(a: &[u64], b: &[u64]) -> usize
     total
 }
 
-// The least member from a number on and below n, n where there is none. Words with no member left cost one step each.
-pub fn next_member(words: &[u64], from: usize, n: usize) -> usize
-    ensures { λ r. ⌜ r ≡ nextFrom (has (now (words .entry))) from n ⌝ }
+// The same. Of sixteen words that are known to be there none is looked for past the end.
+pub fn count_both(a: &[u64], b: &[u64]) -> usize
+    ensures { λ r. ⌜ r ≡ size (both (now (a .entry)) (now (b .entry))) 1024 ⌝ }
+{
+    if (16 <= a.len()) & (16 <= b.len()) {
+        return count_words(&a[..16], &b[..16]);
+    }
+    count_words(a, b)
+}
+
+// The least number from a number on and below n that the operation keeps, n where there is none. Words of which it keeps no more
+// cost one step each.
+fn next_kept(a: &[u64], b: &[u64], op: Operation, from: usize, n: usize) -> usize
+    ensures { λ r. ⌜ r ≡ nextFrom (λ m. keeps op (has (now (a .entry)) m) (has (now (b .entry)) m)) from n ⌝ }
 {
     let mut at = from;
     while at < n {
-        let rest = word(words, at / 64) >> (at % 64);
+        let rest = combined(op, word(a, at / 64), word(b, at / 64)) >> (at % 64);
         let left = n - at;
         if 0 < rest {
             let skip = u64::trailing_zeros(rest) as usize;
@@ -161,6 +174,26 @@ pub fn next_member(words: &[u64], from: usize, n: usize) -> usize
         at += step;
     }
     n
+}
+
+// The least member from a number on and below n, n where there is none.
+pub fn next_member(words: &[u64], from: usize, n: usize) -> usize
+    ensures { λ r. ⌜ r ≡ nextFrom (has (now (words .entry))) from n ⌝ }
+{
+    next_kept(words, words, Operation::Union, from, n)
+}
+
+// The same of the numbers that are in both sets; in the first alone.
+pub fn next_shared(a: &[u64], b: &[u64], from: usize, n: usize) -> usize
+    ensures { λ r. ⌜ r ≡ nextFrom (λ m. has (now (a .entry)) m && has (now (b .entry)) m) from n ⌝ }
+{
+    next_kept(a, b, Operation::Intersection, from, n)
+}
+
+pub fn next_outside(a: &[u64], b: &[u64], from: usize, n: usize) -> usize
+    ensures { λ r. ⌜ r ≡ nextFrom (λ m. has (now (a .entry)) m && not (has (now (b .entry)) m)) from n ⌝ }
+{
+    next_kept(a, b, Operation::Difference, from, n)
 }
 
 // A set of nodes: sixteen words.

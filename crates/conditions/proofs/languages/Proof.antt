@@ -1,6 +1,6 @@
 use mathlib.Core.Path.{_∙_}
 use denote.Ref.{now}
-use Rattle.conditions.proofs.Pairs.{all-langs}
+use Rattle.conditions.proofs.Langs.{all-langs}
 use borrow.Author.Needs.{needs}
 use Rattle.conditions.proofs.languages.Statement.{statement}
 use Rattle.conditions.proofs.languages.Tie as tie

@@ -1,12 +1,11 @@
 -- `pair_holds` meets its contract, by what is asked of the pair.
 use mathlib.Core.Path.{sym, ap, _∙_}
-use mathlib.Core.Bool.{not, _&&_}
-use lib.Dec.{eqb}
+use mathlib.Core.Bool.{_&&_}
 use lib.Signed.{ltZ, leZ}
 use Rattle.conditions.specs.declared.Pair.{Pair}
 use Rattle.tables.specs.Decode.{termAt}
 use Rattle.conditions.specs.Pairs.{pairOk}
-use Rattle.conditions.proofs.Terms.{less-test, lesseq-test, lang-test, read-back}
+use Rattle.conditions.proofs.Terms.{less-test, lesseq-test, read-back}
 use borrow.Author.Needs.{needs}
 use Rattle.conditions.proofs.pair_holds.Statement.{statement}
 use Rattle.conditions.proofs.pair_holds.Tie as tie
@@ -41,21 +40,6 @@ number-requires-3 c κs = search needs
 number-requires-4 : tie.Need-number-requires-4
 number-requires-4 c κs = search needs
 
-enum-told-3 : tie.Need-enum-told-3
-enum-told-3 c = search needs
-
-has-language-requires : tie.Need-has-language-requires
-has-language-requires c κs = search needs
-
-has-language-requires-2 : tie.Need-has-language-requires-2
-has-language-requires-2 c κs = search needs
-
-node-lang-requires : tie.Need-node-lang-requires
-node-lang-requires c κs = search needs
-
-node-lang-requires-2 : tie.Need-node-lang-requires-2
-node-lang-requires-2 c κs = search needs
-
 returns : tie.Need-returns
 unfolding pairOk
 returns c =
@@ -72,14 +56,6 @@ returns-2 c =
     let vs = a .values .now in
     (λ i. c .before .before .before .has-number3 .ensures i && (c .before .before .has-number4 .ensures i && leZ (read-back (c .before .number3 .result) (c .before .number3 .ok) (c .before .number3 .ensures) i) (read-back (c .number4 .result) (c .number4 .ok) (c .number4 .ensures) i))) ∙ lesseq-test cs vs (a .x) (a .y) (c .before .before .before .before .before .before .before .pre .0) (c .before .before .before .before .before .before .before .pre .1) ∙ ap (λ (p : Pair). pairOk p (termAt cs vs (a .x)) (termAt cs vs (a .y))) (sym (c .before .before .before .before .enum-told2 .given .1))
 
-returns-3 : tie.Need-returns-3
-unfolding pairOk
-returns-3 c =
-    let a = c .before .before .before .before .before .before .before .args in
-    let cs = a .cells .now in
-    let vs = a .values .now in
-    ap not ((λ i. c .before .before .before .has-language .ensures i && (c .before .before .has-language2 .ensures i && eqb (c .before .node-lang .ensures i) (c .node-lang2 .ensures i))) ∙ lang-test cs vs (a .x) (a .y) (c .before .before .before .before .before .before .before .pre .0) (c .before .before .before .before .before .before .before .pre .1)) ∙ ap (λ (p : Pair). pairOk p (termAt cs vs (a .x)) (termAt cs vs (a .y))) (sym (c .before .before .before .before .enum-told3 .given .1))
-
 pub pair-holds-spec : {M : Type 1} → statement M
 pair-holds-spec =
     tie.close
@@ -94,11 +70,5 @@ pair-holds-spec =
     has-number-requires-4
     number-requires-3
     number-requires-4
-    enum-told-3
-    has-language-requires
-    has-language-requires-2
-    node-lang-requires
-    node-lang-requires-2
     returns
-    returns-2
-    returns-3)
+    returns-2)

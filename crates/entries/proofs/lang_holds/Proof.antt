@@ -40,7 +40,7 @@ returns c =
     let a = c .before .before .before .before .before .before .before .before .args in
     let cs = a .cells .now in
     let p = c .before .before .before .before .before .before .before .before .pre in
-    c .onelang-holds .ensures ∙ set-lang cs (a .values .now) (a .e) (a .v) (p .0) (c .before .before .before .ends-of .ensures ∙ ap (λ (i : ℕ). wordsOf (ends (nodeCount cs) (triplesAt cs) (pathAt cs i) (a .v)) 16) (c .before .before .before .before .wide .ensures ∙ c .before .before .before .before .before .form-first .ensures)) (p .1)
+    c .onelang-holds .ensures (a .values .now) ∙ set-lang cs (a .values .now) (a .e) (a .v) (p .0) (c .before .before .before .ends-of .ensures ∙ ap (λ (i : ℕ). wordsOf (ends (nodeCount cs) (triplesAt cs) (pathAt cs i) (a .v)) 16) (c .before .before .before .before .wide .ensures ∙ c .before .before .before .before .before .form-first .ensures)) (p .1)
 
 pub lang-holds-spec : {M : Type 1} → statement M
 lang-holds-spec =

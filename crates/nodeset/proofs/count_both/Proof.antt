@@ -1,64 +1,48 @@
--- `count_both` meets its contract. The invariant: the total is the ones of the first 4 * i words; and these are the shared members.
-use Prim.Native.Nat.{ℕ, _≤_, _-_, _+_, _*_}
-use mathlib.Core.Path.{_≡_, refl, ap, _∙_}
-use native.Mathlib.Omega.{arith}
+-- `count_both` meets its contract: only the first sixteen words count.
+use Prim.Native.Nat.{_≤_}
+use mathlib.Core.Path.{sym, _∙_}
+use lib.Dec.{leb}
+use lib.ListN.{length}
+use lib.Seq.{length-take-le}
 use borrow.Author.Needs.{needs}
-use Rattle.nodeset.specs.Words.{onesBoth}
-use Rattle.nodeset.proofs.Sets.{ones-both, onesBoth-le}
+use borrow.Author.Tests.{leb-true}
+use Rattle.base.proofs.Bools.{and-left, and-right}
+use Rattle.nodeset.proofs.Sets.{size-first}
 use Rattle.nodeset.proofs.count_both.Statement.{statement}
 use Rattle.nodeset.proofs.count_both.Tie as tie
 
-abbrev Inv-loop : tie.InvT-loop
-Inv-loop a b total₀ i₀ total i = (i ≤ 4) × (total ≡ onesBoth a b (4 * i))
+-- both have sixteen words
+long : (c : tie.Then1) → (16 ≤ length (c .before .before .before .args .a .now)) × (16 ≤ length (c .before .before .before .args .b .now))
+long c =
+    let m = length (c .before .before .before .args .a .now) in
+    let n = length (c .before .before .before .args .b .now) in
+    (leb-true 16 m (and-left (leb 16 m) (leb 16 n) (c .if1 .taken)), leb-true 16 n (and-right (leb 16 m) (leb 16 n) (c .if1 .taken)))
 
-abbrev μ-loop : tie.MeasureT-loop
-μ-loop a b total₀ i₀ total i = 4 - i
+slice-aggregate-count-words : tie.Need-slice-aggregate-count-words
+slice-aggregate-count-words c = sym (length-take-le 16 (c .before .before .before .before .args .a .now) (long (c .before) .0))
 
--- the words counted, four words more, and how many ones that can be
-grown : (c : tie.After-ones-of-four Inv-loop μ-loop) → c .before .before .loop .total + c .ones-of-four .result ≡ onesBoth (c .before .before .before .before .before .args .a .now) (c .before .before .before .before .before .args .b .now) (4 * (c .before .before .loop .i + 1))
-grown c =
-    let a = c .before .before .before .before .before .args in
-    ap (λ (x : ℕ). x + c .ones-of-four .result) (c .before .before .loop .inv .1) ∙ c .ones-of-four .ensures ∙ ap (onesBoth (a .a .now) (a .b .now)) (let z : 4 * c .before .before .loop .i + 4 ≡ 4 * (c .before .before .loop .i + 1) = omega arith in z)
+slice-aggregate-count-words-2 : tie.Need-slice-aggregate-count-words-2
+slice-aggregate-count-words-2 c = sym (length-take-le 16 (c .before .before .before .before .before .args .b .now) (long (c .before .before) .1))
 
-loop-holds : tie.Need-loop-holds Inv-loop μ-loop
-unfolding onesBoth
-loop-holds c = (search needs, refl)
+count-words-requires : tie.Need-count-words-requires
+count-words-requires c κs = search needs
 
-mul-ones-of-four : tie.Need-mul-ones-of-four Inv-loop μ-loop
-mul-ones-of-four c = search needs
+returns : tie.Need-returns
+returns c = let a = c .before .before .before .before .before .before .args in c .count-words .ensures ∙ size-first (a .a .now) (a .b .now) 16
 
-ones-of-four-requires : tie.Need-ones-of-four-requires Inv-loop μ-loop
-ones-of-four-requires c κs = omega (arith, c .loop-test .taken)
+count-words-requires-2 : tie.Need-count-words-requires-2
+count-words-requires-2 c κs = search needs
 
-add-total : tie.Need-add-total Inv-loop μ-loop
-add-total c = omega (arith, grown c, c .before .loop-test .taken, onesBoth-le (c .before .before .before .before .before .args .a .now) (c .before .before .before .before .before .args .b .now) (4 * (c .before .before .loop .i + 1)) (λ i. c .before .before .before .shared-slice-known2 .given i .fits))
-
-add-i : tie.Need-add-i Inv-loop μ-loop
-add-i c = search needs
-
-loop-less : tie.Need-loop-less Inv-loop μ-loop
-loop-less c = search needs
-
-loop-again : tie.Need-loop-again Inv-loop μ-loop
-loop-again c = (search needs, grown c)
-
-returns : tie.Need-returns Inv-loop μ-loop
-returns c =
-    let a = c .before .before .before .before .args in
-    let e : 4 * c .before .loop .i ≡ 16 = omega (arith, c .before .loop .inv .0, c .loop-test .left) in
-    c .before .loop .inv .1 ∙ ap (onesBoth (a .a .now) (a .b .now)) e ∙ ones-both (a .a .now) (a .b .now) 16 (λ i. c .before .before .shared-slice-known2 .given i .fits)
+returns-2 : tie.Need-returns-2
+returns-2 c = search needs
 
 pub count-both-spec : {M : Type 1} → statement M
 count-both-spec =
     tie.close
     (tie.spec
-    Inv-loop
-    μ-loop
-    loop-holds
-    mul-ones-of-four
-    ones-of-four-requires
-    add-total
-    add-i
-    loop-less
-    loop-again
-    returns)
+    slice-aggregate-count-words
+    slice-aggregate-count-words-2
+    count-words-requires
+    returns
+    count-words-requires-2
+    returns-2)
