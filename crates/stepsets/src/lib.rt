@@ -1,4 +1,5 @@
-// The sets of nodes that the steps of a plan mean, each as sixteen words.
+// The nodes of which a condition holds, as sixteen words: the sets that the steps of a plan mean. The verdict asks for them where
+// many nodes are open.
 //
 // For the crate above, which shows that the tables and the step are well formed:
 //   nodes_where   the nodes of which a condition holds, or the contrary: one loop for all conditions

@@ -22,10 +22,19 @@ use Rattle.tables.specs.WellFormed.{entryOk}
 use Rattle.conditions.specs.Pairs.{onlyListed}
 use Rattle.entries.specs.Tables.{Asked}
 use Rattle.entries.proofs.Codes.{entryBy, right-by, conforms-by, nodes-le, sound-of}
-use Rattle.verdict.specs.Memo.{yesPlace}
+use Rattle.verdict.specs.Memo.{yesPlace, Ready}
 use Rattle.verdict.specs.Parts.{endsCode, partsCode, firstBy, secondBy, hasParts, firstPart, secondPart, looksAt, Enough}
 use Rattle.verdict.proofs.Memo.{known-right}
 use Rattle.verdict.proofs.Parts.{first-by, second-by, parts-by, looks-here, looks-along, parts-lower}
+
+-- there are no more codes
+pub code-le : {cs index : List ℕ} {vs : List ℤ} {memo : List ℕ} {e : ℕ} → Ready cs index vs memo e → formCodeAt cs e ≤ 20
+unfolding entryOf entryOk
+code-le {cs} {index} {vs} {memo} {e} r = bool-cases (λ b. leb (formCodeAt cs e) 20 ≡ b → formCodeAt cs e ≤ 20) (leb (formCodeAt cs e) 20) (λ _ h. leb-true (formCodeAt cs e) 20 h)
+    (λ _ h. absurd (never-both (right-by cs (r .tables) vs e (r .entry) (formCodeAt cs e) refl) (ap (entryOk cs e) (bad (formCodeAt cs e) (leb-false (formCodeAt cs e) 20 h))))) refl
+  where
+    bad : (n : ℕ) → 21 ≤ n → entryBy cs (r .tables) vs e (r .entry) n ≡ Entry.bad
+    bad n h = rw List·getD-eq-default
 
 module _ {cs index : List ℕ} {vs : List ℤ} {memo : List ℕ} {e v : ℕ} (k : Enough cs index vs memo e v) where
   pub asked-of : Asked cs index e v
@@ -47,14 +56,6 @@ module _ {cs index : List ℕ} {vs : List ℤ} {memo : List ℕ} {e v : ℕ} (k 
   -- what it says, by its code
   means : (n : ℕ) → formCodeAt cs e ≡ n → conforms (graphAt cs vs) (shapeOf cs (by n) (shapeAt cs vs)) v ≡ holds
   means n q = conforms-by cs (k .ready .tables) vs e (k .ready .entry) n q v
-
-  pub code-le : formCodeAt cs e ≤ 20
-  unfolding entryOf entryOk
-  code-le = bool-cases (λ b. leb (formCodeAt cs e) 20 ≡ b → formCodeAt cs e ≤ 20) (leb (formCodeAt cs e) 20) (λ _ h. leb-true (formCodeAt cs e) 20 h)
-      (λ _ h. absurd (never-both (right-by cs (k .ready .tables) vs e (k .ready .entry) (formCodeAt cs e) refl) (ap (entryOk cs e) (bad (formCodeAt cs e) (leb-false (formCodeAt cs e) 20 h))))) refl
-    where
-      bad : (n : ℕ) → 21 ≤ n → by n ≡ Entry.bad
-      bad n h = rw List·getD-eq-default
 
   -- ---- entries without parts
   pub holds-top : formCodeAt cs e ≡ 0 → true ≡ holds

@@ -1,6 +1,7 @@
 pub mod Memo
 pub mod Parts
 pub mod Holds
+pub mod Along
 pub mod Settling
 pub mod Answers
 pub mod Books

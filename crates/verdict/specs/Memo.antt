@@ -36,6 +36,10 @@ pub record Ready (cs index : List ℕ) (vs : List ℤ) (memo : List ℕ) (e : �
   pub right : Right cs vs memo
   pub entry : e < formCount cs
 
+-- a set has, of the nodes of another, those that conform to e
+abbrev pub Decided : List ℕ → List ℤ → ℕ → List ℕ → List ℕ → Type 0
+Decided cs vs e nodes set = (v : ℕ) → v < nodeCount cs → has nodes v ≡ true → has set v ≡ conforms (graphAt cs vs) (shapeAt cs vs e) v
+
 -- afterwards nothing that was known is lost, and the verdict on e is known of all nodes of a set
 pub record Settled (cs : List ℕ) (vs : List ℤ) (before after : List ℕ) (e : ℕ) (nodes : List ℕ) : Type 0 where
   pub right : Right cs vs after

@@ -6,9 +6,11 @@ use mathlib.Core.Bool.{Bool, true, cond, _&&_, _||_}
 use mathlib.Core.Path.{_≡_}
 use lib.Dec.{eqb, leb}
 use lib.IntN.{ℤ}
+use Rattle.nodeset.specs.Words.{has}
 use Rattle.model.specs.Paths.{ends}
+use Rattle.model.specs.Shapes.{conforms}
 use Rattle.tables.specs.Layout.{nodeCount, formCodeAt, formFirstAt, formSecondAt, rootAt}
-use Rattle.tables.specs.Decode.{triplesAt, pathAt}
+use Rattle.tables.specs.Decode.{triplesAt, graphAt, pathAt, shapeAt}
 use Rattle.verdict.specs.Memo.{settled, Ready}
 
 -- by code: `count` and `all`; these and `shape`, `and`, `or`, `not`
@@ -45,6 +47,10 @@ module _ (cs : List ℕ) (e : ℕ) where
   -- wherever it looks, the verdict on the parts is known
   abbrev pub PartsKnown : List ℕ → ℕ → Type 0
   PartsKnown memo v = hasParts ≡ true → (w : ℕ) → w < nodeCount cs → looksAt v w ≡ true → (settled memo firstPart w ≡ true) × (settled memo secondPart w ≡ true)
+
+-- a set has the nodes that conform to entry e, of those where what is known is enough to tell
+abbrev pub Tells : List ℕ → List ℤ → List ℕ → ℕ → List ℕ → Type 0
+Tells cs vs memo e set = (v : ℕ) → v < nodeCount cs → PartsKnown cs e memo v → has set v ≡ conforms (graphAt cs vs) (shapeAt cs vs e) v
 
 -- what is known is enough to tell whether node v conforms to entry e
 pub record Enough (cs index : List ℕ) (vs : List ℤ) (memo : List ℕ) (e v : ℕ) : Type 0 where

@@ -3,9 +3,10 @@
 // Operations: verdict. It answers for any tables and numbers, with refusal 8, 9 or 10 where document 01 asks for one.
 //
 // No pair of a form entry and a node is decided twice: settle calls itself on entries before its own, for sets of nodes, and
-// what is known is kept. Of entry e, the nodes that conform stand from word 32 * e of the memo on, and those that do not from
-// word 32 * e + 16 on.
+// what is known is kept. Few nodes are decided one by one, each from its own ends; many from the ends of all nodes at once. Of
+// entry e, the nodes that conform stand from word 32 * e of the memo on, and those that do not from word 32 * e + 16 on.
 use conditions::closed_holds;
+use conditions::insert_if;
 use conditions::test_holds;
 use entries::all_holds;
 use entries::count_holds;
@@ -22,12 +23,20 @@ use paths::End;
 use paths::INDEX_CELLS;
 use paths::index_table;
 use paths::pick;
+use stepsets::Ask;
+use stepsets::NO_END;
+use stepsets::ends_set;
+use stepsets::lang_set;
+use stepsets::path_set;
 use tables::layout::CELLS;
 use tables::layout::VALUES;
 use tables::reads::form_code;
 use tables::reads::form_first;
+use tables::reads::form_fourth;
+use tables::reads::form_link;
 use tables::reads::form_node;
 use tables::reads::form_second;
+use tables::reads::form_third;
 use tables::reads::node_count;
 use tables::reads::root;
 use tables::reads::shape_count;
@@ -40,13 +49,14 @@ ghost use lib.ListN.{length};
 ghost use Rattle.base.specs.Bounded.{every};
 ghost use Rattle.nodeset.specs.Words.{has, wordsOf, with};
 ghost use Rattle.model.specs.Shapes.{conforms};
-ghost use Rattle.tables.specs.Layout.{cellCount, nodeCount, formCount};
+ghost use Rattle.tables.specs.Layout.{cellCount, nodeCount, formCount, formCodeAt};
 ghost use Rattle.tables.specs.Decode.{graphAt, shapeAt};
 ghost use Rattle.tables.specs.WellFormed.{wellFormed};
 ghost use Rattle.paths.specs.Facts.{Tables};
+ghost use Rattle.stepsets.specs.Ends.{Held};
 ghost use Rattle.verdict.specs.Answers.{decisionOf, judgedOn, judged, isGiven, tallied};
-ghost use Rattle.verdict.specs.Memo.{yesPlace, noPlace, Ready, Settled};
-ghost use Rattle.verdict.specs.Parts.{looksAtEnds, hasParts, firstPart, secondPart, looksAt, PartsKnown, Enough};
+ghost use Rattle.verdict.specs.Memo.{yesPlace, noPlace, Ready, Decided, Settled};
+ghost use Rattle.verdict.specs.Parts.{looksAtEnds, hasParts, firstPart, secondPart, looksAt, PartsKnown, Tells, Enough};
 
 // Node v is known to conform to entry e.
 fn known(memo: &[u64], e: usize, v: usize) -> bool
@@ -170,17 +180,117 @@ fn entry_holds(
     }
 }
 
+// The nodes that conform to entry e, which looks along a path, all at once. Of a node where what is known of the parts is not
+// enough nothing is said. f and s are rows for the ends of all nodes, of the numbers x and y.
+fn set_of_rows(
+    f: &mut [u64],
+    x: &mut usize,
+    s: &mut [u64],
+    y: &mut usize,
+    memo: &[u64],
+    cells: &[u16],
+    index: &[u16],
+    values: &[i64],
+    e: usize,
+) -> NodeSet
+    requires { ⌜ Ready (now cells) (now index) (now values) (now memo) e × (13 ≤ formCodeAt (now cells) e) × (formCodeAt (now cells) e ≡ 17 → ⊥) × Held (now cells) (now x) (now f) × Held (now cells) (now y) (now s) ⌝ }
+    ensures { λ r. ⌜ Tells (now (cells .entry)) (now (values .entry)) (now (memo .entry)) e (r .words) ⌝ }
+{
+    let p = wide(form_first(cells, e));
+    let l = form_link(cells, e);
+    let count = Ask::Count(wide(form_third(cells, e)), wide(form_fourth(cells, e)));
+    let j = 2 * wide(form_second(cells, e));
+    match form_code(cells, e) {
+        13 => path_set(f, x, count, false, cells, index, values, p, memo, j),
+        14 => path_set(f, x, Ask::Every, false, cells, index, values, p, memo, j),
+        15 => ends_set(f, x, s, y, Ask::Equal, false, cells, index, values, p, l),
+        16 => ends_set(f, x, s, y, Ask::Apart, false, cells, index, values, p, l),
+        18 => ends_set(f, x, s, y, Ask::Less, false, cells, index, values, p, l),
+        19 => ends_set(f, x, s, y, Ask::LessEq, false, cells, index, values, p, l),
+        _ => lang_set(f, x, false, cells, index, values, p),
+    }
+}
+
+// The same, with rows of its own.
+fn set_along(memo: &[u64], cells: &[u16], index: &[u16], values: &[i64], e: usize) -> NodeSet
+    requires { ⌜ Ready (now cells) (now index) (now values) (now memo) e × (13 ≤ formCodeAt (now cells) e) × (formCodeAt (now cells) e ≡ 17 → ⊥) ⌝ }
+    ensures { λ r. ⌜ Tells (now (cells .entry)) (now (values .entry)) (now (memo .entry)) e (r .words) ⌝ }
+{
+    let mut f = [0u64; 16384];
+    let mut s = [0u64; 16384];
+    let mut x = NO_END;
+    let mut y = NO_END;
+    set_of_rows(
+        &mut f,
+        &mut x,
+        &mut s,
+        &mut y,
+        memo,
+        cells,
+        index,
+        values,
+        e,
+    )
+}
+
+// The same among the nodes of a set, one by one.
+fn set_among(
+    memo: &[u64],
+    cells: &[u16],
+    index: &[u16],
+    values: &[i64],
+    e: usize,
+    nodes: NodeSet,
+) -> NodeSet
+    requires { ⌜ Ready (now cells) (now index) (now values) (now memo) e × ((v : ℕ) → v < nodeCount (now cells) → has (nodes .words) v ≡ true → PartsKnown (now cells) e (now memo) v) ⌝ }
+    ensures { λ r. ⌜ Decided (now (cells .entry)) (now (values .entry)) e (nodes .words) (r .words) ⌝ }
+{
+    let n = node_count(cells);
+    let among = nodes.words;
+    let mut words = [0u64; 16];
+    let mut v = next_member(&among, 0, n);
+    while v < n {
+        let yes = entry_holds(memo, cells, index, values, e, v);
+        insert_if(&mut words, v, yes);
+        v = next_member(&among, v + 1, n);
+    }
+    NodeSet { words }
+}
+
+// The same. Where many nodes are asked about, the ends of all nodes at once cost less than the ends of each.
+fn decide(
+    memo: &[u64],
+    cells: &[u16],
+    index: &[u16],
+    values: &[i64],
+    e: usize,
+    nodes: NodeSet,
+) -> NodeSet
+    requires { ⌜ Ready (now cells) (now index) (now values) (now memo) e × ((v : ℕ) → v < nodeCount (now cells) → has (nodes .words) v ≡ true → PartsKnown (now cells) e (now memo) v) ⌝ }
+    ensures { λ r. ⌜ Decided (now (cells .entry)) (now (values .entry)) e (nodes .words) (r .words) ⌝ }
+{
+    let code = form_code(cells, e);
+    if code < 13 {
+        return set_among(memo, cells, index, values, e, nodes);
+    }
+    if (code == 17) | (nodes.count() <= 16) {
+        return set_among(memo, cells, index, values, e, nodes);
+    }
+    set_along(memo, cells, index, values, e)
+}
+
 // Entry e is decided at each of the nodes.
 fn fill(memo: &mut [u64], e: usize, nodes: NodeSet, cells: &[u16], index: &[u16], values: &[i64])
     requires { ⌜ Ready (now cells) (now index) (now values) (now memo) e × ((v : ℕ) → v < nodeCount (now cells) → has (nodes .words) v ≡ true → PartsKnown (now cells) e (now memo) v) ⌝ }
     ensures { λ _. ⌜ Settled (now (cells .entry)) (now (values .entry)) (now (memo .entry)) (now (memo .exit)) e (nodes .words) ⌝ }
 {
+    let set = decide(memo, cells, index, values, e, nodes);
+    let yes = set.words;
     let words = nodes.words;
     let n = node_count(cells);
     let mut v = next_member(&words, 0, n);
     while v < n {
-        let yes = entry_holds(memo, cells, index, values, e, v);
-        remember(memo, e, v, yes);
+        remember(memo, e, v, test(&yes, v));
         v = next_member(&words, v + 1, n);
     }
 }

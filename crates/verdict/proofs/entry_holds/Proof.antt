@@ -86,7 +86,7 @@ sets-hold-requires c κs =
     let n14 : k ≡ 14 → ⊥ = c .before .match .rest .0 .0 .1 in
     let n17 : k ≡ 17 → ⊥ = c .before .match .rest .0 .1 in
     let n20 : k ≡ 20 → ⊥ = c .before .match .rest .1 in
-    (asked-of (c .before .before .before .before .before .before .before .before .pre), omega (arith, c .if1 .left, q), omega (arith, code-le (c .before .before .before .before .before .before .before .before .pre), q), λ h. n17 (q ∙ h))
+    (asked-of (c .before .before .before .before .before .before .before .before .pre), omega (arith, c .if1 .left, q), omega (arith, code-le (c .before .before .before .before .before .before .before .before .pre .ready), q), λ h. n17 (q ∙ h))
 
 returns : tie.Need-returns
 returns c = holds-top (c .before .before .before .before .before .before .before .pre) (sym (c .before .form-code .ensures) ∙ c .match .keys1)

@@ -1,22 +1,25 @@
 -- `fill` meets its contract. The invariant: all nodes before v are settled, and nothing that was known is lost.
-use mathlib.Core.Path.{sym, _∙_}
+use mathlib.Core.Path.{_≡_, sym, _∙_}
 use Prim.Native.Nat.{_-_, _<_}
 use native.Mathlib.Omega.{arith}
+use lib.ListN.{length}
 use borrow.Author.Needs.{needs}
 use Rattle.nodeset.specs.Words.{has}
 use Rattle.tables.specs.Layout.{nodeCount}
 use Rattle.conditions.proofs.Members.{next-after}
 use Rattle.entries.proofs.Codes.{nodes-le}
-use Rattle.verdict.proofs.Parts.{parts-grow}
 use Rattle.verdict.proofs.Settling.{Filling, filling-none, filling-more, filling-all, entry-lt}
 use Rattle.verdict.proofs.fill.Statement.{statement}
 use Rattle.verdict.proofs.fill.Tie as tie
 
 abbrev Inv-loop : tie.InvT-loop
-Inv-loop memo₀ e cells index values words n v₀ memo v = Filling cells values memo₀ memo e words n v
+Inv-loop memo₀ e cells index values set words n v₀ memo v = (16 ≡ length words) × Filling cells values memo₀ memo e words n v
 
 abbrev μ-loop : tie.MeasureT-loop
-μ-loop memo₀ e cells index values words n v₀ memo v = n - v
+μ-loop memo₀ e cells index values set words n v₀ memo v = n - v
+
+decide-requires : tie.Need-decide-requires Inv-loop μ-loop
+decide-requires c κs = c .before .before .before .before .pre
 
 node-count-requires : tie.Need-node-count-requires Inv-loop μ-loop
 node-count-requires c κs = search needs
@@ -28,28 +31,21 @@ next-member-requires : tie.Need-next-member-requires Inv-loop μ-loop
 next-member-requires c κs = search needs
 
 loop-holds : tie.Need-loop-holds Inv-loop μ-loop
-loop-holds c = filling-none (c .before .before .before .before .before .before .before .pre .0) (c .before .before .node-count .ensures) (c .next-member .ensures)
+loop-holds c = (slice-aggregate-next-member (c .before), filling-none (c .before .before .before .before .before .before .before .before .before .before .pre .0) (c .before .before .node-count .ensures) (c .next-member .ensures))
 
-entry-holds-requires : tie.Need-entry-holds-requires Inv-loop μ-loop
-entry-holds-requires c κs =
-    let a = c .before .before .before .before .before .before .before .before .before .before .args in
-    let p = c .before .before .before .before .before .before .before .before .before .before .pre in
-    let t = c .before .before .loop in
-    let l : t .v < nodeCount (a .cells .now) = omega (arith, c .before .loop-test, t .inv .count) in
-    record {
-      ready = record { tables = p .0 .tables; size = t .inv .size; right = t .inv .right; entry = p .0 .entry };
-      node = l;
-      parts = parts-grow (a .cells .now) (a .e) (a .memo .now) (t .memo) (t .v) (t .inv .grows) (p .1 (t .v) l (t .inv .passed .hit (omega (arith, c .before .loop-test))));
-    }
+slice-aggregate-test : tie.Need-slice-aggregate-test Inv-loop μ-loop
+slice-aggregate-test c = search needs
+
+test-requires : tie.Need-test-requires Inv-loop μ-loop
+test-requires c κs = search needs
 
 remember-requires : tie.Need-remember-requires Inv-loop μ-loop
 remember-requires c κs =
-    let a = c .before .before .before .before .before .before .before .before .before .before .before .before .args in
-    let r = c .before .before .before .before .before .before .before .before .before .before .before .before .pre .0 in
-    (entry-lt r, omega (arith, c .before .before .before .loop-test, c .before .before .before .before .loop .inv .count, nodes-le (a .cells .now) (r .tables)))
+    let r = c .before .before .before .before .before .before .before .before .before .before .before .before .before .before .before .pre .0 in
+    (entry-lt r, omega (arith, c .before .before .before .loop-test, c .before .before .before .before .loop .inv .1 .count, nodes-le (c .before .before .before .before .before .before .before .before .before .before .before .before .before .before .before .args .cells .now) (r .tables)))
 
 slice-aggregate-next-member-2 : tie.Need-slice-aggregate-next-member-2 Inv-loop μ-loop
-slice-aggregate-next-member-2 c = search needs
+slice-aggregate-next-member-2 c = c .before .before .before .before .before .before .before .before .loop .inv .0
 
 add-next-member : tie.Need-add-next-member Inv-loop μ-loop
 add-next-member c = search needs
@@ -58,20 +54,20 @@ next-member-requires-2 : tie.Need-next-member-requires-2 Inv-loop μ-loop
 next-member-requires-2 c κs = search needs
 
 loop-less : tie.Need-loop-less Inv-loop μ-loop
-loop-less c =
-    let t = c .before .before .before .before .before .before .before .before .before .loop in
-    omega (arith, next-after (has (c .before .before .before .before .before .before .before .before .before .before .before .before .before .before .before .before .before .args .nodes .words)) {x = t .v} (omega (arith, c .before .before .before .before .before .before .before .before .loop-test)) (c .next-member2 .ensures), c .before .before .before .before .before .before .before .before .loop-test)
+loop-less c = omega (arith, next-after (has (c .before .before .before .before .before .before .before .before .before .before .before .before .before .before .before .before .before .before .before .before .args .nodes .words)) {x = c .before .before .before .before .before .before .before .before .before .loop .v} (omega (arith, c .before .before .before .before .before .before .before .before .loop-test)) (c .next-member2 .ensures), c .before .before .before .before .before .before .before .before .loop-test)
 
 loop-again : tie.Need-loop-again Inv-loop μ-loop
 loop-again c =
-    let r = c .before .before .before .before .before .before .before .before .before .before .before .before .before .before .before .before .before .pre .0 in
-    filling-more (c .before .before .before .before .before .before .before .before .before .loop .inv) (r .tables) (entry-lt r) (omega (arith, c .before .before .before .before .before .before .before .before .loop-test)) (c .before .before .before .before .before .before .entry-holds .ensures) (c .before .before .before .before .remember .ensures) (c .before .before .before .before .remember .kept .0) (c .next-member2 .ensures)
+    let r = c .before .before .before .before .before .before .before .before .before .before .before .before .before .before .before .before .before .before .before .before .pre .0 in
+    let t = c .before .before .before .before .before .before .before .before .before .loop in
+    let l : t .v < nodeCount (c .before .before .before .before .before .before .before .before .before .before .before .before .before .before .before .before .before .before .before .before .args .cells .now) = omega (arith, c .before .before .before .before .before .before .before .before .loop-test, t .inv .1 .count) in
+    (t .inv .0, filling-more (t .inv .1) (r .tables) (entry-lt r) (omega (arith, c .before .before .before .before .before .before .before .before .loop-test)) (c .before .before .before .before .before .test .ensures ∙ c .before .before .before .before .before .before .before .before .before .before .before .before .before .before .before .decide .ensures (t .v) l (t .inv .1 .passed .hit (omega (arith, c .before .before .before .before .before .before .before .before .loop-test)))) (c .before .before .before .before .remember .ensures) (c .before .before .before .before .remember .kept .0) (c .next-member2 .ensures))
 
 same-length : tie.Need-same-length Inv-loop μ-loop
-same-length c = c .before .loop .inv .size ∙ sym (c .before .before .before .before .before .before .before .before .before .pre .0 .size)
+same-length c = c .before .loop .inv .1 .size ∙ sym (c .before .before .before .before .before .before .before .before .before .before .before .before .pre .0 .size)
 
 returns : tie.Need-returns Inv-loop μ-loop
-returns c = filling-all (c .before .loop .inv) (omega (arith, c .loop-test))
+returns c = filling-all (c .before .loop .inv .1) (omega (arith, c .loop-test))
 
 pub fill-spec : {M : Type 1} → statement M
 fill-spec =
@@ -79,11 +75,13 @@ fill-spec =
     (tie.spec
     Inv-loop
     μ-loop
+    decide-requires
     node-count-requires
     slice-aggregate-next-member
     next-member-requires
     loop-holds
-    entry-holds-requires
+    slice-aggregate-test
+    test-requires
     remember-requires
     slice-aggregate-next-member-2
     add-next-member

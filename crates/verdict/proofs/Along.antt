@@ -1,0 +1,129 @@
+-- The nodes that conform to an entry that looks along a path, from the sets that are found of all nodes at once.
+use Prim.Native.Nat.{ℕ, _+_, _*_, _-_, _≤_, _<_}
+use mathlib.Core.List.{List}
+use mathlib.Core.Bool.{Bool, true, false, _&&_}
+use mathlib.Core.Path.{_≡_, refl, sym, ap, ap₂, _∙_}
+use native.Mathlib.Omega.{arith}
+use lib.Dec.{ltb}
+use lib.IntN.{ℤ}
+use lib.ListN.{drop}
+use borrow.Author.Tests.{lt-ltb}
+use Rattle.base.specs.Bounded.{_⇒_, every, size}
+use Rattle.base.proofs.Bools.{bool-cases}
+use Rattle.base.proofs.Bounded.{every-ext, size-ext, size-beyond}
+use Rattle.nodeset.specs.Words.{has, wordsOf}
+use Rattle.nodeset.proofs.Sets.{has-of, has-wordsOf, has-drop}
+use Rattle.model.specs.Paths.{End, predicate, along, ends, endsOf}
+use Rattle.model.specs.Shapes.{within, subset, from, objects, starts, conforms}
+use Rattle.tables.specs.Layout.{nodeCount, pathCount, formCodeAt, formFirstAt, formSecondAt, formThirdAt, formFourthAt}
+use Rattle.tables.specs.Entries.{entryOf}
+use Rattle.tables.specs.Decode.{triplesAt, graphAt, pathAt, endAt, upperOf, shapeOf, shapeAt}
+use Rattle.conditions.specs.Pairs.{unlikeLangs}
+use Rattle.entries.proofs.Codes.{conforms-by, nodes-le, less-path, lesseq-path, path-along}
+use Rattle.stepsets.specs.Asks.{nodesOf, orNot, asked}
+use Rattle.stepsets.specs.declared.Ask.{Ask}
+use Rattle.stepsets.specs.declared.Ask.the-variants.{Count, Every, Equal, Apart, Less, LessEq}
+use Rattle.stepsets.proofs.Rows.{ends-low}
+use Rattle.verdict.specs.Memo.{yesPlace, Ready}
+use Rattle.verdict.specs.Parts.{partsCode, firstPart, PartsKnown, Tells, Enough}
+use Rattle.verdict.proofs.Parts.{first-by, parts-by, parts-lower}
+use Rattle.verdict.proofs.Settling.{entry-lt}
+use Rattle.verdict.proofs.Holds.{holds-count, holds-all}
+
+module _ {cs index : List ℕ} {vs : List ℤ} {memo : List ℕ} {e : ℕ} (r : Ready cs index vs memo e) where
+  -- the set of the nodes that have p tells, where p does
+  tells : (p : ℕ → Bool) {ws : List ℕ} → ws ≡ nodesOf p (nodeCount cs) → ((v : ℕ) → v < nodeCount cs → PartsKnown cs e memo v → p v ≡ conforms (graphAt cs vs) (shapeAt cs vs e) v) → Tells cs vs memo e ws
+  unfolding nodesOf
+  tells p ew h v l k = has-of (λ v. ltb v (nodeCount cs) && p v) 16 ew v (omega (arith, nodes-le cs (r .tables))) ∙ ap (λ (b : Bool). b && p v) (lt-ltb v (nodeCount cs) l) ∙ h v l k
+
+  enough : (v : ℕ) → v < nodeCount cs → PartsKnown cs e memo v → Enough cs index vs memo e v
+  enough v l k = record { ready = r; node = l; parts = k }
+
+  -- the word where the part's row begins
+  pub part-room : (n : ℕ) → formCodeAt cs e ≡ n → partsCode n ≡ true → firstPart cs e ≡ formSecondAt cs e → {j : ℕ} → j ≡ 2 * formSecondAt cs e → j < 65536
+  part-room n q h f ej = omega (arith, ej, f, parts-lower cs e (r .tables) (r .entry) (parts-by cs e n q ∙ h) .0, entry-lt r)
+
+  -- ---- `count` and `all`: the part's row of the memo, which begins at word 16 * j
+  module _ (n : ℕ) (q : formCodeAt cs e ≡ n) (f : firstPart cs e ≡ formSecondAt cs e) (j : ℕ) (ej : j ≡ 2 * formSecondAt cs e) where
+    abbrev partRow : List ℕ
+    partRow = wordsOf (λ w. has memo (yesPlace (firstPart cs e) w)) 16
+
+    part-has : (w : ℕ) → w < nodeCount cs → has (drop (16 * j) memo) w ≡ has partRow w
+    part-has w l =
+        let a : ℕ = firstPart cs e in
+        has-drop memo (16 * j) w
+        ∙ ap (has memo) (let z : 16 * j * 64 + w ≡ 32 * a * 64 + w = omega (arith, ej, f) in z)
+        ∙ sym (has-wordsOf (λ w. has memo (yesPlace a w)) 16 w (omega (arith, nodes-le cs (r .tables))))
+
+    module _ (v : ℕ) (l : v < nodeCount cs) where
+      abbrev ended : ℕ → Bool
+      ended w = ends (nodeCount cs) (triplesAt cs) (pathAt cs (formFirstAt cs e)) v w
+
+      none : (w : ℕ) → nodeCount cs ≤ w → (ended w && has (drop (16 * j) memo) w) ≡ false
+      unfolding endsOf
+      none w h = bool-cases (λ t. ended w ≡ t → (t && has (drop (16 * j) memo) w) ≡ false) (ended w) (λ _ k. absurd (omega (arith, ends-low cs index (r .tables) (along (pathAt cs (formFirstAt cs e))) v w l k))) (λ _ k. refl) refl
+
+      part-size : size (λ w. ended w && has (drop (16 * j) memo) w) 1024 ≡ size (λ w. ended w && has partRow w) (nodeCount cs)
+      part-size =
+          ap (size (λ w. ended w && has (drop (16 * j) memo) w)) (let z : 1024 ≡ nodeCount cs + (1024 - nodeCount cs) = omega (arith, nodes-le cs (r .tables)) in z)
+          ∙ size-beyond (λ w. ended w && has (drop (16 * j) memo) w) (nodeCount cs) (1024 - nodeCount cs) none
+          ∙ size-ext (λ w. ended w && has (drop (16 * j) memo) w) (λ w. ended w && has partRow w) (nodeCount cs) (λ w m. ap (λ (b : Bool). ended w && b) (part-has w m))
+
+      part-every : every (λ w. ended w ⇒ has (drop (16 * j) memo) w) (nodeCount cs) ≡ every (λ w. ended w ⇒ has partRow w) (nodeCount cs)
+      part-every = every-ext (λ w. ended w ⇒ has (drop (16 * j) memo) w) (λ w. ended w ⇒ has partRow w) (nodeCount cs) (λ w m. ap (λ (b : Bool). ended w ⇒ b) (part-has w m))
+
+  -- what the code asks of each node, where p, l, lo, hi and j are the operands as it reads them
+  module _ {p : ℕ} (ep : p ≡ formFirstAt cs e) where
+    module _ {j : ℕ} (ej : j ≡ 2 * formSecondAt cs e) where
+      abbrev onPath : Ask → ℕ → Bool
+      onPath ask v = orNot false (asked cs vs ask (from (graphAt cs vs) (pathAt cs p) v) (has (drop (16 * j) memo)) v)
+
+      pub count-tells : {lo hi : ℕ} → lo ≡ formThirdAt cs e → hi ≡ formFourthAt cs e → formCodeAt cs e ≡ 13 → {ws : List ℕ} → ws ≡ nodesOf (onPath (Count lo hi)) (nodeCount cs) → Tells cs vs memo e ws
+      unfolding asked graphAt
+      count-tells {lo} {hi} el eh q ew = tells (onPath (Count lo hi)) ew λ v l k.
+          (λ i. within (el i) (upperOf (eh i)) (size (λ w. ends (nodeCount cs) (triplesAt cs) (pathAt cs (ep i)) v w && has (drop (16 * j) memo) w) 1024))
+          ∙ ap (within (formThirdAt cs e) (upperOf (formFourthAt cs e))) (part-size 13 q (first-by cs e 13 q) j ej v l)
+          ∙ holds-count (enough v l k) (firstPart cs e) refl refl q
+
+      pub all-tells : formCodeAt cs e ≡ 14 → {ws : List ℕ} → ws ≡ nodesOf (onPath Every) (nodeCount cs) → Tells cs vs memo e ws
+      unfolding asked graphAt subset
+      all-tells q ew = tells (onPath Every) ew λ v l k.
+          ap (λ (p : ℕ). every (λ w. ends (nodeCount cs) (triplesAt cs) (pathAt cs p) v w ⇒ has (drop (16 * j) memo) w) (nodeCount cs)) ep
+          ∙ part-every 14 q (first-by cs e 14 q) j ej v l
+          ∙ holds-all (enough v l k) (firstPart cs e) refl refl q
+
+    -- ---- `equal`, `apart`, `less`, `lesseq`: the ends and the objects of link l
+    module _ {l : ℕ} (el : l ≡ formSecondAt cs e) where
+      abbrev onEnds : Ask → ℕ → Bool
+      onEnds ask v = orNot false (asked cs vs ask (starts (graphAt cs vs) (endAt cs p) v) (objects (graphAt cs vs) l v) v)
+
+      -- the same with the operands as the tables have them
+      by-operands : (ask : Ask) (v : ℕ) → onEnds ask v ≡ asked cs vs ask (endsOf (nodeCount cs) (triplesAt cs) (endAt cs (formFirstAt cs e)) v) (ends (nodeCount cs) (triplesAt cs) (predicate (formSecondAt cs e)) v) v
+      unfolding graphAt
+      by-operands ask v = λ i. asked cs vs ask (endsOf (nodeCount cs) (triplesAt cs) (endAt cs (ep i)) v) (ends (nodeCount cs) (triplesAt cs) (predicate (el i)) v) v
+
+      pub equal-tells : formCodeAt cs e ≡ 15 → {ws : List ℕ} → ws ≡ nodesOf (onEnds Equal) (nodeCount cs) → Tells cs vs memo e ws
+      unfolding asked entryOf shapeOf conforms graphAt
+      equal-tells q ew = tells (onEnds Equal) ew (λ v m k. by-operands Equal v ∙ conforms-by cs (r .tables) vs e (r .entry) 15 q v)
+
+      pub apart-tells : formCodeAt cs e ≡ 16 → {ws : List ℕ} → ws ≡ nodesOf (onEnds Apart) (nodeCount cs) → Tells cs vs memo e ws
+      unfolding asked entryOf shapeOf conforms graphAt
+      apart-tells q ew = tells (onEnds Apart) ew (λ v m k. by-operands Apart v ∙ conforms-by cs (r .tables) vs e (r .entry) 16 q v)
+
+      -- where the first operand is a path entry
+      on-path : (ask : Ask) (v : ℕ) → formFirstAt cs e < pathCount cs → onEnds ask v ≡ asked cs vs ask (ends (nodeCount cs) (triplesAt cs) (pathAt cs (formFirstAt cs e)) v) (ends (nodeCount cs) (triplesAt cs) (predicate (formSecondAt cs e)) v) v
+      unfolding endsOf
+      on-path ask v h = by-operands ask v ∙ ap (λ (x : End). asked cs vs ask (endsOf (nodeCount cs) (triplesAt cs) x v) (ends (nodeCount cs) (triplesAt cs) (predicate (formSecondAt cs e)) v) v) (path-along cs (r .tables) vs e (r .entry) h)
+
+      pub less-tells : formCodeAt cs e ≡ 18 → {ws : List ℕ} → ws ≡ nodesOf (onEnds Less) (nodeCount cs) → Tells cs vs memo e ws
+      unfolding asked entryOf shapeOf conforms graphAt
+      less-tells q ew = tells (onEnds Less) ew (λ v m k. on-path Less v (less-path cs (r .tables) vs e (r .entry) q) ∙ conforms-by cs (r .tables) vs e (r .entry) 18 q v)
+
+      pub lesseq-tells : formCodeAt cs e ≡ 19 → {ws : List ℕ} → ws ≡ nodesOf (onEnds LessEq) (nodeCount cs) → Tells cs vs memo e ws
+      unfolding asked entryOf shapeOf conforms graphAt
+      lesseq-tells q ew = tells (onEnds LessEq) ew (λ v m k. on-path LessEq v (lesseq-path cs (r .tables) vs e (r .entry) q) ∙ conforms-by cs (r .tables) vs e (r .entry) 19 q v)
+
+    pub lang-tells : formCodeAt cs e ≡ 20 → {ws : List ℕ} → ws ≡ nodesOf (λ v. orNot false (unlikeLangs cs vs (from (graphAt cs vs) (pathAt cs p) v))) (nodeCount cs) → Tells cs vs memo e ws
+    unfolding entryOf shapeOf conforms graphAt
+    lang-tells q ew = tells (λ v. unlikeLangs cs vs (ends (nodeCount cs) (triplesAt cs) (pathAt cs p) v)) ew (λ v m k.
+        ap (λ (p : ℕ). unlikeLangs cs vs (ends (nodeCount cs) (triplesAt cs) (pathAt cs p) v)) ep ∙ conforms-by cs (r .tables) vs e (r .entry) 20 q v)
