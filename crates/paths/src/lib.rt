@@ -12,9 +12,12 @@
 //   index_facts      the chains of the facts
 //   index_table      the same for the facts of the tables
 //   last_fact        where the chain of a link begins
+//   next_fact        what follows a fact on its chain
 use chains::entry;
 use chains::link;
 use model::LinkNo;
+use model::MAX_FACTS;
+use model::MAX_LINKS;
 use model::NodeNo;
 use nodeset::insert;
 use nodeset::put_word;
@@ -33,7 +36,7 @@ use tables::reads::path_second;
 use tables::reads::wide;
 ghost use mathlib.Core.Path.{_≡_};
 ghost use mathlib.Core.Bool.{true, cond};
-ghost use Prim.Native.Nat.{_<_, _≤_};
+ghost use Prim.Native.Nat.{_+_, _<_, _≤_};
 ghost use lib.Dec.{eqb, ltb};
 ghost use lib.ListN.{length, getD, replicate};
 ghost use Rattle.model.specs.Paths.{endsOf};
@@ -45,8 +48,8 @@ ghost use Rattle.paths.specs.Facts.{Indexed, TableIndexed, indexCount, T
 ghost use Rattle.paths.specs.Ends.{endIn, endOk};
 ghost use Rattle.paths.specs.Images.{converseIf, setCount, withImage, withImages, joined, withEnds};
 
-// How many cells the index of the facts takes: a chain for each of 256 links, and 4,096 facts.
-pub const INDEX_CELLS: usize = 4352;
+// How many cells the index of the facts takes: the beginnings of the links' chains, and then what follows each fact.
+pub const INDEX_CELLS: usize = MAX_LINKS + MAX_FACTS;
 
 // What the ends are ends of: `id`, the node itself; a link; a path entry.
 pub enum End {
@@ -96,7 +99,7 @@ pub fn index_facts(index: &mut [u16], p: &[u16], len: usize)
 {
     for i in 0..len {
         let l = link_at(p, i);
-        link(index, 0, 256, wide(l.0), i);
+        link(index, 0, MAX_LINKS, wide(l.0), i);
     }
 }
 
@@ -118,6 +121,14 @@ pub fn last_fact(index: &[u16], l: LinkNo) -> usize
     } else {
         0
     }
+}
+
+// The fact before fact i that has the same link, as its number and one; 0 where there is none.
+pub fn next_fact(index: &[u16], i: usize) -> usize
+    requires { ⌜ i < 4096 ⌝ }
+    ensures { λ r. ⌜ r ≡ getD (now (index .entry)) (256 + i) 0 ⌝ }
+{
+    wide(entry(index, MAX_LINKS + i))
 }
 
 // The object of fact i joins each set that its subject is in; read backwards where back.
@@ -152,7 +163,7 @@ fn join_link(
     while 0 < next {
         let i = next - 1;
         join_fact(into, i, back, many, from, s, o);
-        next = wide(entry(index, 256 + i));
+        next = next_fact(index, i);
     }
 }
 

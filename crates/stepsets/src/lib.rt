@@ -11,7 +11,6 @@
 //   facts_set     the nodes that the facts pick, in one pass over them, or over those of one link
 //   closed_set    the nodes of which every fact has a listed link
 //   both_set, either_set   the nodes in both of two sets, in one of them
-use chains::entry;
 use conditions::apart_holds;
 use conditions::equal_holds;
 use conditions::insert_if;
@@ -29,6 +28,7 @@ use nodeset::load;
 use nodeset::test;
 use paths::End;
 use paths::last_fact;
+use paths::next_fact;
 use rows::all_table_ends;
 use tables::layout::NO_NUMBER;
 use tables::reads::fact_count;
@@ -349,7 +349,7 @@ fn link_set(pick: Pick, l: LinkNo, cells: &[u16], index: &[u16]) -> NodeSet
         let i = next - 1;
         let v = node_of(pick, cells, i);
         insert_if(&mut words, v, chooses(pick, cells, i));
-        next = wide(entry(index, 256 + i));
+        next = next_fact(index, i);
     }
     NodeSet { words }
 }

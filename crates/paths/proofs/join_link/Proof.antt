@@ -42,41 +42,35 @@ join-fact-requires c κs =
     let ok = c .before .before .before .before .before .before .before .before .before .before .pre in
     (omega (arith, c .before .before .loop .inv .0, c .before .loop-test .taken, ok .subjects), omega (arith, c .before .before .loop .inv .0, c .before .loop-test .taken, ok .objects))
 
-add-entry : tie.Need-add-entry Inv-loop μ-loop
-add-entry c = omega (arith, c .before .before .before .before .before .loop .inv .0, c .before .before .before .before .before .before .before .before .before .before .before .before .before .pre .few)
-
-entry-requires : tie.Need-entry-requires Inv-loop μ-loop
-entry-requires c κs = search needs
-
-wide-requires : tie.Need-wide-requires Inv-loop μ-loop
-wide-requires c κs = search needs
+next-fact-requires : tie.Need-next-fact-requires Inv-loop μ-loop
+next-fact-requires c κs = omega (arith, c .before .before .before .before .before .loop .inv .0, c .before .before .before .before .before .before .before .before .before .before .before .before .before .pre .few)
 
 loop-less : tie.Need-loop-less Inv-loop μ-loop
 loop-less c =
-    let a = c .before .before .before .before .before .before .before .before .before .before .before .before .before .before .before .args in
-    let t = c .before .before .before .before .before .before .before .loop in
+    let a = c .before .before .before .before .before .before .before .before .before .before .before .before .before .before .args in
+    let t = c .before .before .before .before .before .before .loop in
     let i : ℕ = t .next - 1 in
-    let l : i < a .len = omega (arith, t .inv .0, c .before .before .before .before .before .before .loop-test .taken) in
-    let h : c .wide .result ≤ i = walk-falls (λ k. getD (a .p .now) k 0) (a .len) 256 0 256 (c .before .before .before .before .before .before .before .before .before .before .before .before .before .before .before .pre .indexed) i l (c .wide .ensures ∙ c .before .entry .ensures) in
-    omega (arith, h, c .before .before .before .before .before .before .loop-test .taken)
+    let l : i < a .len = omega (arith, t .inv .0, c .before .before .before .before .before .loop-test .taken) in
+    let h : c .next-fact .result ≤ i = walk-falls (λ k. getD (a .p .now) k 0) (a .len) 256 0 256 (c .before .before .before .before .before .before .before .before .before .before .before .before .before .before .pre .indexed) i l (c .next-fact .ensures) in
+    omega (arith, h, c .before .before .before .before .before .loop-test .taken)
 
 loop-again : tie.Need-loop-again Inv-loop μ-loop
 loop-again c =
-    let a = c .before .before .before .before .before .before .before .before .before .before .before .before .before .before .before .args in
-    let t = c .before .before .before .before .before .before .before .loop in
+    let a = c .before .before .before .before .before .before .before .before .before .before .before .before .before .before .args in
+    let t = c .before .before .before .before .before .before .loop in
     let i : ℕ = t .next - 1 in
-    let l : i < a .len = omega (arith, t .inv .0, c .before .before .before .before .before .before .loop-test .taken) in
-    let q : t .next ≡ suc i = omega (arith, c .before .before .before .before .before .before .loop-test .taken) in
-    let step = c .wide .ensures ∙ c .before .entry .ensures in
-    let h : c .wide .result ≤ i = walk-falls (λ k. getD (a .p .now) k 0) (a .len) 256 0 256 (c .before .before .before .before .before .before .before .before .before .before .before .before .before .before .before .pre .indexed) i l step in (
+    let l : i < a .len = omega (arith, t .inv .0, c .before .before .before .before .before .loop-test .taken) in
+    let q : t .next ≡ suc i = omega (arith, c .before .before .before .before .before .loop-test .taken) in
+    let step = c .next-fact .ensures in
+    let h : c .next-fact .result ≤ i = walk-falls (λ k. getD (a .p .now) k 0) (a .len) 256 0 256 (c .before .before .before .before .before .before .before .before .before .before .before .before .before .before .pre .indexed) i l step in (
       omega (arith, h, l),
-      c .before .before .before .before .join-fact .kept .0 ∙ t .inv .1,
-      joined-small (setCount (a .many)) (cond (a .back) (getD (a .o .now) i 0) (getD (a .s .now) i 0)) (cond (a .back) (getD (a .s .now) i 0) (getD (a .o .now) i 0)) (a .from .now) (t .into) (c .before .before .before .before .join-fact .ensures),
+      c .before .before .before .join-fact .kept .0 ∙ t .inv .1,
+      joined-small (setCount (a .many)) (cond (a .back) (getD (a .o .now) i 0) (getD (a .s .now) i 0)) (cond (a .back) (getD (a .s .now) i 0) (getD (a .o .now) i 0)) (a .from .now) (t .into) (c .before .before .before .join-fact .ensures),
       λ p e.
           let own = t .inv .3 p e in
           let k = own .0 i q in
-          let after = walk-next (λ k. getD (a .p .now) k 0) (a .len) 256 0 256 (c .before .before .before .before .before .before .before .before .before .before .before .before .before .before .before .pre .indexed) p i l k step in
-          (λ j f. last-key (λ i. getD (a .p .now) i 0) p i j (sym after ∙ f), chain-more (a .s .now) (a .p .now) (a .o .now) (a .index .now) (a .len) (a .n) (c .before .before .before .before .before .before .before .before .before .before .before .before .before .before .before .pre) (setCount (a .many)) p (a .back) (a .from .now) (t .into) i l k (c .before .before .before .before .join-fact .ensures) after ∙ ap (λ (k : ℕ). withImages (setCount (a .many)) (a .n) (edges (a .s .now) (a .p .now) (a .o .now) p (a .back) k) (a .from .now) (t .into)) (sym q) ∙ own .1),
+          let after = walk-next (λ k. getD (a .p .now) k 0) (a .len) 256 0 256 (c .before .before .before .before .before .before .before .before .before .before .before .before .before .before .pre .indexed) p i l k step in
+          (λ j f. last-key (λ i. getD (a .p .now) i 0) p i j (sym after ∙ f), chain-more (a .s .now) (a .p .now) (a .o .now) (a .index .now) (a .len) (a .n) (c .before .before .before .before .before .before .before .before .before .before .before .before .before .before .pre) (setCount (a .many)) p (a .back) (a .from .now) (t .into) i l k (c .before .before .before .join-fact .ensures) after ∙ ap (λ (k : ℕ). withImages (setCount (a .many)) (a .n) (edges (a .s .now) (a .p .now) (a .o .now) p (a .back) k) (a .from .now) (t .into)) (sym q) ∙ own .1),
     )
 
 same-length : tie.Need-same-length Inv-loop μ-loop
@@ -101,9 +95,7 @@ join-link-spec =
     loop-holds
     sub-i
     join-fact-requires
-    add-entry
-    entry-requires
-    wide-requires
+    next-fact-requires
     loop-less
     loop-again
     same-length

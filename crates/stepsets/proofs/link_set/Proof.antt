@@ -42,33 +42,27 @@ chooses-requires c κs = search needs
 insert-if-requires : tie.Need-insert-if-requires Inv-loop μ-loop
 insert-if-requires c κs = search needs
 
-add-entry : tie.Need-add-entry Inv-loop μ-loop
-add-entry c = omega (arith, c .before .before .before .before .before .before .loop .inv .low, sound (c .before .before .before .before .before .before .before .before .before .before .args .cells .now) (c .before .before .before .before .before .before .before .before .before .before .pre .0 .ok) .facts)
-
-entry-requires : tie.Need-entry-requires Inv-loop μ-loop
-entry-requires c κs = search needs
-
-wide-requires : tie.Need-wide-requires Inv-loop μ-loop
-wide-requires c κs = search needs
+next-fact-requires : tie.Need-next-fact-requires Inv-loop μ-loop
+next-fact-requires c κs = omega (arith, c .before .before .before .before .before .before .loop .inv .low, sound (c .before .before .before .before .before .before .before .before .before .before .args .cells .now) (c .before .before .before .before .before .before .before .before .before .before .pre .0 .ok) .facts)
 
 loop-less : tie.Need-loop-less Inv-loop μ-loop
 loop-less c =
-    let a = c .before .before .before .before .before .before .before .before .before .before .before .before .args in
-    let t = c .before .before .before .before .before .before .before .before .before .before .before .before .pre .0 in
-    let w = c .before .before .before .before .before .before .before .before .loop in
+    let a = c .before .before .before .before .before .before .before .before .before .before .before .args in
+    let t = c .before .before .before .before .before .before .before .before .before .before .before .pre .0 in
+    let w = c .before .before .before .before .before .before .before .loop in
     let i : ℕ = w .next - 1 in
-    let q : w .next ≡ suc i = omega (arith, c .before .before .before .before .before .before .before .loop-test .taken) in
-    let h : c .wide .result ≤ i = walk-falls (predicateAt (a .cells .now)) (factCount (a .cells .now)) 256 0 256 (t .indexed) i (omega (arith, q, w .inv .low)) (c .wide .ensures ∙ c .before .entry .ensures) in
+    let q : w .next ≡ suc i = omega (arith, c .before .before .before .before .before .before .loop-test .taken) in
+    let h : c .next-fact .result ≤ i = walk-falls (predicateAt (a .cells .now)) (factCount (a .cells .now)) 256 0 256 (t .indexed) i (omega (arith, q, w .inv .low)) (c .next-fact .ensures) in
     omega (arith, h, q)
 
 loop-again : tie.Need-loop-again Inv-loop μ-loop
 loop-again c =
-    let a = c .before .before .before .before .before .before .before .before .before .before .before .before .args in
-    let t = c .before .before .before .before .before .before .before .before .before .before .before .before .pre .0 in
-    let w = c .before .before .before .before .before .before .before .before .loop in
+    let a = c .before .before .before .before .before .before .before .before .before .before .before .args in
+    let t = c .before .before .before .before .before .before .before .before .before .before .before .pre .0 in
+    let w = c .before .before .before .before .before .before .before .loop in
     let i : ℕ = w .next - 1 in
-    let q : w .next ≡ suc i = omega (arith, c .before .before .before .before .before .before .before .loop-test .taken) in
-    walk-on (a .cells .now) (a .index .now) t (a .pick) (w .next) (c .wide .result) i (c .before .before .before .before .before .before .node-of .result) (c .before .before .before .before .chooses .result) (w .inv) q (c .before .before .before .before .before .before .node-of .ensures) (c .before .before .before .before .chooses .ensures) (c .before .before .before .insert-if .ensures) (c .wide .ensures ∙ c .before .entry .ensures)
+    let q : w .next ≡ suc i = omega (arith, c .before .before .before .before .before .before .loop-test .taken) in
+    walk-on (a .cells .now) (a .index .now) t (a .pick) (w .next) (c .next-fact .result) i (c .before .before .before .before .before .node-of .result) (c .before .before .before .chooses .result) (w .inv) q (c .before .before .before .before .before .node-of .ensures) (c .before .before .before .chooses .ensures) (c .before .before .insert-if .ensures) (c .next-fact .ensures)
 
 returns : tie.Need-returns Inv-loop μ-loop
 returns c =
@@ -89,9 +83,7 @@ link-set-spec =
     slice-aggregate-insert-if
     chooses-requires
     insert-if-requires
-    add-entry
-    entry-requires
-    wide-requires
+    next-fact-requires
     loop-less
     loop-again
     returns)
