@@ -14,7 +14,8 @@ use Rattle.tables.specs.Layout.{roots, cellCount, valueCount}
 use Rattle.grammar.specs.Syntax.{new, form}
 use Rattle.grammar.specs.Reading.{Read, refused, Begun, after, begunAbove}
 use Rattle.stores.specs.Entries.{shapeCells, shapeValues}
-use Rattle.stores.specs.Lines.{poolBase, putName, endedAbove, lineNames, lineCells, lineValues}
+use Rattle.encoding.specs.Encode.{poolBase}
+use Rattle.stores.specs.Lines.{putName, endedAbove, lineNames, lineCells, lineValues}
 use Rattle.itemreader.specs.declared.Counts.{Counts}
 use Rattle.itemreader.specs.Held.{Held}
 use Rattle.leafreader.specs.declared.Ended.{Ended}

@@ -23,7 +23,8 @@ use Rattle.tables.specs.Layout.{nodeKinds, nodeTypes, nodeLangs, subjects, pred
 use Rattle.encoding.specs.Rows.{nodeRow, targetCode, targetOperand}
 use Rattle.grammar.specs.Syntax.{Slot, Arg, Args, new, LineCode, linkL, typeL, langL, thingL, blankL, factL, ruleL, lineFamily}
 use Rattle.grammar.specs.Reading.{Read, got, refused, andThen, Readers, Begun, after, unknown, newAt, argAt, argsAt, closeAt, bodyAt, readersAt, lineRoom, begunAbove}
-use Rattle.stores.specs.Lines.{poolBase, putName, putNode, putFact, putRule, lineNames, lineCells, lineValues}
+use Rattle.encoding.specs.Encode.{poolBase}
+use Rattle.stores.specs.Lines.{putName, putNode, putFact, putRule, lineNames, lineCells, lineValues}
 use Rattle.itemreader.specs.Answers.{Reads, valueOf, Inside, restAt}
 use Rattle.itemreader.specs.declared.Value.{Value}
 use Rattle.itemreader.proofs.Items.{item-within, named-short, item-got, item-refused}

@@ -27,7 +27,7 @@ use Rattle.grammar.specs.Valid.{valid}
 use Rattle.grammar.proofs.Books.{valid-admissible}
 use Rattle.tables.specs.Layout.{cellCount, nodeCount, ruleCount}
 use Rattle.tables.specs.WellFormed.{wellFormed}
-use Rattle.encoding.specs.Encode.{encodeNames, encodeCells}
+use Rattle.encoding.specs.Encode.{encodeNames, encodeCells, poolBase}
 use Rattle.encoding.proofs.Places.{below-or}
 use Rattle.encoding.proofs.Counts.{cells-length, names-length, names-counted, facts-counted, rules-counted, terms-counted}
 use Rattle.encoding.proofs.Names.{short, name-at, padded-at}
@@ -140,7 +140,7 @@ module _ (b : Book) (v : valid b ≡ true) where
     table = encodeNames b ++ t
 
     stored : (n : ℕ) → n < length (names nodes b) → take 31 (drop (32 * n) table) ≡ take 31 (padded (getD (names nodes b) n []))
-    unfolding capacity
+    unfolding poolBase capacity
     stored n h =
         let w : Name = getD (names nodes b) n [] in
         let s : length w ≤ 31 = name-short w (names-at (names nodes b) made n h) in

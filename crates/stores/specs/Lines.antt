@@ -10,20 +10,12 @@ use Rattle.model.specs.Graph.{Term, Triple}
 use Rattle.model.specs.Rules.{Rule}
 use Rattle.model.specs.Books.{Name, Line, link, type, lang, node, fact, shape, rule, Book, Pool, nodes, links, types, langs, shapes, names, collect, newTriples, rules}
 use Rattle.model.specs.Sizes.{formsIn, pathsIn, itemsIn}
-use Rattle.tables.specs.Layout.{nodeKinds, nodeTypes, nodeLangs, subjects, predicates, objects, roots, ruleShapes, ruleTargets, ruleOperands, linkNames, typeNames, langNames, shapeNames, nameCount, cellCount, valueCount}
+use Rattle.tables.specs.Layout.{nodeKinds, nodeTypes, nodeLangs, subjects, predicates, objects, roots, ruleShapes, ruleTargets, ruleOperands, nameCount, cellCount, valueCount}
 use Rattle.encoding.specs.Rows.{nodeRow, targetCode, targetOperand}
-use Rattle.encoding.specs.Encode.{countsOf}
+use Rattle.encoding.specs.Encode.{countsOf, poolBase}
 use Rattle.grammar.specs.Syntax.{form}
 use Rattle.grammar.specs.Reading.{Begun, after}
 use Rattle.stores.specs.Entries.{shapeCells, shapeValues}
-
--- where a pool begins among the names
-unfoldable pub poolBase : Pool → ℕ
-poolBase nodes = 0
-poolBase links = linkNames
-poolBase types = typeNames
-poolBase langs = langNames
-poolBase shapes = shapeNames
 
 -- name number k of a pool
 unfoldable pub putName : Pool → ℕ → Name → List ℕ → List ℕ
