@@ -86,7 +86,7 @@ module _ (s : List ℕ) (above : Book) (start : ℕ) where
   -- open at q; n: the entries and items that have begun; the last number: how many brackets are open
   pub data Waits : ℕ → List Slot → Begun → ℕ → Type 0 where
     -- the line's bracket and its word
-    line : {q : ℕ} (c : LineCode) → Span s start q (40 ∷ lineWord c) → Waits q (lineSlots c) (begunAbove s above) 1
+    line : {q : ℕ} (c : LineCode) → Span s start q (40 ∷ lineWord c) → Waits q (lineSlots c) (begunAbove above) 1
     -- a bracket in it and its word
     inner : {q p o : ℕ} {k : Slot} {ks ls : List Slot} {b : Begun → Begun} {w : List ℕ} {n : Begun} → Waits q (k ∷ ks) n o → Opens k ls b w → Span s q p (32 ∷ (40 ∷ w)) → Waits p ls (b n) (suc o)
     -- what is wanted at the next place
