@@ -14,7 +14,8 @@ use Rattle.tables.specs.Layout.{roots, cellCount, valueCount}
 use Rattle.grammar.specs.Syntax.{new, form}
 use Rattle.grammar.specs.Reading.{Read, refused, Begun, after, begunAbove}
 use Rattle.stores.specs.Entries.{shapeCells, shapeValues}
-use Rattle.stores.specs.Lines.{poolBase, putName, endedAbove, lineNames, lineCells, lineValues}
+use Rattle.encoding.specs.Encode.{poolBase}
+use Rattle.stores.specs.Lines.{putName, lineNames, lineCells, lineValues}
 use Rattle.itemreader.specs.declared.Counts.{Counts}
 use Rattle.itemreader.specs.Held.{Held}
 use Rattle.leafreader.specs.declared.Ended.{Ended}
@@ -28,8 +29,8 @@ abbrev pub endedNow : Counts → Ended
 endedNow c = record { forms = c .forms; paths = c .paths; items = c .items }
 
 module _ (ns : List ℕ) (c : Counts) (a : Book) (h : Held ns c a) where
-  pub ended-above : begunOf (endedNow c) ≡ endedAbove a
-  unfolding endedAbove
+  pub ended-above : begunOf (endedNow c) ≡ begunAbove a
+  unfolding begunAbove
   ended-above = let f = h .form-count in let p = h .path-count in let i = h .item-count in cc
 
   pub form-held : (φ : Shape) (n : Ended) (cs cs′ : List ℕ) (vs vs′ : List ℤ) → n ≡ endedOf (after form φ (begunOf (endedNow c))) → cs′ ≡ shapeCells (begunOf (endedNow c)) φ cs → vs′ ≡ shapeValues (begunOf (endedNow c)) φ vs → drop cellCount cs′ ≡ drop cellCount cs → drop valueCount vs′ ≡ drop valueCount vs → FormHeld a φ n cs cs′ vs vs′
@@ -43,16 +44,16 @@ module _ (ns : List ℕ) (c : Counts) (a : Book) (h : Held ns c a) where
       }
 
   -- the name of a shape begins no entry
-  pub begun-after : (s : List ℕ) (w : Name) → after (new shapes) w (begunAbove s a) ≡ begunOf (endedNow c)
-  unfolding after begunAbove
-  begun-after s w = let f = h .form-count in let p = h .path-count in let i = h .item-count in cc
+  pub begun-after : (w : Name) → after (new shapes) w (begunAbove a) ≡ begunOf (endedNow c)
+  unfolding after
+  begun-after w = sym ended-above
 
   module _ (w : Name) (φ : Shape) where
     counted-shape : shaped (endedOf (after form φ (begunOf (endedNow c)))) c ≡ counted (shape w φ) c
     unfolding after newNames joins newTriples newShapes newRules sumOver
     counted-shape = simp add-zero
 
-    pub shape-counted : (n : Ended) → n ≡ endedOf (after form φ (endedAbove a)) → shaped n c ≡ counted (shape w φ) c
+    pub shape-counted : (n : Ended) → n ≡ endedOf (after form φ (begunAbove a)) → shaped n c ≡ counted (shape w φ) c
     shape-counted n e = ap (λ (m : Ended). shaped m c) (e ∙ ap (λ (b : Begun). endedOf (after form φ b)) (sym ended-above)) ∙ counted-shape
 
     pub shape-names : lineNames a (shape w φ) ns ≡ putName shapes (c .shapes) w ns

@@ -8,9 +8,8 @@ use Rattle.model.specs.Shapes.{Shape}
 use Rattle.model.specs.Books.{Book}
 use Rattle.tables.specs.Layout.{cellCount, valueCount}
 use Rattle.grammar.specs.Syntax.{form}
-use Rattle.grammar.specs.Reading.{after}
+use Rattle.grammar.specs.Reading.{after, begunAbove}
 use Rattle.stores.specs.Entries.{shapeCells, shapeValues}
-use Rattle.stores.specs.Lines.{endedAbove}
 use Rattle.itemreader.specs.declared.Counts.{Counts}
 use Rattle.leafreader.specs.declared.Ended.{Ended}
 use Rattle.leafreader.specs.Forms.{endedOf}
@@ -33,8 +32,8 @@ shaped n c =
 
 -- after the lines a, cells and values hold the form φ too, with which n have ended; past the limits they are as before
 pub record FormHeld (a : Book) (φ : Shape) (n : Ended) (cs cs′ : List ℕ) (vs vs′ : List ℤ) : Type 0 where
-  pub ended : n ≡ endedOf (after form φ (endedAbove a))
-  pub cells : cs′ ≡ shapeCells (endedAbove a) φ cs
-  pub values : vs′ ≡ shapeValues (endedAbove a) φ vs
+  pub ended : n ≡ endedOf (after form φ (begunAbove a))
+  pub cells : cs′ ≡ shapeCells (begunAbove a) φ cs
+  pub values : vs′ ≡ shapeValues (begunAbove a) φ vs
   pub cells-past : drop cellCount cs′ ≡ drop cellCount cs
   pub values-past : drop valueCount vs′ ≡ drop valueCount vs

@@ -18,7 +18,7 @@ use Rattle.model.specs.Books.{nodes, links, types, builtIn, collect, names, rul
 use Rattle.model.specs.Valid.{capacity}
 use Rattle.tables.specs.Layout.{cellCount, valueCount, linkNames, typeNames}
 use Rattle.encoding.specs.Flatten.{addShapes, rootsOf}
-use Rattle.encoding.specs.Encode.{col, cellColumns, valueColumns, nameColumns, entriesOf, countsOf, contentOf, encodeCells, encodeValues, encodeNames}
+use Rattle.encoding.specs.Encode.{col, cellColumns, valueColumns, nameColumns, entriesOf, countsOf, contentOf, encodeCells, encodeValues, encodeNames, poolBase}
 use Rattle.encoding.proofs.Places.{at-rest, at-first, at-blank}
 use Rattle.encoding.proofs.Counts.{cells-length, values-length}
 use Rattle.encoding.proofs.Names.{same-everywhere, padded-at, pool-place}
@@ -73,11 +73,11 @@ one-name w i = ap (λ (l : List ℕ). getD l i 0) (append-nil (padded w)) ∙ pa
 
 -- no node's name; the links' names; the types', and all after them
 pub node-names-empty : (i : ℕ) → i < linkNames → getD (encodeNames []) i 0 ≡ 0
-unfolding names builtIn collect poolOf capacity
+unfolding poolBase names builtIn collect poolOf capacity
 node-names-empty i l = ap (λ (j : ℕ). getD (encodeNames []) j 0) (sym (zero-add i)) ∙ pool-place [] nodes i l
 
 pub link-names-empty : (i : ℕ) → linkNames + i < typeNames → getD (encodeNames []) (linkNames + i) 0 ≡ getD (bytes "a") i 0
-unfolding names builtIn collect capacity
+unfolding poolBase names builtIn collect capacity
 link-names-empty i l = pool-place [] links i (omega arith) ∙ one-name (bytes "a") i
 
 pub type-names-empty : (i : ℕ) → getD (encodeNames []) (typeNames + i) 0 ≡ getD (bytes "langstring") i 0

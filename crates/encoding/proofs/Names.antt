@@ -18,19 +18,11 @@ use Rattle.text.specs.Pool.{padded, poolOf}
 use Rattle.model.specs.Limits.{maxName}
 use Rattle.model.specs.Books.{Book, Name, Pool, nodes, links, types, langs, shapes, names}
 use Rattle.model.specs.Valid.{capacity, admissible}
-use Rattle.tables.specs.Layout.{linkNames, typeNames, langNames, shapeNames, nameCount}
-use Rattle.encoding.specs.Encode.{nameColumns, encodeNames}
+use Rattle.tables.specs.Layout.{nameCount}
+use Rattle.encoding.specs.Encode.{nameColumns, encodeNames, poolBase}
 use Rattle.encoding.proofs.Places.{below-or, slice-is}
 use Rattle.model.proofs.Lines.{names-within}
 use Rattle.encoding.proofs.Counts.{names-length}
-
--- where a pool begins
-abbrev pub poolBase : Pool → ℕ
-poolBase nodes = 0
-poolBase links = linkNames
-poolBase types = typeNames
-poolBase langs = langNames
-poolBase shapes = shapeNames
 
 -- names that have their 32 bytes
 abbrev pub short : List Name → Bool
@@ -71,7 +63,7 @@ pool-at (w ∷ ws) h (suc k) i l =
 
 -- ---- the table
 pub pool-place : (b : Book) (p : Pool) (i : ℕ) → i < capacity p * 32 → getD (encodeNames b) (poolBase p + i) 0 ≡ getD (poolOf (names p b)) i 0
-unfolding encodeNames capacity
+unfolding encodeNames poolBase capacity
 pool-place b nodes i l = at-flat 0 (nameColumns b) 0 i l
 pool-place b links i l = at-flat 0 (nameColumns b) 1 i l
 pool-place b types i l = at-flat 0 (nameColumns b) 2 i l
@@ -79,7 +71,7 @@ pool-place b langs i l = at-flat 0 (nameColumns b) 3 i l
 pool-place b shapes i l = at-flat 0 (nameColumns b) 4 i l
 
 pool-inside : (p : Pool) → poolBase p + capacity p * 32 ≤ nameCount
-unfolding capacity
+unfolding poolBase capacity
 pool-inside nodes = omega arith
 pool-inside links = omega arith
 pool-inside types = omega arith

@@ -9,6 +9,7 @@ use Rattle.model.specs.Graph.{Term, Triple}
 use Rattle.model.specs.Rules.{Rule}
 use Rattle.model.specs.Books.{Book, Pool, nodes, links, types, langs, shapes, names, collect, newTerms, newTriples, newShapes, rules}
 use Rattle.tables.specs.Entries.{PathEntry, Entry}
+use Rattle.tables.specs.Layout.{linkNames, typeNames, langNames, shapeNames}
 use Rattle.encoding.specs.Rows.{NodeRow, nodeRow, PathRow, pathRow, FormRow, formRow, targetCode, targetOperand}
 use Rattle.encoding.specs.Flatten.{Entries, addShapes, rootsOf, noEntries}
 
@@ -101,3 +102,11 @@ nameColumns b =
 
 unfoldable pub encodeNames : Book → List ℕ
 encodeNames b = flat 0 (nameColumns b)
+
+-- where a pool begins among the names
+unfoldable pub poolBase : Pool → ℕ
+poolBase nodes = 0
+poolBase links = linkNames
+poolBase types = typeNames
+poolBase langs = langNames
+poolBase shapes = shapeNames

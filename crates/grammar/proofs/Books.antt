@@ -121,9 +121,9 @@ pub pools-of : (a : Book) → Sane a → Pools a
 unfolding nameOf
 pools-of a S = record { named = λ p. S .pools-above p .made; distinct = λ p. S .pools-above p .differ }
 
-pub fit-of : (s : List ℕ) (a : Book) → Sane a → Fit (begunAbove s a)
+pub fit-of : (a : Book) → Sane a → Fit (begunAbove a)
 unfolding begunAbove admissible
-fit-of s a S =
+fit-of a S =
     let e : admissible a ≡ true = admissible-from [] a (S .valid-above) in
     record { forms = forms-within a e; paths = paths-within a e; items = items-within a e }
 
@@ -172,7 +172,7 @@ module _ (s : List ℕ) where
       (λ q. absurd (never-accepted (sym (q .2))))
       (λ q.
       let (l, nx, r, g) = q in
-      let u = line-sound s a (pools-of a S) (fit-of s a S) at h l nx r in
+      let u = line-sound s a (pools-of a S) (fit-of a S) at h l nx r in
       let m = longer at nx (writeLine a l) (u .0) in
       one-more at nx a b l (u .0) (u .1) (lines-sound fuel nx (line + 1) (a ++ (l ∷ [])) (sane-more a l S (u .1)) (u .0 .within) (omega arith) b g))
       (follows (line + 1) (lineAt s a at) (λ l next. linesFrom s fuel next (line + 1) (a ++ (l ∷ []))) (accepted b) (t .1)))
@@ -197,7 +197,7 @@ module _ (s : List ℕ) where
       let m = longer at mid (writeLine a l) (sp .0) in
       let w = sp .0 .within in
       let ok = and-left (validLine a l) (validFrom (a ++ (l ∷ [])) c) v in
-      ap₂ (λ (t : Bool) (r : Read Line). cond t (follow (line + 1) r (λ l next. linesFrom s fuel next (line + 1) (a ++ (l ∷ [])))) (accepted a)) (lt-ltb at (length s) (omega arith)) (line-complete s a (pools-of a S) (fit-of s a S) at mid l (sp .0) ok)
+      ap₂ (λ (t : Bool) (r : Read Line). cond t (follow (line + 1) r (λ l next. linesFrom s fuel next (line + 1) (a ++ (l ∷ [])))) (accepted a)) (lt-ltb at (length s) (omega arith)) (line-complete s a (pools-of a S) (fit-of a S) at mid l (sp .0) ok)
       ∙ lines-read c fuel rest mid nx (line + 1) (a ++ (l ∷ [])) (sane-more a l S ok) (omega arith) (and-right (validLine a l) (validFrom (a ++ (l ∷ [])) c) v) (sp .1)
       ∙ ap₂ (λ (n : ℕ) (b : Book). linesFrom s rest nx n b) (let z : line + 1 + length c ≡ line + suc (length c) = omega arith in z) (append-assoc a (l ∷ []) c)
 

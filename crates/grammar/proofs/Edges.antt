@@ -72,13 +72,13 @@ module _ (s : List ℕ) (above : Book) (at : ℕ) where
   full-line c p ks sl o w sp n f =
       let e : ℕ = itemEnd s (at + 1) in
       let (k, found, back, _, _) = line-placed c in
-      let args : argsAt s above (readersAt s above 31) (lineFamily .slots c) (begunAbove s above) (itemEnd s (at + 1)) ≡ refused 7 =
-      subst (λ (js : List Slot). argsAt s above (readersAt s above 31) js (begunAbove s above) (itemEnd s (at + 1)) ≡ refused 7) (sym sl)
-      (ap₂ (λ (b : Bool) (r : Read Name). andThen (cond b r (refused 2)) (λ a next. andThen (argsAt s above (readersAt s above 31) ks (after (new p) a (begunAbove s above)) next) (λ xs last. got (a, xs) last))) (eq-eqb (getD s (itemEnd s (at + 1)) 0) 32 sp) (full-pool s above p (itemEnd s (at + 1) + 1) .1 (n, f))) in
+      let args : argsAt s above (readersAt s above 31) (lineFamily .slots c) (begunAbove above) (itemEnd s (at + 1)) ≡ refused 7 =
+      subst (λ (js : List Slot). argsAt s above (readersAt s above 31) js (begunAbove above) (itemEnd s (at + 1)) ≡ refused 7) (sym sl)
+      (ap₂ (λ (b : Bool) (r : Read Name). andThen (cond b r (refused 2)) (λ a next. andThen (argsAt s above (readersAt s above 31) ks (after (new p) a (begunAbove above)) next) (λ xs last. got (a, xs) last))) (eq-eqb (getD s (itemEnd s (at + 1)) 0) 32 sp) (full-pool s above p (itemEnd s (at + 1) + 1) .1 (n, f))) in
       ap (λ (r : Read Line). andThen r (λ l next. cond (eqb (getD s next 0) 10) (got l (next + 1)) (refused 2)))
-      (ap₂ (λ (b : Bool) (v : List ℕ). cond b (headed s above lineFamily (readersAt s above 31) false false (lineRoom s above) (begunAbove s above) (indexOf (map (lineFamily .word) (lineFamily .codes)) v) (itemEnd s (at + 1))) (refused 2)) (eq-eqb (getD s at 0) 40 o) w
-      ∙ ap (λ (f : Found). headed s above lineFamily (readersAt s above 31) false false (lineRoom s above) (begunAbove s above) f (itemEnd s (at + 1))) found
-      ∙ ap (λ (d : LineCode). bodyAt s above lineFamily (readersAt s above 31) (lineRoom s above) d (begunAbove s above) (itemEnd s (at + 1))) back
+      (ap₂ (λ (b : Bool) (v : List ℕ). cond b (headed s above lineFamily (readersAt s above 31) false false (lineRoom s above) (begunAbove above) (indexOf (map (lineFamily .word) (lineFamily .codes)) v) (itemEnd s (at + 1))) (refused 2)) (eq-eqb (getD s at 0) 40 o) w
+      ∙ ap (λ (f : Found). headed s above lineFamily (readersAt s above 31) false false (lineRoom s above) (begunAbove above) f (itemEnd s (at + 1))) found
+      ∙ ap (λ (d : LineCode). bodyAt s above lineFamily (readersAt s above 31) (lineRoom s above) d (begunAbove above) (itemEnd s (at + 1))) back
       ∙ ap (λ (r : Read (Args (lineFamily .slots c))). andThen r (λ xs next. closeAt s above (lineRoom s above c) (lineFamily .build c xs) next)) args)
 
 -- node 1,025: after any valid book with 1,024 nodes, a line that defines one more is refused by 7

@@ -65,7 +65,7 @@ module _ (s : List ℕ) where
   goes-on at e a S h k f t g (l ∷ c) v p =
       let sp = span-split (writeLine a l ++ (10 ∷ [])) (renderFrom (a ++ (l ∷ [])) c) (subst (λ (w : List ℕ). Span t at (length t) w) (sym (append-assoc (writeLine a l) (10 ∷ []) (renderFrom (a ++ (l ∷ [])) c))) p) in
       let nx : ℕ = at + length (writeLine a l ++ (10 ∷ [])) in
-      f t g l nx (line-complete t a (pools-of a S) (fit-of t a S) at nx l (sp .0) (and-left (validLine a l) (validFrom (a ++ (l ∷ [])) c) v)) c (and-right (validLine a l) (validFrom (a ++ (l ∷ [])) c) v) (sp .1)
+      f t g l nx (line-complete t a (pools-of a S) (fit-of a S) at nx l (sp .0) (and-left (validLine a l) (validFrom (a ++ (l ∷ [])) c) v)) c (and-right (validLine a l) (validFrom (a ++ (l ∷ [])) c) v) (sp .1)
 
   lines-grounds : (fuel at line : ℕ) (a : Book) → Sane a → at ≤ length s → Span s 0 at (renderFrom [] a) → length a ≡ line → (r k : ℕ) → linesFrom s fuel at line a ≡ turnedDown r k → (G : Grounded s r k) × (at ≤ G .place) × NoneFrom at a (stop s (G .place))
   unfolding linesFrom
@@ -75,7 +75,7 @@ module _ (s : List ℕ) where
       (λ u.
       let (j, z) = refusal-number (u .2) in
       let q : lineAt s a at ≡ refused r = u .1 ∙ ap refused j in
-      let (p, g, lt, f) = line-settled s a at (pools-of a S) (fit-of s a S) h .ground r q in
+      let (p, g, lt, f) = line-settled s a at (pools-of a S) (fit-of a S) h .ground r q in
       let i = ground-numbered s a at g .from in (
         record { above = a; counted = omega arith; right = S .valid-above; at = at; written = w; refuses = q; place = p; inside = i; ground = g },
         i,
@@ -83,11 +83,11 @@ module _ (s : List ℕ) where
       ))
       (λ u.
       let (l, nx, q, d) = u in
-      let v = line-sound s a (pools-of a S) (fit-of s a S) at h l nx q in
+      let v = line-sound s a (pools-of a S) (fit-of a S) at h l nx q in
       let m = longer s at nx (writeLine a l) (v .0) in
       let (G, i, none) = lines-grounds fuel nx (line + 1) (a ++ (l ∷ [])) (sane-more a l S (v .1)) (v .0 .within) (subst (λ (x : List ℕ). Span s 0 nx x) (sym (render-snoc [] a l)) (span-join w (v .0))) (omega (arith, length-append a (l ∷ []))) r k d in
       let o = stop-past s (G .place) in
-      let (_, f) = line-settled s a at (pools-of a S) (fit-of s a S) h .held l nx q in (
+      let (_, f) = line-settled s a at (pools-of a S) (fit-of a S) h .held l nx q in (
         G,
         omega arith,
         goes-on at (stop s (G .place)) a S (ltb-true at (length s) (t .0)) (omega arith)

@@ -184,7 +184,7 @@ module _ (s : List ℕ) (above : Book) (start : ℕ) where
     readers-settled (suc left) o e = nested-step (λ t. readersAt t above left) left o false (λ i. absurd (never-both i refl)) (λ _. omega arith) (λ _. readers-exact s above N left) (λ _. readers-settled left (suc o) (omega arith))
 
     -- ---- a line
-    module _ (f : Fit (begunAbove s above)) where
+    module _ (f : Fit (begunAbove above)) where
       line-full : (c : LineCode) → Opening s above start start (lineFamily .word c) → (m : ℕ) (n : Begun) → Waits s above start m [] n 1 → getD s m 0 ≡ 41 → lineRoom s above c ≡ false → Ground s above start 7 m
       unfolding lineRoom
       line-full linkL b m n W e r = absurd (never-both refl r)
@@ -199,8 +199,8 @@ module _ (s : List ℕ) (above : Book) (start : ℕ) where
       line-full shapeL b m n W e r = absurd (never-both refl r)
       line-full ruleL b m n W e r = rules-full W b e (ltb-false (length (rules above)) 32 r)
 
-      line-bracket : Settles s above start (itemEnd s start) (λ t. bracketAt t above lineFamily (readersAt t above 31) false false (lineRoom s above) (refused 2) (begunAbove s above) start)
-      line-bracket = bracket-settled lineFamily (λ t. readersAt t above 31) false false (lineRoom s above) (begunAbove s above) (λ t. refused 2) start
+      line-bracket : Settles s above start (itemEnd s start) (λ t. bracketAt t above lineFamily (readersAt t above 31) false false (lineRoom s above) (refused 2) (begunAbove above) start)
+      line-bracket = bracket-settled lineFamily (λ t. readersAt t above 31) false false (lineRoom s above) (begunAbove above) (λ t. refused 2) start
           (λ w b e. no-line-word w b e)
           (λ i c b. absurd (never-both i refl))
           (λ i j c b. absurd (never-both j refl))

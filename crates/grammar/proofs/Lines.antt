@@ -8,6 +8,7 @@ use native.Mathlib.Omega.{arith}
 use lib.Dec.{eqb, ltb, leb}
 use lib.ListN.{length, getD}
 use borrow.Author.Tests.{eqb-true, eq-eqb, leb-true, le-leb}
+use Rattle.base.specs.Range.{inRange}
 use Rattle.base.proofs.Bools.{and-left, and-right, and-both, never-both}
 use Rattle.text.proofs.Spans.{Span, span-join, span-byte, span-split, span-one}
 use Rattle.model.specs.Graph.{Term, iri, blankNode, numeric, plain, tagged, Triple, langString}
@@ -15,7 +16,7 @@ use Rattle.model.specs.Shapes.{Shape}
 use Rattle.model.specs.Rules.{Rule}
 use Rattle.model.specs.Books.{Book, Line, link, type, lang, node, fact, shape, rule, Pool, nodes, links, types, langs, shapes, collect, newTerms, newTriples, rules}
 use Rattle.model.specs.Sizes.{formEntries, shapePaths, listItems, formsIn, pathsIn, itemsIn}
-use Rattle.model.specs.Valid.{inRange, defined, hasRoom, termOk, factOk, isResource, shapeOk, targetOk, entriesFit, lineOk}
+use Rattle.model.specs.Valid.{defined, hasRoom, termOk, factOk, isResource, shapeOk, targetOk, entriesFit, lineOk}
 use Rattle.grammar.specs.Writing.{spaced, bracket, writeNode, writeLine}
 use Rattle.grammar.specs.Valid.{shapeDepth, lineDepth, newName, namesOk, validLine}
 use Rattle.grammar.specs.Syntax.{Args, LineCode, linkL, typeL, langL, thingL, blankL, numberL, textL, wordsL, factL, shapeL, ruleL, lineFamily}
@@ -115,18 +116,18 @@ module _ (above : Book) where
   valid-tests l b e = sym (and-assoc (lineOk above l) (namesOk above l) (leb (lineDepth l) 32)) ∙ ap (λ (c : Bool). c && leb (lineDepth l) 32) e
 
   -- the entries of the lines above and of this one
-  fits-from : (s : List ℕ) (c : LineCode) (xs : Args (lineFamily .slots c)) → Fit (begunAbove s above) → lineFits c xs ≡ true → Fit (afterAll (lineFamily .slots c) xs (begunAbove s above))
+  fits-from : (c : LineCode) (xs : Args (lineFamily .slots c)) → Fit (begunAbove above) → lineFits c xs ≡ true → Fit (afterAll (lineFamily .slots c) xs (begunAbove above))
   unfolding after lineFits entriesFit begunAbove
-  fits-from s linkL xs f e = f
-  fits-from s typeL xs f e = f
-  fits-from s langL xs f e = f
-  fits-from s thingL xs f e = f
-  fits-from s blankL xs f e = f
-  fits-from s numberL xs f e = f
-  fits-from s textL xs f e = f
-  fits-from s wordsL xs f e = f
-  fits-from s factL xs f e = f
-  fits-from s shapeL xs f e =
+  fits-from linkL xs f e = f
+  fits-from typeL xs f e = f
+  fits-from langL xs f e = f
+  fits-from thingL xs f e = f
+  fits-from blankL xs f e = f
+  fits-from numberL xs f e = f
+  fits-from textL xs f e = f
+  fits-from wordsL xs f e = f
+  fits-from factL xs f e = f
+  fits-from shapeL xs f e =
       let φ = xs .1 .0 in
       let p = and-right (leb (formsIn above + formEntries (xs .1 .0)) 112) (leb (pathsIn above + shapePaths (xs .1 .0)) 128 && leb (itemsIn above + listItems (xs .1 .0)) 128) e in
       record {
@@ -134,23 +135,23 @@ module _ (above : Book) where
         paths = leb-true (pathsIn above + shapePaths (xs .1 .0)) 128 (and-left (leb (pathsIn above + shapePaths (xs .1 .0)) 128) (leb (itemsIn above + listItems (xs .1 .0)) 128) p);
         items = leb-true (itemsIn above + listItems (xs .1 .0)) 128 (and-right (leb (pathsIn above + shapePaths (xs .1 .0)) 128) (leb (itemsIn above + listItems (xs .1 .0)) 128) p);
       }
-  fits-from s ruleL xs f e = f
+  fits-from ruleL xs f e = f
 
-  from-fits : (s : List ℕ) (c : LineCode) (xs : Args (lineFamily .slots c)) → Fit (afterAll (lineFamily .slots c) xs (begunAbove s above)) → lineFits c xs ≡ true
+  from-fits : (c : LineCode) (xs : Args (lineFamily .slots c)) → Fit (afterAll (lineFamily .slots c) xs (begunAbove above)) → lineFits c xs ≡ true
   unfolding after lineFits entriesFit begunAbove
-  from-fits s linkL xs f = refl
-  from-fits s typeL xs f = refl
-  from-fits s langL xs f = refl
-  from-fits s thingL xs f = refl
-  from-fits s blankL xs f = refl
-  from-fits s numberL xs f = refl
-  from-fits s textL xs f = refl
-  from-fits s wordsL xs f = refl
-  from-fits s factL xs f = refl
-  from-fits s shapeL xs f =
+  from-fits linkL xs f = refl
+  from-fits typeL xs f = refl
+  from-fits langL xs f = refl
+  from-fits thingL xs f = refl
+  from-fits blankL xs f = refl
+  from-fits numberL xs f = refl
+  from-fits textL xs f = refl
+  from-fits wordsL xs f = refl
+  from-fits factL xs f = refl
+  from-fits shapeL xs f =
       and-both (leb (formsIn above + formEntries (xs .1 .0)) 112) (leb (pathsIn above + shapePaths (xs .1 .0)) 128 && leb (itemsIn above + listItems (xs .1 .0)) 128) (le-leb (formsIn above + formEntries (xs .1 .0)) 112 (f .forms))
       (and-both (leb (pathsIn above + shapePaths (xs .1 .0)) 128) (leb (itemsIn above + listItems (xs .1 .0)) 128) (le-leb (pathsIn above + shapePaths (xs .1 .0)) 128 (f .paths)) (le-leb (itemsIn above + listItems (xs .1 .0)) 128 (f .items)))
-  from-fits s ruleL xs f = refl
+  from-fits ruleL xs f = refl
 
 line-made : (l : Line) → (c : LineCode) × (xs : Args (lineFamily .slots c)) × (lineFamily .build c xs ≡ l)
 line-made (link n) = (linkL, (n, tt), refl)
@@ -165,8 +166,8 @@ line-made (fact t) = (factL, (t .subject, (t .predicate, (t .object, tt))), refl
 line-made (shape n φ) = (shapeL, (n, (φ, tt)), refl)
 line-made (rule r) = (ruleL, (r .shape, (r .target, tt)), refl)
 
-module _ (s : List ℕ) (above : Book) (N : Pools above) (f : Fit (begunAbove s above)) where
-  opened-valid : (l : Line) (at nx : ℕ) → Opened s above N lineFamily line-placed (readersAt s above 31) 31 false false (lineRoom s above) (begunAbove s above) (λ _. readers-exact s above N 31) (λ _. f) l at nx
+module _ (s : List ℕ) (above : Book) (N : Pools above) (f : Fit (begunAbove above)) where
+  opened-valid : (l : Line) (at nx : ℕ) → Opened s above N lineFamily line-placed (readersAt s above 31) 31 false false (lineRoom s above) (begunAbove above) (λ _. readers-exact s above N 31) (λ _. f) l at nx
       → Span s at nx (writeLine above l) × (validLine above l ≡ true)
   opened-valid l at nx O =
       let c = O .code in
@@ -177,35 +178,35 @@ module _ (s : List ℕ) (above : Book) (N : Pools above) (f : Fit (begunAbove s 
         subst (λ (w : List ℕ). Span s at nx w) (sym (line-text above (O .code) (O .args))) (O .span),
         valid-tests above (lineFamily .build (O .code) (O .args)) (argsOk above (lineFamily .slots (O .code)) (O .args) && (lineRoom s above (O .code) && lineFits above (O .code) (O .args))) (line-ok above s (O .code) (O .args))
             ∙ and-both (argsOk above (lineFamily .slots (O .code)) (O .args) && (lineRoom s above (O .code) && lineFits above (O .code) (O .args))) (leb (lineDepth (lineFamily .build (O .code) (O .args))) 32)
-            (and-both (argsOk above (lineFamily .slots (O .code)) (O .args)) (lineRoom s above (O .code) && lineFits above (O .code) (O .args)) (O .good .0) (and-both (lineRoom s above (O .code)) (lineFits above (O .code) (O .args)) (O .roomy) (from-fits above s (O .code) (O .args) (O .good .2))))
+            (and-both (argsOk above (lineFamily .slots (O .code)) (O .args)) (lineRoom s above (O .code) && lineFits above (O .code) (O .args)) (O .good .0) (and-both (lineRoom s above (O .code)) (lineFits above (O .code) (O .args)) (O .roomy) (from-fits above (O .code) (O .args) (O .good .2))))
             (le-leb (lineDepth (lineFamily .build (O .code) (O .args))) 32 (omega arith)),
       )
 
   -- a line without its LF
-  pub bracket-line : (at : ℕ) → at ≤ length s → (l : Line) (nx : ℕ) → bracketAt s above lineFamily (readersAt s above 31) false false (lineRoom s above) (refused 2) (begunAbove s above) at ≡ got l nx → Span s at nx (writeLine above l) × (validLine above l ≡ true)
+  pub bracket-line : (at : ℕ) → at ≤ length s → (l : Line) (nx : ℕ) → bracketAt s above lineFamily (readersAt s above 31) false false (lineRoom s above) (refused 2) (begunAbove above) at ≡ got l nx → Span s at nx (writeLine above l) × (validLine above l ≡ true)
   bracket-line at h l nx r =
-      ⊎-elim (λ b. absurd (never-refused b)) (opened-valid l at nx) (bracket-sound s above N lineFamily line-placed (readersAt s above 31) 31 false false (lineRoom s above) (begunAbove s above) (λ _. readers-exact s above N 31) (λ _. f) (refused 2) at h l nx r)
+      ⊎-elim (λ b. absurd (never-refused b)) (opened-valid l at nx) (bracket-sound s above N lineFamily line-placed (readersAt s above 31) 31 false false (lineRoom s above) (begunAbove above) (λ _. readers-exact s above N 31) (λ _. f) (refused 2) at h l nx r)
 
   pub line-sound : (at : ℕ) → at ≤ length s → (l : Line) (nx : ℕ) → lineAt s above at ≡ got l nx → Span s at nx (writeLine above l ++ (10 ∷ [])) × (validLine above l ≡ true)
   unfolding lineAt
   line-sound at h l nx e =
-      let (k, m, r, g) = thens (bracketAt s above lineFamily (readersAt s above 31) false false (lineRoom s above) (refused 2) (begunAbove s above) at) (λ l next. cond (eqb (getD s next 0) 10) (got l (next + 1)) (refused 2)) e in
+      let (k, m, r, g) = thens (bracketAt s above lineFamily (readersAt s above 31) false false (lineRoom s above) (refused 2) (begunAbove above) at) (λ l next. cond (eqb (getD s next 0) 10) (got l (next + 1)) (refused 2)) e in
       let p = passes (eqb (getD s m 0) 10) 2 (got k (m + 1)) g in
       let u = bracket-line at h k m r in
       subst (λ (l : Line). Span s at nx (writeLine above l ++ (10 ∷ [])) × (validLine above l ≡ true)) (got-value (p .1))
       (subst (λ (j : ℕ). Span s at j (writeLine above k ++ (10 ∷ []))) (got-next (p .1)) (span-join (u .0) (span-byte s m 9 (eqb-true (getD s m 0) 10 (p .0)))), u .1)
 
   built-accepted : (c : LineCode) (xs : Args (lineFamily .slots c)) (at nx : ℕ) → Span s at nx (writeLine above (lineFamily .build c xs)) → validLine above (lineFamily .build c xs) ≡ true
-      → bracketAt s above lineFamily (readersAt s above 31) false false (lineRoom s above) (refused 2) (begunAbove s above) at ≡ got (lineFamily .build c xs) nx
+      → bracketAt s above lineFamily (readersAt s above 31) false false (lineRoom s above) (refused 2) (begunAbove above) at ≡ got (lineFamily .build c xs) nx
   built-accepted c xs at nx p v =
       let t = sym (valid-tests above (lineFamily .build c xs) (argsOk above (lineFamily .slots c) xs && (lineRoom s above c && lineFits above c xs)) (line-ok above s c xs)) ∙ v in
       let a = and-left (argsOk above (lineFamily .slots c) xs && (lineRoom s above c && lineFits above c xs)) (leb (lineDepth (lineFamily .build c xs)) 32) t in
       let b = and-right (argsOk above (lineFamily .slots c) xs) (lineRoom s above c && lineFits above c xs) a in
       let dd : lineDepth (lineFamily .build c xs) ≤ 32 = leb-true (lineDepth (lineFamily .build c xs)) 32 (and-right (argsOk above (lineFamily .slots c) xs && (lineRoom s above c && lineFits above c xs)) (leb (lineDepth (lineFamily .build c xs)) 32) t) in
       let dr = line-depth above c xs in
-      bracket-complete s above N lineFamily line-placed (readersAt s above 31) 31 false false (lineRoom s above) (begunAbove s above) (λ _. readers-exact s above N 31) (λ _. f) c refl refl (and-left (lineRoom s above c) (lineFits above c xs) b) (refused 2) at nx xs
+      bracket-complete s above N lineFamily line-placed (readersAt s above 31) 31 false false (lineRoom s above) (begunAbove above) (λ _. readers-exact s above N 31) (λ _. f) c refl refl (and-left (lineRoom s above c) (lineFits above c xs) b) (refused 2) at nx xs
       (subst (λ (w : List ℕ). Span s at nx w) (line-text above c xs) p)
-      (and-left (argsOk above (lineFamily .slots c) xs) (lineRoom s above c && lineFits above c xs) a, omega arith, fits-from above s c xs f (and-right (lineRoom s above c) (lineFits above c xs) b))
+      (and-left (argsOk above (lineFamily .slots c) xs) (lineRoom s above c && lineFits above c xs) a, omega arith, fits-from above c xs f (and-right (lineRoom s above c) (lineFits above c xs) b))
 
   pub line-complete : (at nx : ℕ) (l : Line) → Span s at nx (writeLine above l ++ (10 ∷ [])) → validLine above l ≡ true → lineAt s above at ≡ got l nx
   unfolding lineAt
@@ -215,5 +216,5 @@ module _ (s : List ℕ) (above : Book) (N : Pools above) (f : Fit (begunAbove s 
       let mid : ℕ = at + length (writeLine above l) in
       let o = span-one (sp .1) in
       ap (λ (r : Read Line). andThen r (λ l next. cond (eqb (getD s next 0) 10) (got l (next + 1)) (refused 2)))
-      (subst (λ (l : Line). Span s at mid (writeLine above l) → validLine above l ≡ true → bracketAt s above lineFamily (readersAt s above 31) false false (lineRoom s above) (refused 2) (begunAbove s above) at ≡ got l mid) i (built-accepted c xs at mid) (sp .0) v)
+      (subst (λ (l : Line). Span s at mid (writeLine above l) → validLine above l ≡ true → bracketAt s above lineFamily (readersAt s above 31) false false (lineRoom s above) (refused 2) (begunAbove above) at ≡ got l mid) i (built-accepted c xs at mid) (sp .0) v)
       ∙ ap₂ (λ (b : Bool) (j : ℕ). cond b (got l j) (refused 2)) (eq-eqb (getD s mid 0) 10 (o .1)) (o .0)

@@ -46,6 +46,10 @@ formBegun n = record { forms = n .forms + 1; paths = n .paths; items = n .items 
 abbrev pub pathBegun : Begun → Begun
 pathBegun n = record { forms = n .forms; paths = n .paths + 1; items = n .items }
 
+-- those of the lines above, all of which have ended too
+unfoldable pub begunAbove : Book → Begun
+begunAbove above = record { forms = formsIn above; paths = pathsIn above; items = itemsIn above }
+
 -- those of what stands at a place: only END, FORM, PATH and lists have any
 unfoldable pub after : (k : Slot) → Arg k → Begun → Begun
 after (used p) a n = n
@@ -210,12 +214,9 @@ module _ (s : List ℕ) (above : Book) where
   lineRoom shapeL = true
   lineRoom ruleL = ltb (length (rules above)) maxRules
 
-  unfoldable pub begunAbove : Begun
-  begunAbove = record { forms = formsIn above; paths = pathsIn above; items = itemsIn above }
-
   -- a line and its LF; its own bracket is open, 31 more may be
   unfoldable pub lineAt : ℕ → Read Line
-  lineAt at = andThen (bracketAt lineFamily (readersAt 31) false false lineRoom (refused 2) begunAbove at) (λ l next. cond (eqb (getD s next 0) 10) (got l (next + 1)) (refused 2))
+  lineAt at = andThen (bracketAt lineFamily (readersAt 31) false false lineRoom (refused 2) (begunAbove above) at) (λ l next. cond (eqb (getD s next 0) 10) (got l (next + 1)) (refused 2))
 
 -- a book, or the refusal's number and line
 pub data Outcome : Type 0 where

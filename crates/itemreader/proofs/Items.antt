@@ -27,7 +27,7 @@ use Rattle.model.specs.Valid.{capacity, hasRoom, isResource}
 use Rattle.tables.specs.Layout.{items}
 use Rattle.encoding.specs.Flatten.{kindCode, upperNumber}
 use Rattle.stores.specs.Entries.{putItems}
-use Rattle.stores.specs.Lines.{poolBase}
+use Rattle.encoding.specs.Encode.{poolBase}
 use Rattle.grammar.specs.Writing.{writeKind}
 use Rattle.grammar.specs.Valid.{wellNamed, reserved}
 use Rattle.grammar.specs.Syntax.{Slot, used, new, subject, literalType, kindWord, value, low, high, list}

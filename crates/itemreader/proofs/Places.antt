@@ -12,7 +12,7 @@ use Rattle.base.proofs.Bools.{bool-cases}
 use Rattle.base.proofs.Bounded.{every-at}
 use Rattle.model.specs.Books.{Pool, nodes, links, types, langs, shapes, poolNumber}
 use Rattle.model.specs.Valid.{capacity}
-use Rattle.stores.specs.Lines.{poolBase}
+use Rattle.encoding.specs.Encode.{poolBase}
 use Rattle.itemreader.specs.declared.Counts.{Counts}
 use Rattle.itemreader.specs.Held.{countOf, Limits}
 

@@ -13,7 +13,7 @@ use Rattle.model.specs.Sizes.{formsIn, pathsIn, itemsIn}
 use Rattle.model.specs.Valid.{capacity, isResource}
 use Rattle.tables.specs.Layout.{nodeKinds}
 use Rattle.grammar.specs.Valid.{wellNamed}
-use Rattle.stores.specs.Lines.{poolBase}
+use Rattle.encoding.specs.Encode.{poolBase}
 use Rattle.itemreader.specs.declared.Counts.{Counts}
 
 abbrev pub countOf : Counts → Pool → ℕ

@@ -26,7 +26,7 @@ ghost use Rattle.grammar.specs.Reading.{Readers, Begun, argAt, listAt};
 ghost use Rattle.grammar.specs.Valid.{wellNamed};
 ghost use Rattle.model.specs.Valid.{capacity};
 ghost use Rattle.encoding.specs.Flatten.{kindCode, upperNumber};
-ghost use Rattle.stores.specs.Lines.{poolBase};
+ghost use Rattle.encoding.specs.Encode.{poolBase};
 ghost use Rattle.itemreader.specs.Answers.{poolOf, same, itemOf, valueOf, Reads, Below, Counted, Inside, itemsAfter, Listed, headAt, Headed, wordsOf};
 ghost use Rattle.itemreader.specs.Held.{countOf, Limits, Held, Kinds, Indexed};
 

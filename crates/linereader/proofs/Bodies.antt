@@ -23,7 +23,8 @@ use Rattle.tables.specs.Layout.{nodeKinds, nodeTypes, nodeLangs, subjects, pred
 use Rattle.encoding.specs.Rows.{nodeRow, targetCode, targetOperand}
 use Rattle.grammar.specs.Syntax.{Slot, Arg, Args, new, LineCode, linkL, typeL, langL, thingL, blankL, factL, ruleL, lineFamily}
 use Rattle.grammar.specs.Reading.{Read, got, refused, andThen, Readers, Begun, after, unknown, newAt, argAt, argsAt, closeAt, bodyAt, readersAt, lineRoom, begunAbove}
-use Rattle.stores.specs.Lines.{poolBase, putName, putNode, putFact, putRule, lineNames, lineCells, lineValues}
+use Rattle.encoding.specs.Encode.{poolBase}
+use Rattle.stores.specs.Lines.{putName, putNode, putFact, putRule, lineNames, lineCells, lineValues}
 use Rattle.itemreader.specs.Answers.{Reads, valueOf, Inside, restAt}
 use Rattle.itemreader.specs.declared.Value.{Value}
 use Rattle.itemreader.proofs.Items.{item-within, named-short, item-got, item-refused}
@@ -94,7 +95,7 @@ module _ (s : List ℕ) (a : Book) (room : Bool) where
     pub all₃ : lineRest (k ∷ l ∷ m ∷ []) f n at ≡ lineEnd s a room (f (x, (y, (z, tt)))) h
     all₃ = arg-got k (l ∷ m ∷ []) f n at x i e ∙ all₂ l m (λ xs. f (x, xs)) (after k x n) i y j q z h p
 
-pub body-is : (s : List ℕ) (a : Book) (c : LineCode) (at : ℕ) → lineBody s a c at ≡ lineRest s a (lineRoom s a c) (lineFamily .slots c) (lineFamily .build c) (begunAbove s a) at
+pub body-is : (s : List ℕ) (a : Book) (c : LineCode) (at : ℕ) → lineBody s a c at ≡ lineRest s a (lineRoom s a c) (lineFamily .slots c) (lineFamily .build c) (begunAbove a) at
 unfolding lineBody bodyAt
 body-is s a c at = refl
 
@@ -213,19 +214,19 @@ ended-room s a room l at next e = go (eqb (getD s at 0) 41) room e
 
 -- ---- lines that hold a name and nothing else
 module _ (s : List ℕ) (a : Book) where
-  pub lone-stop : (p : Pool) → Lone p → (at r : ℕ) → argAt s a (readersAt s a 31) (new p) (begunAbove s a) at ≡ refused r → lineBody s a (loneCode p) at ≡ refused r
+  pub lone-stop : (p : Pool) → Lone p → (at r : ℕ) → argAt s a (readersAt s a 31) (new p) (begunAbove a) at ≡ refused r → lineBody s a (loneCode p) at ≡ refused r
   lone-stop nodes o at r e = absurd o
-  lone-stop links o at r e = body-is s a linkL at ∙ stop₁ s a (lineRoom s a linkL) (new links) [] (lineFamily .build linkL) (begunAbove s a) at r e
-  lone-stop types o at r e = body-is s a typeL at ∙ stop₁ s a (lineRoom s a typeL) (new types) [] (lineFamily .build typeL) (begunAbove s a) at r e
-  lone-stop langs o at r e = body-is s a langL at ∙ stop₁ s a (lineRoom s a langL) (new langs) [] (lineFamily .build langL) (begunAbove s a) at r e
+  lone-stop links o at r e = body-is s a linkL at ∙ stop₁ s a (lineRoom s a linkL) (new links) [] (lineFamily .build linkL) (begunAbove a) at r e
+  lone-stop types o at r e = body-is s a typeL at ∙ stop₁ s a (lineRoom s a typeL) (new types) [] (lineFamily .build typeL) (begunAbove a) at r e
+  lone-stop langs o at r e = body-is s a langL at ∙ stop₁ s a (lineRoom s a langL) (new langs) [] (lineFamily .build langL) (begunAbove a) at r e
   lone-stop shapes o at r e = absurd o
 
-  pub lone-got : (p : Pool) → Lone p → (at : ℕ) (w : Name) (i : ℕ) → argAt s a (readersAt s a 31) (new p) (begunAbove s a) at ≡ got w i → lineBody s a (loneCode p) at ≡ lineEnd s a true (loneLine p w) i
+  pub lone-got : (p : Pool) → Lone p → (at : ℕ) (w : Name) (i : ℕ) → argAt s a (readersAt s a 31) (new p) (begunAbove a) at ≡ got w i → lineBody s a (loneCode p) at ≡ lineEnd s a true (loneLine p w) i
   unfolding lineRoom
   lone-got nodes o at w i e = absurd o
-  lone-got links o at w i e = body-is s a linkL at ∙ all₁ s a true (new links) (lineFamily .build linkL) (begunAbove s a) at w i e
-  lone-got types o at w i e = body-is s a typeL at ∙ all₁ s a true (new types) (lineFamily .build typeL) (begunAbove s a) at w i e
-  lone-got langs o at w i e = body-is s a langL at ∙ all₁ s a true (new langs) (lineFamily .build langL) (begunAbove s a) at w i e
+  lone-got links o at w i e = body-is s a linkL at ∙ all₁ s a true (new links) (lineFamily .build linkL) (begunAbove a) at w i e
+  lone-got types o at w i e = body-is s a typeL at ∙ all₁ s a true (new types) (lineFamily .build typeL) (begunAbove a) at w i e
+  lone-got langs o at w i e = body-is s a langL at ∙ all₁ s a true (new langs) (lineFamily .build langL) (begunAbove a) at w i e
   lone-got shapes o at w i e = absurd o
 
 module _ (a : Book) (w : Name) where
@@ -268,14 +269,14 @@ node-counted w t c = simp add-zero
 
 -- ---- thing and blank
 module _ (s : List ℕ) (a : Book) where
-  pub resource-stop : (k at r : ℕ) → argAt s a (readersAt s a 31) (new nodes) (begunAbove s a) at ≡ refused r → lineBody s a (resourceCode k) at ≡ refused r
-  resource-stop zero at r e = body-is s a thingL at ∙ stop₁ s a (lineRoom s a thingL) (new nodes) [] (lineFamily .build thingL) (begunAbove s a) at r e
-  resource-stop (suc k) at r e = body-is s a blankL at ∙ stop₁ s a (lineRoom s a blankL) (new nodes) [] (lineFamily .build blankL) (begunAbove s a) at r e
+  pub resource-stop : (k at r : ℕ) → argAt s a (readersAt s a 31) (new nodes) (begunAbove a) at ≡ refused r → lineBody s a (resourceCode k) at ≡ refused r
+  resource-stop zero at r e = body-is s a thingL at ∙ stop₁ s a (lineRoom s a thingL) (new nodes) [] (lineFamily .build thingL) (begunAbove a) at r e
+  resource-stop (suc k) at r e = body-is s a blankL at ∙ stop₁ s a (lineRoom s a blankL) (new nodes) [] (lineFamily .build blankL) (begunAbove a) at r e
 
-  pub resource-got : (k at : ℕ) (w : Name) (i : ℕ) → argAt s a (readersAt s a 31) (new nodes) (begunAbove s a) at ≡ got w i → lineBody s a (resourceCode k) at ≡ lineEnd s a true (node w (resourceTerm k)) i
+  pub resource-got : (k at : ℕ) (w : Name) (i : ℕ) → argAt s a (readersAt s a 31) (new nodes) (begunAbove a) at ≡ got w i → lineBody s a (resourceCode k) at ≡ lineEnd s a true (node w (resourceTerm k)) i
   unfolding lineRoom
-  resource-got zero at w i e = body-is s a thingL at ∙ all₁ s a true (new nodes) (lineFamily .build thingL) (begunAbove s a) at w i e
-  resource-got (suc k) at w i e = body-is s a blankL at ∙ all₁ s a true (new nodes) (lineFamily .build blankL) (begunAbove s a) at w i e
+  resource-got zero at w i e = body-is s a thingL at ∙ all₁ s a true (new nodes) (lineFamily .build thingL) (begunAbove a) at w i e
+  resource-got (suc k) at w i e = body-is s a blankL at ∙ all₁ s a true (new nodes) (lineFamily .build blankL) (begunAbove a) at w i e
 
 pub resource-row : (k : ℕ) → k ≤ 1 → Row (record { kind = k; datatype = 0; lang = 0 }) (pos 0) (resourceTerm k)
 unfolding nodeRow

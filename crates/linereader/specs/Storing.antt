@@ -66,7 +66,7 @@ lineEnd s a room l at = andThen (closeAt s a room l at) (endLine s)
 
 -- what follows the word of a line: its arguments, its closing bracket and its LF
 unfoldable pub lineBody : List ℕ → Book → LineCode → ℕ → Read Line
-lineBody s a c at = andThen (bodyAt s a lineFamily (readersAt s a 31) (lineRoom s a) c (begunAbove s a) at) (endLine s)
+lineBody s a c at = andThen (bodyAt s a lineFamily (readersAt s a 31) (lineRoom s a) c (begunAbove a) at) (endLine s)
 
 -- ---- answers
 abbrev pub endedWith : Counts → Read Line → LineAnswer

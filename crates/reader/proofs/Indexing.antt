@@ -17,8 +17,7 @@ use Rattle.text.proofs.Places.{pool-place}
 use Rattle.model.specs.Books.{Name, Line, link, type, lang, node, fact, shape, rule, Book, Pool, nodes, links, types, langs, shapes, poolNumber, joins, newNames, names}
 use Rattle.model.specs.Valid.{capacity}
 use Rattle.model.proofs.Lines.{names-snoc}
-use Rattle.encoding.specs.Encode.{encodeNames}
-use Rattle.stores.specs.Lines.{poolBase}
+use Rattle.encoding.specs.Encode.{encodeNames, poolBase}
 use Rattle.stores.proofs.Prefixes.{Prefix}
 use Rattle.stores.proofs.Lookups.{pool-held}
 use Rattle.itemreader.specs.declared.Counts.{Counts}

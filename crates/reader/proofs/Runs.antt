@@ -183,7 +183,7 @@ module _ (s ns₀ cs₀ : List ℕ) (vs₀ : List ℤ) where
           let S = R .sane in
           let w = done-next a n r ns ns′ cs cs′ vs vs′ (lineAt s a at) next m d e in
           let l = w .line in
-          let u = line-sound s a (pools-of a S) (fit-of s a S) at (R .within) l next (w .read) in
+          let u = line-sound s a (pools-of a S) (fit-of a S) at (R .within) l next (w .read) in
           let ok = u .1 in
           let past = longer s at next (writeLine a l) (u .0) in
           let P = prefix-more a l prefix ok in

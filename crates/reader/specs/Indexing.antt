@@ -7,7 +7,7 @@ use Rattle.chains.specs.Chains.{linked}
 use Rattle.text.specs.Pool.{nameKey}
 use Rattle.model.specs.Books.{Pool, nodes, links, types, langs, shapes}
 use Rattle.model.specs.Valid.{capacity}
-use Rattle.stores.specs.Lines.{poolBase}
+use Rattle.encoding.specs.Encode.{poolBase}
 use Rattle.itemreader.specs.declared.Counts.{Counts}
 use Rattle.itemreader.specs.Held.{countOf}
 

@@ -24,8 +24,9 @@ use Rattle.encoding.specs.Flatten.{last, Entries, addShape, addShapes, rootsOf,
 use Rattle.encoding.specs.Encode.{Content, cellColumns, valueColumns, entriesOf}
 use Rattle.encoding.proofs.Counts.{shape-size, entries-size, terms-counted, shapes-counted}
 use Rattle.encoding.proofs.Schema.{entries-snoc, roots-snoc, roots-length}
+use Rattle.grammar.specs.Reading.{begunAbove}
 use Rattle.grammar.specs.Valid.{validLine}
-use Rattle.stores.specs.Lines.{putNode, putFact, putRule, endedAbove, lineCells, lineValues}
+use Rattle.stores.specs.Lines.{putNode, putFact, putRule, lineCells, lineValues}
 use Rattle.stores.proofs.Columns.{put, put₃}
 use Rattle.stores.proofs.Prefixes.{line-right}
 use Rattle.stores.proofs.Entries.{withEntries, cellTable, valueTable, sizes, Within, after-shape, shape-cells, shape-values}
@@ -126,8 +127,8 @@ module _ (a : Book) where
   abbrev above : Entries
   above = addShapes (collect newShapes a) noEntries
 
-  ended-sizes : endedAbove a ≡ sizes above
-  unfolding endedAbove entriesOf
+  ended-sizes : begunAbove a ≡ sizes above
+  unfolding begunAbove entriesOf
   ended-sizes =
       let s = entries-size a in
       let f : formsIn a ≡ length (above .forms) = omega arith in

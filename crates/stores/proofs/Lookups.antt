@@ -18,10 +18,9 @@ use Rattle.model.specs.Valid.{capacity, isResource}
 use Rattle.model.proofs.Lines.{names-within}
 use Rattle.tables.specs.Layout.{kindAt, nodeKinds}
 use Rattle.encoding.specs.Rows.{nodeRow}
-use Rattle.encoding.specs.Encode.{cellColumns, nameColumns, encodeNames}
+use Rattle.encoding.specs.Encode.{cellColumns, nameColumns, encodeNames, poolBase}
 use Rattle.encoding.proofs.Places.{slice-is, at-column}
 use Rattle.encoding.proofs.Counts.{terms-counted}
-use Rattle.stores.specs.Lines.{poolBase}
 use Rattle.stores.proofs.Columns.{column-inside}
 use Rattle.stores.proofs.Prefixes.{Prefix}
 use Rattle.stores.proofs.Entries.{cellTable}

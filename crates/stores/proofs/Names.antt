@@ -16,9 +16,9 @@ use Rattle.text.proofs.Places.{pool-append, pool-length}
 use Rattle.model.specs.Books.{Name, Line, link, type, lang, node, fact, shape, rule, Book, Pool, nodes, links, types, langs, shapes, poolNumber, joins, newNames, names}
 use Rattle.model.specs.Valid.{capacity, hasRoom, lineOk}
 use Rattle.model.proofs.Lines.{names-snoc}
-use Rattle.encoding.specs.Encode.{col, nameColumns, encodeNames}
+use Rattle.encoding.specs.Encode.{col, nameColumns, encodeNames, poolBase}
 use Rattle.grammar.specs.Valid.{newName, namesOk, validLine}
-use Rattle.stores.specs.Lines.{poolBase, putName, lineNames}
+use Rattle.stores.specs.Lines.{putName, lineNames}
 use Rattle.stores.proofs.Columns.{extend, store-next}
 use Rattle.stores.proofs.Prefixes.{Prefix, line-right, line-named, new-made}
 

@@ -9,21 +9,12 @@ use Rattle.text.specs.Pool.{padded, store}
 use Rattle.model.specs.Graph.{Term, Triple}
 use Rattle.model.specs.Rules.{Rule}
 use Rattle.model.specs.Books.{Name, Line, link, type, lang, node, fact, shape, rule, Book, Pool, nodes, links, types, langs, shapes, names, collect, newTriples, rules}
-use Rattle.model.specs.Sizes.{formsIn, pathsIn, itemsIn}
-use Rattle.tables.specs.Layout.{nodeKinds, nodeTypes, nodeLangs, subjects, predicates, objects, roots, ruleShapes, ruleTargets, ruleOperands, linkNames, typeNames, langNames, shapeNames, nameCount, cellCount, valueCount}
+use Rattle.tables.specs.Layout.{nodeKinds, nodeTypes, nodeLangs, subjects, predicates, objects, roots, ruleShapes, ruleTargets, ruleOperands, nameCount, cellCount, valueCount}
 use Rattle.encoding.specs.Rows.{nodeRow, targetCode, targetOperand}
-use Rattle.encoding.specs.Encode.{countsOf}
+use Rattle.encoding.specs.Encode.{countsOf, poolBase}
 use Rattle.grammar.specs.Syntax.{form}
-use Rattle.grammar.specs.Reading.{Begun, after}
+use Rattle.grammar.specs.Reading.{after, begunAbove}
 use Rattle.stores.specs.Entries.{shapeCells, shapeValues}
-
--- where a pool begins among the names
-unfoldable pub poolBase : Pool → ℕ
-poolBase nodes = 0
-poolBase links = linkNames
-poolBase types = typeNames
-poolBase langs = langNames
-poolBase shapes = shapeNames
 
 -- name number k of a pool
 unfoldable pub putName : Pool → ℕ → Name → List ℕ → List ℕ
@@ -37,10 +28,6 @@ putFact i t cs = set (set (set cs (subjects + i) (t .subject)) (predicates + i) 
 
 unfoldable pub putRule : ℕ → Rule → List ℕ → List ℕ
 putRule r x cs = set (set (set cs (ruleShapes + r) (x .shape)) (ruleTargets + r) (targetCode (x .target))) (ruleOperands + r) (targetOperand (x .target))
-
--- the entries begun and ended by the lines above
-unfoldable pub endedAbove : Book → Begun
-endedAbove above = record { forms = formsIn above; paths = pathsIn above; items = itemsIn above }
 
 -- above: the lines above
 module _ (above : Book) where
@@ -59,7 +46,7 @@ module _ (above : Book) where
   lineCells (lang n) cs = cs
   lineCells (node n t) cs = putNode (length (names nodes above)) t cs
   lineCells (fact t) cs = putFact (length (collect newTriples above)) t cs
-  lineCells (shape n φ) cs = set (shapeCells (endedAbove above) φ cs) (roots + length (names shapes above)) (after form φ (endedAbove above) .forms - 1)
+  lineCells (shape n φ) cs = set (shapeCells (begunAbove above) φ cs) (roots + length (names shapes above)) (after form φ (begunAbove above) .forms - 1)
   lineCells (rule r) cs = putRule (length (rules above)) r cs
 
   unfoldable pub lineValues : Line → List ℤ → List ℤ
@@ -68,7 +55,7 @@ module _ (above : Book) where
   lineValues (lang n) vs = vs
   lineValues (node n t) vs = set vs (length (names nodes above)) (nodeRow t .value)
   lineValues (fact t) vs = vs
-  lineValues (shape n φ) vs = shapeValues (endedAbove above) φ vs
+  lineValues (shape n φ) vs = shapeValues (begunAbove above) φ vs
   lineValues (rule r) vs = vs
 
 -- the lines of a book, after those above

@@ -21,11 +21,11 @@ use Rattle.bodyreader.proofs.shape_line.Statement.{statement}
 use Rattle.bodyreader.proofs.shape_line.Tie as tie
 
 -- the form after the name, as it was read
-read : (c : tie.After-read-form) (a : Book) → Held (c .before .before .before .before .before .before .before .before .before .before .before .before .before .args .names .now) (c .before .before .before .before .before .before .before .before .before .before .before .before .before .args .counts) a → (w : Name) → FormRead (argAt (c .before .before .before .before .before .before .before .before .before .before .before .before .before .args .book .now) a (readersAt (c .before .before .before .before .before .before .before .before .before .before .before .before .before .args .book .now) a 31) form (after (new shapes) w (begunAbove (c .before .before .before .before .before .before .before .before .before .before .before .before .before .args .book .now) a)) (c .before .before .before .before .before .new .given .0 .1 .0)) (begunOf (endedNow (c .before .before .before .before .before .before .before .before .before .before .before .before .before .args .counts))) (c .before .before .before .before .before .before .before .before .before .before .before .before .before .args .cells .now) (c .read-form .last .0) (c .before .before .before .before .before .before .before .before .before .before .before .before .before .args .values .now) (c .read-form .last .1 .0) (c .read-form .result)
+read : (c : tie.After-read-form) (a : Book) → Held (c .before .before .before .before .before .before .before .before .before .before .before .before .before .args .names .now) (c .before .before .before .before .before .before .before .before .before .before .before .before .before .args .counts) a → (w : Name) → FormRead (argAt (c .before .before .before .before .before .before .before .before .before .before .before .before .before .args .book .now) a (readersAt (c .before .before .before .before .before .before .before .before .before .before .before .before .before .args .book .now) a 31) form (after (new shapes) w (begunAbove a)) (c .before .before .before .before .before .new .given .0 .1 .0)) (begunOf (endedNow (c .before .before .before .before .before .before .before .before .before .before .before .before .before .args .counts))) (c .before .before .before .before .before .before .before .before .before .before .before .before .before .args .cells .now) (c .read-form .last .0) (c .before .before .before .before .before .before .before .before .before .before .before .before .before .args .values .now) (c .read-form .last .1 .0) (c .read-form .result)
 read c a h w =
     let s = c .before .before .before .before .before .before .before .before .before .before .before .before .before .args in
-    let e = begun-after (s .names .now) (s .counts) a h (s .book .now) w in
-    c .read-form .ensures .0 a h (after (new shapes) w (begunAbove (s .book .now) a)) (ap (λ (b : Begun). b .forms) e ∙ sym (add-zero (s .counts .forms))) (ap (λ (b : Begun). b .paths) e) (ap (λ (b : Begun). b .items) e)
+    let e = begun-after (s .names .now) (s .counts) a h w in
+    c .read-form .ensures .0 a h (after (new shapes) w (begunAbove a)) (ap (λ (b : Begun). b .forms) e ∙ sym (add-zero (s .counts .forms))) (ap (λ (b : Begun). b .paths) e) (ap (λ (b : Begun). b .items) e)
 
 read-new-requires : tie.Need-read-new-requires
 read-new-requires c κs = search needs
@@ -50,7 +50,7 @@ returns c =
     let k = c .before .enum-told .given in
     let m = c .refusal .result in
     λ a h. done-no a (s .counts) (lineBody S a shapeL (s .at)) _ m (s .names .now) (s .cells .now) (s .values .now)
-    (body-is S a shapeL (s .at) ∙ stop₁ S a (lineRoom S a shapeL) (new shapes) (form ∷ []) (lineFamily .build shapeL) (begunAbove S a) (s .at) m (item-stop S a (new shapes) length (begunAbove S a) (s .at) (r .result) (k .0 .0) m (r .ensures .0 a h) (k .1) (c .refusal .ensures))) refl
+    (body-is S a shapeL (s .at) ∙ stop₁ S a (lineRoom S a shapeL) (new shapes) (form ∷ []) (lineFamily .build shapeL) (begunAbove a) (s .at) m (item-stop S a (new shapes) length (begunAbove a) (s .at) (r .result) (k .0 .0) m (r .ensures .0 a h) (k .1) (c .refusal .ensures))) refl
 
 read-form-requires : tie.Need-read-form-requires
 read-form-requires c κs =
@@ -73,7 +73,7 @@ shape-end-requires c κs =
     let v = c .before .before .before .m .given in
     let q = c .before .before .before .before .before .before .before .before .before .before .before .before .before .before .before .before .before .before .before .before .before .pre in
     let (a, h) = q .6 in
-    let f = new-facts (s .book .now) a shapes (begunAbove (s .book .now) a) (s .at) (r .result) (u .0 .0) (u .0 .1 .0) (r .ensures .0 a h) (u .1) in
+    let f = new-facts (s .book .now) a shapes (begunAbove a) (s .at) (r .result) (u .0 .0) (u .0 .1 .0) (r .ensures .0 a h) (u .1) in
     let m = shape-room (s .counts .shapes) (let x = f .room in let y = h .name-count shapes in omega arith) in
     let i = within-is _ _ _ (o .result) (v .0 .0) (v .0 .1 .0) (o .ensures .1 .0) (v .1) in
     let j = i .0 in
@@ -99,7 +99,7 @@ returns-2 c =
     let k = c .before .k .given in
     λ a h.
     let w = slice (s .at + 1) (u .0 .1 .0) S in
-    let b = begunAbove S a in
+    let b = begunAbove a in
     let e = new-got S a shapes b (s .at) (r .result) (u .0 .0) (u .0 .1 .0) (r .ensures .0 a h) (u .1) in
     done-past a (s .counts) (lineBody S a shapeL (s .at)) _ (k .0 .0) (s .names .now) (s .cells .now) _ (s .values .now) _
     (body-is S a shapeL (s .at) ∙ stop₂ S a (lineRoom S a shapeL) (new shapes) form [] (lineFamily .build shapeL) b (s .at) w (u .0 .1 .0) e (k .0 .0) (form-refused (k .0 .0) (read (c .before .before .before .before .before .before) a h w) (k .1))) refl (o .ensures .1 .1 .0) (o .ensures .1 .1 .1)
@@ -125,7 +125,7 @@ returns-3 c =
     let d = c .before .before .before .before .shape-end in
     λ a h.
     let w = slice (s .at + 1) (u .0 .1 .0) S in
-    let b = begunAbove S a in
+    let b = begunAbove a in
     let e = new-got S a shapes b (s .at) (r .result) (u .0 .0) (u .0 .1 .0) (r .ensures .0 a h) (u .1) in
     let g = form-got (v .0 .0) (v .0 .1 .0) (read (c .before .before .before .before .before .before .before .before .before .before .before .before .before) a h w) (v .1) in
     let q = body-is S a shapeL (s .at) ∙ all₂ S a true (new shapes) form (lineFamily .build shapeL) b (s .at) w (u .0 .1 .0) e (g .tree) (v .0 .1 .0) (g .is) in

@@ -1,4 +1,4 @@
-use Rattle.stores.specs.Lines.{poolBase}
+use Rattle.encoding.specs.Encode.{poolBase}
 use borrow.Author.Needs.{needs}
 use Rattle.itemreader.proofs.base.Statement.{statement}
 use Rattle.itemreader.proofs.base.Tie as tie

@@ -3,7 +3,7 @@ use Prim.Native.Nat.{_+_}
 use borrow.Author.Tests.{eq-eqb, ne-eqb, not-true, not-false}
 use lib.Seq.{slice}
 use Rattle.grammar.specs.Reading.{argAt}
-use Rattle.stores.specs.Lines.{poolBase}
+use Rattle.encoding.specs.Encode.{poolBase}
 use Rattle.itemreader.specs.Answers.{poolOf}
 use Rattle.itemreader.specs.Held.{countOf}
 use Rattle.itemreader.proofs.Items.{item-within, named-short, found-below, used-ill, used-unknown, used-known}

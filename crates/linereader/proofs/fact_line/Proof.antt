@@ -40,7 +40,7 @@ returns c =
     let m = c .refusal .result in
     λ a vs h kinds.
     let R = readersAt S a 31 in
-    let b = begunAbove S a in
+    let b = begunAbove a in
     done-no a (s .counts) (lineBody S a factL (s .at)) _ m (s .names .now) (s .cells .now) vs (body-is S a factL (s .at) ∙ stop₁ S a (lineRoom S a factL) subject (used links ∷ used nodes ∷ []) (lineFamily .build factL) b (s .at) m (item-stop S a subject same b (s .at) (r₁ .result) (k .0 .0) m (r₁ .ensures .0 a h kinds) (k .1) (c .refusal .ensures))) refl
 
 read-used-requires : tie.Need-read-used-requires
@@ -71,7 +71,7 @@ returns-2 c =
     let m = c .refusal2 .result in
     λ a vs h kinds.
     let R = readersAt S a 31 in
-    let b = begunAbove S a in
+    let b = begunAbove a in
     let e₁ = number-got (argAt S a R subject b (s .at)) (r₁ .result) (u₁ .0 .0) (u₁ .0 .1 .0) (r₁ .ensures .0 a h kinds R b) (u₁ .1) in
     let b₁ = after subject (u₁ .0 .0) b in
     done-no a (s .counts) (lineBody S a factL (s .at)) _ m (s .names .now) (s .cells .now) vs (body-is S a factL (s .at) ∙ stop₂ S a (lineRoom S a factL) subject (used links) (used nodes ∷ []) (lineFamily .build factL) b (s .at) (u₁ .0 .0) (u₁ .0 .1 .0) e₁ m (item-stop S a (used links) same b₁ (u₁ .0 .1 .0) (r₂ .result) (k .0 .0) m (r₂ .ensures .0 a h) (k .1) (c .refusal2 .ensures))) refl
@@ -106,7 +106,7 @@ returns-3 c =
     let m = c .refusal3 .result in
     λ a vs h kinds.
     let R = readersAt S a 31 in
-    let b = begunAbove S a in
+    let b = begunAbove a in
     let e₁ = number-got (argAt S a R subject b (s .at)) (r₁ .result) (u₁ .0 .0) (u₁ .0 .1 .0) (r₁ .ensures .0 a h kinds R b) (u₁ .1) in
     let b₁ = after subject (u₁ .0 .0) b in
     let e₂ = number-got (argAt S a R (used links) b₁ (u₁ .0 .1 .0)) (r₂ .result) (u₂ .0 .0) (u₂ .0 .1 .0) (r₂ .ensures .0 a h R b₁) (u₂ .1) in
@@ -143,7 +143,7 @@ returns-4 c =
     let k = c .enum-told5 .given in
     λ a vs h kinds.
     let R = readersAt S a 31 in
-    let b = begunAbove S a in
+    let b = begunAbove a in
     let e₁ = number-got (argAt S a R subject b (s .at)) (r₁ .result) (u₁ .0 .0) (u₁ .0 .1 .0) (r₁ .ensures .0 a h kinds R b) (u₁ .1) in
     let b₁ = after subject (u₁ .0 .0) b in
     let e₂ = number-got (argAt S a R (used links) b₁ (u₁ .0 .1 .0)) (r₂ .result) (u₂ .0 .0) (u₂ .0 .1 .0) (r₂ .ensures .0 a h R b₁) (u₂ .1) in
@@ -207,7 +207,7 @@ returns-5 c =
     let k = c .before .before .before .before .enum-told4 .given in
     λ a vs h kinds.
     let R = readersAt S a 31 in
-    let b = begunAbove S a in
+    let b = begunAbove a in
     let e₁ = number-got (argAt S a R subject b (s .at)) (r₁ .result) (u₁ .0 .0) (u₁ .0 .1 .0) (r₁ .ensures .0 a h kinds R b) (u₁ .1) in
     let b₁ = after subject (u₁ .0 .0) b in
     let e₂ = number-got (argAt S a R (used links) b₁ (u₁ .0 .1 .0)) (r₂ .result) (u₂ .0 .0) (u₂ .0 .1 .0) (r₂ .ensures .0 a h R b₁) (u₂ .1) in

@@ -40,7 +40,7 @@ returns c =
     let k = c .before .enum-told .given in
     λ a cs vs h. done-no a (s .counts) (lineBody (s .book .now) a (loneCode p) (s .at)) _ (c .refusal .result) (s .names .now) cs vs
     (lone-stop (s .book .now) a p (c .before .before .before .before .before .before .before .before .pre .4) (s .at) (c .refusal .result)
-    (item-stop (s .book .now) a (new p) length (begunAbove (s .book .now) a) (s .at) (r .result) (k .0 .0) (c .refusal .result) (r .ensures .0 a h) (k .1) (c .refusal .ensures)))
+    (item-stop (s .book .now) a (new p) length (begunAbove a) (s .at) (r .result) (k .0 .0) (c .refusal .result) (r .ensures .0 a h) (k .1) (c .refusal .ensures)))
     refl
 
 with-name-requires : tie.Need-with-name-requires
@@ -68,7 +68,7 @@ returns-2 c =
     let k = c .enum-told3 .given in
     λ a cs vs h.
     let w = slice (s .at + 1) (u .0 .1 .0) (s .book .now) in
-    let e = lone-got (s .book .now) a p (c .before .before .before .before .before .before .before .before .before .before .before .before .pre .4) (s .at) w (u .0 .1 .0) (new-got (s .book .now) a p (begunAbove (s .book .now) a) (s .at) (r .result) (u .0 .0) (u .0 .1 .0) (r .ensures .0 a h) (u .1)) in
+    let e = lone-got (s .book .now) a p (c .before .before .before .before .before .before .before .before .before .before .before .before .pre .4) (s .at) w (u .0 .1 .0) (new-got (s .book .now) a p (begunAbove a) (s .at) (r .result) (u .0 .0) (u .0 .1 .0) (r .ensures .0 a h) (u .1)) in
     done-no a (s .counts) (lineBody (s .book .now) a (loneCode p) (s .at)) _ (k .0 .0) (s .names .now) cs vs
     (e ∙ ended-no (c .before .before .before .with-name .result) (lineEnd (s .book .now) a true (loneLine p w) (u .0 .1 .0)) (o .result) (k .0 .0) (o .ensures a (loneLine p w)) (k .1))
     (k .1)
@@ -81,7 +81,7 @@ put-new-requires c κs =
     let u = c .before .before .before .before .before .before .new .given in
     let q = c .before .before .before .before .before .before .before .before .before .before .before .before .before .pre in
     let (a, h) = q .3 in
-    let f = new-facts (s .book .now) a p (begunAbove (s .book .now) a) (s .at) (r .result) (u .0 .0) (u .0 .1 .0) (r .ensures .0 a h) (u .1) in
+    let f = new-facts (s .book .now) a p (begunAbove a) (s .at) (r .result) (u .0 .0) (u .0 .1 .0) (r .ensures .0 a h) (u .1) in
     let l = new-place p (countOf (s .counts) p) (let m = f .room in let n = h .name-count p in omega arith) in
     (f .from, f .within, f .short, l, q .1, q .2)
 
@@ -99,7 +99,7 @@ returns-3 c =
     let lone = c .before .before .before .before .before .before .before .before .before .before .before .before .before .before .before .before .pre .4 in
     λ a cs vs h.
     let w = slice (s .at + 1) (u .0 .1 .0) (s .book .now) in
-    let e = lone-got (s .book .now) a p lone (s .at) w (u .0 .1 .0) (new-got (s .book .now) a p (begunAbove (s .book .now) a) (s .at) (r .result) (u .0 .0) (u .0 .1 .0) (r .ensures .0 a h) (u .1)) in
+    let e = lone-got (s .book .now) a p lone (s .at) w (u .0 .1 .0) (new-got (s .book .now) a p (begunAbove a) (s .at) (r .result) (u .0 .0) (u .0 .1 .0) (r .ensures .0 a h) (u .1)) in
     let y = ended-yes (s .book .now) a true (loneLine p w) (u .0 .1 .0) (c .before .before .before .before .before .before .before .with-name .result) (o .result) (k .0 .0) (k .0 .1 .0) (o .ensures a (loneLine p w)) (k .1) in
     done-yes a (s .counts) (lineBody (s .book .now) a (loneCode p) (s .at)) (loneLine p w) (k .0 .0) _ (s .names .now) _ cs cs vs vs
     (e ∙ y .0)

@@ -42,7 +42,7 @@ returns c =
     let k = c .before .enum-told .given in
     let m = c .refusal .result in
     λ a h. done-no a (s .counts) (lineBody S a numberL (s .at)) _ m (s .names .now) (s .cells .now) (s .values .now)
-    (body-is S a numberL (s .at) ∙ stop₁ S a (lineRoom S a numberL) (new nodes) (literalType ∷ value ∷ []) (lineFamily .build numberL) (begunAbove S a) (s .at) m (item-stop S a (new nodes) length (begunAbove S a) (s .at) (r .result) (k .0 .0) m (r .ensures .0 a h) (k .1) (c .refusal .ensures))) refl
+    (body-is S a numberL (s .at) ∙ stop₁ S a (lineRoom S a numberL) (new nodes) (literalType ∷ value ∷ []) (lineFamily .build numberL) (begunAbove a) (s .at) m (item-stop S a (new nodes) length (begunAbove a) (s .at) (r .result) (k .0 .0) m (r .ensures .0 a h) (k .1) (c .refusal .ensures))) refl
 
 read-type-requires : tie.Need-read-type-requires
 read-type-requires c κs =
@@ -72,8 +72,8 @@ returns-2 c =
     let m = c .refusal2 .result in
     λ a h.
     let w = slice (s .at + 1) (u .0 .1 .0) S in
-    let b = begunAbove S a in
-    let e = new-got S a nodes (begunAbove S a) (s .at) (r .result) (u .0 .0) (u .0 .1 .0) (r .ensures .0 a h) (u .1) in
+    let b = begunAbove a in
+    let e = new-got S a nodes (begunAbove a) (s .at) (r .result) (u .0 .0) (u .0 .1 .0) (r .ensures .0 a h) (u .1) in
     done-no a (s .counts) (lineBody S a numberL (s .at)) _ m (s .names .now) (s .cells .now) (s .values .now)
     (body-is S a numberL (s .at) ∙ stop₂ S a (lineRoom S a numberL) (new nodes) literalType (value ∷ []) (lineFamily .build numberL) b (s .at) w (u .0 .1 .0) e m (item-stop S a literalType same (after (new nodes) w b) (u .0 .1 .0) (r₂ .result) (k .0 .0) m (r₂ .ensures .0 a h) (k .1) (c .refusal2 .ensures))) refl
 
@@ -100,7 +100,7 @@ node-end-requires c κs =
     let l = value-within _ (c .before .before .before .before .before .before .read-value .result) _ _ (c .before .before .before .before .before .before .read-value .ensures .1) (c .before .before .before .before .value .given .1) in
     let q = c .before .before .before .before .before .before .before .before .before .before .before .before .before .before .before .before .before .before .before .before .before .pre in
     let (a, h) = q .5 in
-    let f = new-facts (s .book .now) a nodes (begunAbove (s .book .now) a) (s .at) (r .result) (u .0 .0) (u .0 .1 .0) (r .ensures .0 a h) (u .1) in
+    let f = new-facts (s .book .now) a nodes (begunAbove a) (s .at) (r .result) (u .0 .0) (u .0 .1 .0) (r .ensures .0 a h) (u .1) in
     let m = node-room (s .counts .nodes) (let x = f .room in let y = h .name-count nodes in omega arith) in
     (f .from, f .within, f .short, l, m, q .1, q .2, q .3, q .4)
 
@@ -120,10 +120,10 @@ returns-3 c =
     λ a h.
     let w = slice (s .at + 1) (u .0 .1 .0) S in
     let R = readersAt S a 31 in
-    let b = begunAbove S a in
+    let b = begunAbove a in
     let b₁ = after (new nodes) w b in
     let b₂ = after literalType (v .0 .0) b₁ in
-    let e = new-got S a nodes (begunAbove S a) (s .at) (r .result) (u .0 .0) (u .0 .1 .0) (r .ensures .0 a h) (u .1) in
+    let e = new-got S a nodes (begunAbove a) (s .at) (r .result) (u .0 .0) (u .0 .1 .0) (r .ensures .0 a h) (u .1) in
     let e₂ = number-got (argAt S a R literalType b₁ (u .0 .1 .0)) (r₂ .result) (v .0 .0) (v .0 .1 .0) (r₂ .ensures .0 a h R b₁) (v .1) in
     let e₃ = value-refused (argAt S a R value b₂ (v .0 .1 .0)) (r₃ .result) (k .0 .0) (r₃ .ensures .0 a R b₂) (k .1) in
     done-no a (s .counts) (lineBody S a numberL (s .at)) _ (k .0 .0) (s .names .now) (s .cells .now) (s .values .now)
@@ -153,10 +153,10 @@ returns-4 c =
     λ a h.
     let w = slice (s .at + 1) (u .0 .1 .0) S in
     let R = readersAt S a 31 in
-    let b = begunAbove S a in
+    let b = begunAbove a in
     let b₁ = after (new nodes) w b in
     let b₂ = after literalType (v .0 .0) b₁ in
-    let e = new-got S a nodes (begunAbove S a) (s .at) (r .result) (u .0 .0) (u .0 .1 .0) (r .ensures .0 a h) (u .1) in
+    let e = new-got S a nodes (begunAbove a) (s .at) (r .result) (u .0 .0) (u .0 .1 .0) (r .ensures .0 a h) (u .1) in
     let e₂ = number-got (argAt S a R literalType b₁ (u .0 .1 .0)) (r₂ .result) (v .0 .0) (v .0 .1 .0) (r₂ .ensures .0 a h R b₁) (v .1) in
     let e₃ = value-got (argAt S a R value b₂ (v .0 .1 .0)) (r₃ .result) (x .0 .0) (x .0 .1 .0) (r₃ .ensures .0 a R b₂) (x .1) in
     let q = body-is S a numberL (s .at) ∙ all₃ S a true (new nodes) literalType value (lineFamily .build numberL) b (s .at) w (u .0 .1 .0) e (v .0 .0) (v .0 .1 .0) e₂ (x .0 .0) (x .0 .1 .0) e₃ in

@@ -36,7 +36,7 @@ returns c =
     let k = c .before .enum-told .given in
     let m = c .refusal .result in
     λ a h. done-no a (s .counts) (lineBody S a (resourceCode (s .kind)) (s .at)) _ m (s .names .now) (s .cells .now) (s .values .now)
-    (resource-stop S a (s .kind) (s .at) m (item-stop S a (new nodes) length (begunAbove S a) (s .at) (r .result) (k .0 .0) m (r .ensures .0 a h) (k .1) (c .refusal .ensures))) refl
+    (resource-stop S a (s .kind) (s .at) m (item-stop S a (new nodes) length (begunAbove a) (s .at) (r .result) (k .0 .0) m (r .ensures .0 a h) (k .1) (c .refusal .ensures))) refl
 
 node-end-requires : tie.Need-node-end-requires
 node-end-requires c κs =
@@ -45,7 +45,7 @@ node-end-requires c κs =
     let u = c .before .before .before .before .new .given in
     let q = c .before .before .before .before .before .before .before .before .before .before .before .before .pre in
     let (a, h) = q .6 in
-    let f = new-facts (s .book .now) a nodes (begunAbove (s .book .now) a) (s .at) (r .result) (u .0 .0) (u .0 .1 .0) (r .ensures .0 a h) (u .1) in
+    let f = new-facts (s .book .now) a nodes (begunAbove a) (s .at) (r .result) (u .0 .0) (u .0 .1 .0) (r .ensures .0 a h) (u .1) in
     let m = node-room (s .counts .nodes) (let x = f .room in let y = h .name-count nodes in omega arith) in
     (f .from, f .within, f .short, f .within, m, q .2, q .3, q .4, q .5)
 
@@ -67,7 +67,7 @@ returns-2 c =
     let o = c .before .before .before .before .before .node-end in
     λ a h.
     let w = slice (s .at + 1) (u .0 .1 .0) S in
-    let e = resource-got S a (s .kind) (s .at) w (u .0 .1 .0) (new-got S a nodes (begunAbove S a) (s .at) (r .result) (u .0 .0) (u .0 .1 .0) (r .ensures .0 a h) (u .1)) in
+    let e = resource-got S a (s .kind) (s .at) w (u .0 .1 .0) (new-got S a nodes (begunAbove a) (s .at) (r .result) (u .0 .0) (u .0 .1 .0) (r .ensures .0 a h) (u .1)) in
     done-same a (s .counts) (lineBody S a (resourceCode (s .kind)) (s .at)) (lineEnd S a true (node w (resourceTerm (s .kind))) (u .0 .1 .0)) _ (s .names .now) _ (s .cells .now) _ (s .values .now) _ e (o .ensures a (resourceTerm (s .kind)) h (resource-row (s .kind) (c .before .before .before .before .before .before .before .before .before .before .before .before .before .before .before .before .before .before .pre .1)))
 
 pub resource-line-spec : {M : Type 1} → statement M

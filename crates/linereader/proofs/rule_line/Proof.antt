@@ -41,7 +41,7 @@ returns c =
     let k = c .before .enum-told .given in
     let m = c .refusal .result in
     λ a vs h. done-no a (s .counts) (lineBody S a ruleL (s .at)) _ m (s .names .now) (s .cells .now) vs
-    (body-is S a ruleL (s .at) ∙ stop₁ S a (lineRoom S a ruleL) (used shapes) (target ∷ []) (lineFamily .build ruleL) (begunAbove S a) (s .at) m (item-stop S a (used shapes) same (begunAbove S a) (s .at) (r .result) (k .0 .0) m (r .ensures .0 a h) (k .1) (c .refusal .ensures))) refl
+    (body-is S a ruleL (s .at) ∙ stop₁ S a (lineRoom S a ruleL) (used shapes) (target ∷ []) (lineFamily .build ruleL) (begunAbove a) (s .at) m (item-stop S a (used shapes) same (begunAbove a) (s .at) (r .result) (k .0 .0) m (r .ensures .0 a h) (k .1) (c .refusal .ensures))) refl
 
 read-target-requires : tie.Need-read-target-requires
 read-target-requires c κs =
@@ -81,7 +81,7 @@ returns-2 c =
     let k = c .enum-told3 .given in
     λ a vs h.
     let R = readersAt S a 31 in
-    let b = begunAbove S a in
+    let b = begunAbove a in
     let b₁ = after (used shapes) (u .0 .0) b in
     let e = number-got (argAt S a R (used shapes) b (s .at)) (r .result) (u .0 .0) (u .0 .1 .0) (r .ensures .0 a h R b) (u .1) in
     let t = target-read (argAt S a R target b₁ (u .0 .1 .0)) (r₂ .result) (v .0 .0) (v .0 .1 .0) (v .0 .1 .1 .0) (r₂ .ensures .0 a b₁ h) (v .1) in
@@ -135,7 +135,7 @@ returns-3 c =
     let k = c .before .k .given in
     λ a vs h.
     let R = readersAt S a 31 in
-    let b = begunAbove S a in
+    let b = begunAbove a in
     let b₁ = after (used shapes) (u .0 .0) b in
     let e = number-got (argAt S a R (used shapes) b (s .at)) (r .result) (u .0 .0) (u .0 .1 .0) (r .ensures .0 a h R b) (u .1) in
     done-no a (s .counts) (lineBody S a ruleL (s .at)) _ (k .0 .0) (s .names .now) (s .cells .now) vs
@@ -158,7 +158,7 @@ returns-4 c =
     let k = c .before .before .before .before .enum-told2 .given in
     λ a vs h.
     let R = readersAt S a 31 in
-    let b = begunAbove S a in
+    let b = begunAbove a in
     let b₁ = after (used shapes) (u .0 .0) b in
     let e = number-got (argAt S a R (used shapes) b (s .at)) (r .result) (u .0 .0) (u .0 .1 .0) (r .ensures .0 a h R b) (u .1) in
     let t = target-read (argAt S a R target b₁ (u .0 .1 .0)) (r₂ .result) (v .0 .0) (v .0 .1 .0) (v .0 .1 .1 .0) (r₂ .ensures .0 a b₁ h) (v .1) in

@@ -2,7 +2,8 @@ use Prim.Native.Nat.{ℕ}
 use mathlib.Core.Path.{_∙_, ap}
 use mathlib.Core.List.{List}
 use Rattle.text.specs.Pool.{store}
-use Rattle.stores.specs.Lines.{putName, poolBase}
+use Rattle.encoding.specs.Encode.{poolBase}
+use Rattle.stores.specs.Lines.{putName}
 use borrow.Author.Needs.{needs}
 use Rattle.reader.proofs.put_built_in.Statement.{statement}
 use Rattle.reader.proofs.put_built_in.Tie as tie
