@@ -74,7 +74,7 @@ end-link x p l e = record { same = λ cs. ap (λ (k : ℕ). along (predicate k))
 -- no END has number 65,534, so that rows with nothing past them may stand for it; zeros are such rows
 pub held-none : (cs : List ℕ) {rows : List ℕ} → wellFormed cs ≡ true → RowsFor cs rows → Held cs 65534 rows
 unfolding numberOk tables.endOk
-held-none cs {rows} ok h = record { room = h .room; within = h .within; ends = λ w. absurd (never-both w (ap (λ (b : Bool). b || eqb 65534 noNumber) (le-ltb 65534 (pathCount cs) (omega (arith, sound cs ok .paths))))) }
+held-none cs {rows} ok h = record { lent = h; ends = λ w. absurd (never-both w (ap (λ (b : Bool). b || eqb 65534 noNumber) (le-ltb 65534 (pathCount cs) (omega (arith, sound cs ok .paths))))) }
 
 pub rows-zeros : (cs : List ℕ) (words : ℕ) {rows : List ℕ} → 16 * nodeCount cs ≤ words → rows ≡ replicate words 0 → RowsFor cs rows
 rows-zeros cs words l e = record { room = subst (λ (k : ℕ). 16 * nodeCount cs ≤ k) (sym (ap length e ∙ length-replicate {A = ℕ} words 0)) l; within = within-zeros (nodeCount cs) words e }
@@ -83,8 +83,10 @@ rows-zeros cs words l e = record { room = subst (λ (k : ℕ). 16 * nodeCount cs
 pub held-anew : (cs : List ℕ) (x y : ℕ) {end : End} {rows now : List ℕ} → Held cs y rows → EndOf x end → now ≡ rowsOf (nodeCount cs) (endsOf (nodeCount cs) (triplesAt cs) (endIn cs end)) (length rows) → Held cs x now
 unfolding endRows
 held-anew cs x y {end} {rows} {now} h q e = record {
-  room = subst (λ (k : ℕ). 16 * nodeCount cs ≤ k) (sym same-room) (h .room);
-  within = within-rows (nodeCount cs) (endsOf (nodeCount cs) (triplesAt cs) (endIn cs end)) (length rows) e;
+  lent = record {
+    room = subst (λ (k : ℕ). 16 * nodeCount cs ≤ k) (sym same-room) (h .lent .room);
+    within = within-rows (nodeCount cs) (endsOf (nodeCount cs) (triplesAt cs) (endIn cs end)) (length rows) e;
+  };
   ends = λ w. e ∙ ap₂ (λ (a : model.End) (k : ℕ). rowsOf (nodeCount cs) (endsOf (nodeCount cs) (triplesAt cs) a) k) (q .same cs) (sym same-room);
 }
   where
@@ -102,7 +104,7 @@ module _ (cs index : List ℕ) (t : Tables cs index) where
   pub row-ends : (x : ℕ) {rows : List ℕ} → numberOk cs x ≡ true → Held cs x rows → (v : ℕ) → v < nodeCount cs → (w : ℕ) → w < 1024 → has (drop (16 * v) rows) w ≡ endsOf (nodeCount cs) (triplesAt cs) (endNumbered cs x) v w
   unfolding endRows
   row-ends x {rows} k h v l w lw =
-      has-row (nodeCount cs) (endsOf (nodeCount cs) (triplesAt cs) (endNumbered cs x)) (length rows) (h .ends k) v (omega (arith, h .room)) w lw
+      has-row (nodeCount cs) (endsOf (nodeCount cs) (triplesAt cs) (endNumbered cs x)) (length rows) (h .ends k) v (omega (arith, h .lent .room)) w lw
       ∙ ap (λ (b : Bool). (b && ltb w (nodeCount cs)) && endsOf (nodeCount cs) (triplesAt cs) (endNumbered cs x) v w) (lt-ltb v (nodeCount cs) l)
       ∙ same-test (ltb w (nodeCount cs) && endsOf (nodeCount cs) (triplesAt cs) (endNumbered cs x) v w) (endsOf (nodeCount cs) (triplesAt cs) (endNumbered cs x) v w) (λ h. and-right (ltb w (nodeCount cs)) (endsOf (nodeCount cs) (triplesAt cs) (endNumbered cs x) v w) h) (λ h. ap₂ (λ (a b : Bool). a && b) (lt-ltb w (nodeCount cs) (ends-low (endNumbered cs x) v w l h)) h)
 

@@ -31,13 +31,12 @@ pub record EndOf (x : ℕ) (end : End) : Type 0 where
 unfoldable pub endRows : List ℕ → ℕ → ℕ → List ℕ
 endRows cs x words = rowsOf (nodeCount cs) (endsOf (nodeCount cs) (triplesAt cs) (endNumbered cs x)) words
 
--- rows for all nodes, with nothing past them; where x is right, they are those of x
-pub record Held (cs : List ℕ) (x : ℕ) (rows : List ℕ) : Type 0 where
-  pub room : 16 * nodeCount cs ≤ length rows
-  pub within : Within (nodeCount cs) rows
-  pub ends : numberOk cs x ≡ true → rows ≡ endRows cs x (length rows)
-
 -- rows for all nodes, with nothing past them, whatever they hold
 pub record RowsFor (cs rows : List ℕ) : Type 0 where
   pub room : 16 * nodeCount cs ≤ length rows
   pub within : Within (nodeCount cs) rows
+
+-- such rows; where x is right, they are those of x
+pub record Held (cs : List ℕ) (x : ℕ) (rows : List ℕ) : Type 0 where
+  pub lent : RowsFor cs rows
+  pub ends : numberOk cs x ≡ true → rows ≡ endRows cs x (length rows)

@@ -11,7 +11,7 @@ end-of-requires : tie.Need-end-of-requires
 end-of-requires c κs = search needs
 
 all-table-ends-requires : tie.Need-all-table-ends-requires
-all-table-ends-requires c κs = let pre = c .before .before .before .before .before .before .before .pre in (pre .0, c .end-of .ensures .right (c .before .before .before .before .before .before .before .args .cells .now) (pre .1), pre .2 .within)
+all-table-ends-requires c κs = let pre = c .before .before .before .before .before .before .before .pre in (pre .0, c .end-of .ensures .right (c .before .before .before .before .before .before .before .args .cells .now) (pre .1), pre .2 .lent .within)
 
 same-length : tie.Need-same-length
 same-length c = search needs
