@@ -1,4 +1,4 @@
--- Columns of cells looked at without early exit, and the facts column by column.
+-- Nodes and columns of cells looked at without early exit, and the facts column by column.
 use Prim.Native.Nat.{ℕ, zero, suc, _+_, _-_, _≤_}
 use mathlib.Core.List.{List}
 use mathlib.Core.Bool.{Bool, true, false, _&&_, _||_, and-true, and-comm, and-assoc}
@@ -35,9 +35,12 @@ module _ (f : Bool) (p : ℕ → Bool) where
   unfolding every
   passed-none = sym (and-true f)
 
-  pub passed-next : (i : ℕ) {r : Bool} → r ≡ (f && every p i) → (r && p i) ≡ (f && every p (i + 1))
+  pub passed-next : (i : ℕ) {r x : Bool} → r ≡ (f && every p i) → x ≡ p i → (r && x) ≡ (f && every p (i + 1))
   unfolding every
-  passed-next i e = rw (e, add-one i) (and-assoc f (every p i) (p i) ∙ ap (λ (b : Bool). f && b) (and-comm (every p i) (p i)))
+  passed-next i e h = rw (e, h, add-one i) (and-assoc f (every p i) (p i) ∙ ap (λ (b : Bool). f && b) (and-comm (every p i) (p i)))
+
+  pub passed-end : (i n : ℕ) {r : Bool} → i ≡ n → r ≡ (f && every p i) → r ≡ (f && every p n)
+  passed-end i n q e = e ∙ ap (λ (k : ℕ). f && every p k) q
 
 -- ---- each place below a bound
 module _ (l : List ℕ) (bound : ℕ) where
@@ -74,8 +77,7 @@ module _ (l : List ℕ) (bound : ℕ) where
 -- where the loop over a column ends
 pub column-done : (cs l : List ℕ) (base n bound i : ℕ) {r : Bool} → l ≡ take n (drop base cs) → i ≡ length l → r ≡ (restBelow l bound n && every (cellBelow l bound) i) → r ≡ every (placeBelow cs base bound) n
 column-done cs l base n bound i e q h =
-    h
-    ∙ ap (λ (k : ℕ). restBelow l bound n && every (cellBelow l bound) k) q
+    passed-end (restBelow l bound n) (cellBelow l bound) i (length l) q h
     ∙ column-all l bound n (omega (arith, ap (λ (x : List ℕ). length x) e, length-take n (drop base cs)))
     ∙ every-ext (cellBelow l bound) (placeBelow cs base bound) n (λ j k. ap (λ (x : ℕ). ltb x bound) (ap (λ (x : List ℕ). getD x j 0) e ∙ getD-take n (drop base cs) j 0 k ∙ getD-drop base cs j 0))
 

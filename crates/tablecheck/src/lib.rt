@@ -12,7 +12,7 @@ ghost use Prim.Native.Nat.{_+_};
 ghost use lib.Dec.{ltb, leb};
 ghost use lib.ListN.{take, drop};
 ghost use Rattle.base.specs.Bounded.{every};
-ghost use Rattle.tables.specs.Layout.{rootAt, shapeCount, factCount, itemAt};
+ghost use Rattle.tables.specs.Layout.{rootAt, nodeCount, shapeCount, factCount, itemAt};
 ghost use Rattle.tables.specs.Decode.{pathEntryAt, entryAt};
 ghost use Rattle.tables.specs.Entries.{Entry};
 ghost use Rattle.tables.specs.WellFormed.{countsOk, nodeOk, factOk, pathEntryOk, itemsOk, endOk, entryOk, ruleOk, wellFormed};
@@ -48,6 +48,17 @@ fn node_ok(cells: &[u16], v: usize) -> bool
         4 => below(reads::node_lang(cells, v), reads::lang_count(cells)),
         5..=65535 => false,
     }
+}
+
+fn nodes_ok(cells: &[u16]) -> bool
+    ensures { λ r. ⌜ r ≡ every (nodeOk (now (cells .entry))) (nodeCount (now (cells .entry))) ⌝ }
+{
+    let n = reads::node_count(cells);
+    let mut ok = true;
+    for v in 0..n {
+        ok = ok & node_ok(cells, v);
+    }
+    ok
 }
 
 // The cells of len places from base on, as far as there are cells.
@@ -188,9 +199,8 @@ fn rule_ok(cells: &[u16], k: usize) -> bool
     }
 }
 
-// What is looked at number by number.
+// The shorter parts; nodes and facts have loops of their own.
 enum Part {
-    Nodes,
     Paths,
     Forms,
     Shapes,
@@ -201,7 +211,6 @@ fn part_count(cells: &[u16], part: Part) -> usize
     ensures { λ r. ⌜ r ≡ partCount (now (cells .entry)) part ⌝ }
 {
     match part {
-        Part::Nodes => reads::node_count(cells),
         Part::Paths => reads::path_count(cells),
         Part::Forms => reads::form_count(cells),
         Part::Shapes => reads::shape_count(cells),
@@ -213,7 +222,6 @@ fn part_ok(cells: &[u16], part: Part, i: usize) -> bool
     ensures { λ r. ⌜ r ≡ partOk (now (cells .entry)) part i ⌝ }
 {
     match part {
-        Part::Nodes => node_ok(cells, i),
         Part::Paths => path_ok(cells, i),
         Part::Forms => entry_ok(cells, i),
         Part::Shapes => reads::root(cells, i) < reads::form_count(cells),
@@ -241,7 +249,7 @@ pub fn well_formed(cells: &[u16]) -> bool
     if !counts_ok(cells) {
         return false;
     }
-    all_ok(cells, Part::Nodes)
+    nodes_ok(cells)
         & (facts_ok(cells)
             & (all_ok(cells, Part::Paths)
                 & (all_ok(cells, Part::Forms)

@@ -1,6 +1,6 @@
 use Prim.Native.Nat.{_≤_, _-_, zero-le}
 use mathlib.Core.Bool.{_&&_}
-use mathlib.Core.Path.{_≡_}
+use mathlib.Core.Path.{_≡_, refl}
 use native.Mathlib.Omega.{arith}
 use borrow.Author.Needs.{needs}
 use Rattle.base.specs.Bounded.{every}
@@ -37,7 +37,7 @@ loop-again c =
     let l = c .before .before in
     let t = l .before .column .result .now in
     let s = l .before .before .before in
-    (omega arith, passed-next (restBelow t (s .args .bound) (s .args .len)) (cellBelow t (s .args .bound)) (l .loop .i) (l .loop .inv .1))
+    (omega arith, passed-next (restBelow t (s .args .bound) (s .args .len)) (cellBelow t (s .args .bound)) (l .loop .i) (l .loop .inv .1) refl)
 
 returns : tie.Need-returns Inv-loop μ-loop
 returns c =
