@@ -4,10 +4,11 @@ use mathlib.Core.List.{List}
 use mathlib.Core.Bool.{Bool, true, false, _&&_}
 use mathlib.Core.Path.{_≡_, refl}
 use Rattle.base.specs.Bounded.{every}
-use Rattle.tables.specs.WellFormed.{countsOk, wellFormed}
+use Rattle.tables.specs.Layout.{nodeCount, factCount}
+use Rattle.tables.specs.WellFormed.{countsOk, nodeOk, factOk, wellFormed}
 use Rattle.tablecheck.specs.Parts.{partCount, partOk}
 use Rattle.tablecheck.specs.declared.Part.{Part}
-use Rattle.tablecheck.specs.declared.Part.the-variants.{Nodes, Facts, Paths, Forms, Shapes, Rules}
+use Rattle.tablecheck.specs.declared.Part.the-variants.{Paths, Forms, Shapes, Rules}
 
 module _ (cs : List ℕ) where
   abbrev pub allOk : Part → Bool
@@ -17,6 +18,6 @@ module _ (cs : List ℕ) where
   unfolding wellFormed
   counts-fail h = rw h
 
-  pub parts-ok : countsOk cs ≡ true → (allOk Nodes && (allOk Facts && (allOk Paths && (allOk Forms && (allOk Shapes && allOk Rules))))) ≡ wellFormed cs
+  pub parts-ok : countsOk cs ≡ true → (every (nodeOk cs) (nodeCount cs) && (every (factOk cs) (factCount cs) && (allOk Paths && (allOk Forms && (allOk Shapes && allOk Rules))))) ≡ wellFormed cs
   unfolding wellFormed partOk partCount
   parts-ok h = rw h

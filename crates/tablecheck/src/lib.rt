@@ -1,18 +1,22 @@
 // Refusal 9: whether tables that somebody lends are well formed. Operations: well_formed; it takes any content of any length,
 // and reads some fifty thousand cells at the most.
 use tables::layout::NO_NUMBER;
+use tables::layout::OBJECTS;
+use tables::layout::PREDICATES;
+use tables::layout::SUBJECTS;
 use tables::reads;
 ghost use mathlib.Core.Path.{_≡_};
 ghost use mathlib.Core.List.{[]};
 ghost use mathlib.Core.Bool.{_&&_};
 ghost use Prim.Native.Nat.{_+_};
 ghost use lib.Dec.{ltb, leb};
+ghost use lib.ListN.{take, drop};
 ghost use Rattle.base.specs.Bounded.{every};
-ghost use Rattle.tables.specs.Layout.{rootAt, shapeCount, itemAt};
+ghost use Rattle.tables.specs.Layout.{rootAt, nodeCount, shapeCount, factCount, itemAt};
 ghost use Rattle.tables.specs.Decode.{pathEntryAt, entryAt};
 ghost use Rattle.tables.specs.Entries.{Entry};
 ghost use Rattle.tables.specs.WellFormed.{countsOk, nodeOk, factOk, pathEntryOk, itemsOk, endOk, entryOk, ruleOk, wellFormed};
-ghost use Rattle.tablecheck.specs.Parts.{partCount, partOk};
+ghost use Rattle.tablecheck.specs.Parts.{placeBelow, partCount, partOk};
 
 fn below(x: u16, n: usize) -> bool
     ensures { λ r. ⌜ r ≡ ltb x n ⌝ }
@@ -46,14 +50,54 @@ fn node_ok(cells: &[u16], v: usize) -> bool
     }
 }
 
-fn fact_ok(cells: &[u16], i: usize) -> bool
-    ensures { λ r. ⌜ r ≡ factOk (now (cells .entry)) i ⌝ }
+fn nodes_ok(cells: &[u16]) -> bool
+    ensures { λ r. ⌜ r ≡ every (nodeOk (now (cells .entry))) (nodeCount (now (cells .entry))) ⌝ }
 {
     let n = reads::node_count(cells);
-    let s = reads::subject(cells, i);
-    let p = reads::predicate(cells, i);
-    let o = reads::object(cells, i);
-    below(s.0, n) & (below(p.0, reads::link_count(cells)) & below(o.0, n))
+    let mut ok = true;
+    for v in 0..n {
+        ok = ok & node_ok(cells, v);
+    }
+    ok
+}
+
+// The cells of len places from base on, as far as there are cells.
+fn column(cells: &[u16], base: usize, len: usize) -> &[u16]
+    ensures { λ r. ⌜ now r ≡ take len (drop base (now (cells .entry))) ⌝ }
+{
+    if cells.len() <= base {
+        let end = cells.len();
+        return &cells[end..];
+    }
+    if cells.len() - base <= len {
+        return &cells[base..];
+    }
+    let end = base + len;
+    &cells[base..end]
+}
+
+// Each of len places of the column that begins at base is below the bound. A place past the end reads as zero.
+// No early exit: many cells are compared at once.
+fn column_below(cells: &[u16], base: usize, len: usize, bound: u16) -> bool
+    ensures { λ r. ⌜ r ≡ every (placeBelow (now (cells .entry)) base bound) len ⌝ }
+{
+    let there = column(cells, base, len);
+    let mut ok = (there.len() == len) | (0 < bound);
+    for i in 0..there.len() {
+        ok = ok & (there[i] < bound);
+    }
+    ok
+}
+
+// Column by column: subjects, predicates, objects.
+fn facts_ok(cells: &[u16]) -> bool
+    ensures { λ r. ⌜ r ≡ every (factOk (now (cells .entry))) (factCount (now (cells .entry))) ⌝ }
+{
+    let n = reads::fact_count(cells);
+    let nodes = reads::cell_at(cells, 0, 0);
+    let links = reads::cell_at(cells, 0, 1);
+    column_below(cells, SUBJECTS, n, nodes)
+        & (column_below(cells, PREDICATES, n, links) & column_below(cells, OBJECTS, n, nodes))
 }
 
 fn path_ok(cells: &[u16], e: usize) -> bool
@@ -155,10 +199,8 @@ fn rule_ok(cells: &[u16], k: usize) -> bool
     }
 }
 
-// What is looked at number by number.
+// The shorter parts; nodes and facts have loops of their own.
 enum Part {
-    Nodes,
-    Facts,
     Paths,
     Forms,
     Shapes,
@@ -169,8 +211,6 @@ fn part_count(cells: &[u16], part: Part) -> usize
     ensures { λ r. ⌜ r ≡ partCount (now (cells .entry)) part ⌝ }
 {
     match part {
-        Part::Nodes => reads::node_count(cells),
-        Part::Facts => reads::fact_count(cells),
         Part::Paths => reads::path_count(cells),
         Part::Forms => reads::form_count(cells),
         Part::Shapes => reads::shape_count(cells),
@@ -182,8 +222,6 @@ fn part_ok(cells: &[u16], part: Part, i: usize) -> bool
     ensures { λ r. ⌜ r ≡ partOk (now (cells .entry)) part i ⌝ }
 {
     match part {
-        Part::Nodes => node_ok(cells, i),
-        Part::Facts => fact_ok(cells, i),
         Part::Paths => path_ok(cells, i),
         Part::Forms => entry_ok(cells, i),
         Part::Shapes => reads::root(cells, i) < reads::form_count(cells),
@@ -211,8 +249,8 @@ pub fn well_formed(cells: &[u16]) -> bool
     if !counts_ok(cells) {
         return false;
     }
-    all_ok(cells, Part::Nodes)
-        & (all_ok(cells, Part::Facts)
+    nodes_ok(cells)
+        & (facts_ok(cells)
             & (all_ok(cells, Part::Paths)
                 & (all_ok(cells, Part::Forms)
                     & (all_ok(cells, Part::Shapes) & all_ok(cells, Part::Rules)))))

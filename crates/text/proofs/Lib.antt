@@ -2,6 +2,7 @@ pub mod Parts
 pub mod Items
 pub mod Decimals
 pub mod Pool
+pub mod Same
 pub mod Spans
 pub mod Words
 pub mod Places

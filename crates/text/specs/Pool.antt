@@ -2,6 +2,7 @@
 use Prim.Native.Nat.{ℕ, zero, suc, _+_, _-_, _*_, _%_}
 use mathlib.Core.List.{List, [], _∷_, _++_}
 use mathlib.Core.Bool.{Bool, true, cond, _&&_}
+use lib.Dec.{eqb}
 use lib.ListN.{length, getD, take, drop, replicate}
 use lib.Seq.{slice}
 use Rattle.base.specs.Bytes.{eql}
@@ -12,6 +13,13 @@ use Rattle.text.specs.declared.Found.the-variants.{At, Nothing}
 -- a name in its 32 bytes
 unfoldable pub padded : List ℕ → List ℕ
 padded w = w ++ replicate (32 - length w) 0
+
+-- byte j after two starts is the same; it is 0
+abbrev pub sameAt : List ℕ → ℕ → List ℕ → ℕ → ℕ → Bool
+sameAt s a t b j = eqb (getD s (a + j) 0) (getD t (b + j) 0)
+
+abbrev pub zeroAt : List ℕ → ℕ → ℕ → Bool
+zeroAt s a j = eqb (getD s (a + j) 0) 0
 
 -- each is a name
 unfoldable pub allNames : List (List ℕ) → Bool

@@ -6,12 +6,13 @@ ghost use mathlib.Core.Bool.{true, cond};
 ghost use Prim.Native.Nat.{_≤_, _<_, _+_, _*_, _-_};
 ghost use lib.ListN.{length, getD};
 ghost use lib.Seq.{slice};
+ghost use Rattle.base.specs.Bounded.{every};
 ghost use Rattle.base.specs.Lists.{allb};
 ghost use Rattle.base.specs.Bytes.{eql};
 ghost use Rattle.chains.specs.Chains.{Chained};
 ghost use Rattle.text.specs.Items.{edge, itemEnd, nameByte, isName};
 ghost use Rattle.text.specs.Decimals.{digit, isMag, magOf, valueFrom, positiveOf, negativeOf, numberOf, boundOf};
-ghost use Rattle.text.specs.Pool.{padded, hashOf, nameKey, find, store};
+ghost use Rattle.text.specs.Pool.{padded, sameAt, zeroAt, hashOf, nameKey, find, store};
 ghost use Rattle.text.specs.declared.Found.the-variants.{At};
 
 // A signed decimal of the 64-bit range; a well written decimal out of it; anything else.
@@ -240,19 +241,37 @@ pub fn letter(book: &[u8], at: usize, end: usize, j: usize) -> u8
     if j < end - at { book[at + j] } else { 0 }
 }
 
+// The len bytes from place on and those from at on are the same. No early exit: many bytes are compared at once.
+fn same_bytes(names: &[u8], place: usize, book: &[u8], at: usize, len: usize) -> bool
+    requires { ⌜ (place + len ≤ length (now names)) × (at + len ≤ length (now book)) ⌝ }
+    ensures { λ r. ⌜ r ≡ every (sameAt (now (names .entry)) place (now (book .entry)) at) len ⌝ }
+{
+    let mut same = true;
+    for j in 0..len {
+        same = same & (names[place + j] == book[at + j]);
+    }
+    same
+}
+
+// The len bytes from place on are zeros. No early exit, as above.
+fn zeros(names: &[u8], place: usize, len: usize) -> bool
+    requires { ⌜ place + len ≤ length (now names) ⌝ }
+    ensures { λ r. ⌜ r ≡ every (zeroAt (now (names .entry)) place) len ⌝ }
+{
+    let mut same = true;
+    for j in 0..len {
+        same = same & (names[place + j] == 0);
+    }
+    same
+}
+
 // The 32 bytes at place are the word from at to end and then zeros.
 pub fn same_name(names: &[u8], place: usize, book: &[u8], at: usize, end: usize) -> bool
     requires { ⌜ (at ≤ end) × (end ≤ length (now book)) × (end - at ≤ 31) × (place + 32 ≤ length (now names)) ⌝ }
     ensures { λ r. ⌜ r ≡ eql (padded (slice at end (now (book .entry)))) (slice place (place + 32) (now (names .entry))) ⌝ }
 {
-    let mut j = 0;
-    while j < 32 {
-        if letter(book, at, end, j) != names[place + j] {
-            return false;
-        }
-        j += 1;
-    }
-    true
+    let len = end - at;
+    same_bytes(names, place, book, at, len) & zeros(names, place + len, 32 - len)
 }
 
 // The number of the word from at to end in the pool of count names that starts at base.

@@ -6,82 +6,56 @@ use Rattle.tablecheck.proofs.part_count.Tie as tie
 enum-told : tie.Need-enum-told
 enum-told c = search needs
 
-node-count-requires : tie.Need-node-count-requires
-node-count-requires c κs = search needs
+path-count-requires : tie.Need-path-count-requires
+path-count-requires c κs = search needs
 
 enum-told-2 : tie.Need-enum-told-2
 enum-told-2 c = search needs
 
-fact-count-requires : tie.Need-fact-count-requires
-fact-count-requires c κs = search needs
+form-count-requires : tie.Need-form-count-requires
+form-count-requires c κs = search needs
 
 enum-told-3 : tie.Need-enum-told-3
 enum-told-3 c = search needs
 
-path-count-requires : tie.Need-path-count-requires
-path-count-requires c κs = search needs
-
-enum-told-4 : tie.Need-enum-told-4
-enum-told-4 c = search needs
-
-form-count-requires : tie.Need-form-count-requires
-form-count-requires c κs = search needs
-
-enum-told-5 : tie.Need-enum-told-5
-enum-told-5 c = search needs
-
 shape-count-requires : tie.Need-shape-count-requires
 shape-count-requires c κs = search needs
 
-enum-told-6 : tie.Need-enum-told-6
-enum-told-6 c = search needs
+enum-told-4 : tie.Need-enum-told-4
+enum-told-4 c = search needs
 
 rule-count-requires : tie.Need-rule-count-requires
 rule-count-requires c κs = search needs
 
 returns : tie.Need-returns
 unfolding partCount
-returns c = rw (c .before .enum-told .given .1) (c .node-count .ensures)
+returns c = rw (c .before .enum-told .given .1) (c .path-count .ensures)
 
 returns-2 : tie.Need-returns-2
 unfolding partCount
-returns-2 c = rw (c .before .enum-told2 .given .1) (c .fact-count .ensures)
+returns-2 c = rw (c .before .enum-told2 .given .1) (c .form-count .ensures)
 
 returns-3 : tie.Need-returns-3
 unfolding partCount
-returns-3 c = rw (c .before .enum-told3 .given .1) (c .path-count .ensures)
+returns-3 c = rw (c .before .enum-told3 .given .1) (c .shape-count .ensures)
 
 returns-4 : tie.Need-returns-4
 unfolding partCount
-returns-4 c = rw (c .before .enum-told4 .given .1) (c .form-count .ensures)
-
-returns-5 : tie.Need-returns-5
-unfolding partCount
-returns-5 c = rw (c .before .enum-told5 .given .1) (c .shape-count .ensures)
-
-returns-6 : tie.Need-returns-6
-unfolding partCount
-returns-6 c = rw (c .before .enum-told6 .given .1) (c .rule-count .ensures)
+returns-4 c = rw (c .before .enum-told4 .given .1) (c .rule-count .ensures)
 
 pub part-count-spec : {M : Type 1} → statement M
 part-count-spec =
     tie.close
     (tie.spec
     enum-told
-    node-count-requires
-    enum-told-2
-    fact-count-requires
-    enum-told-3
     path-count-requires
-    enum-told-4
+    enum-told-2
     form-count-requires
-    enum-told-5
+    enum-told-3
     shape-count-requires
-    enum-told-6
+    enum-told-4
     rule-count-requires
     returns
     returns-2
     returns-3
-    returns-4
-    returns-5
-    returns-6)
+    returns-4)

@@ -6,29 +6,17 @@ use Rattle.tablecheck.proofs.part_ok.Tie as tie
 enum-told : tie.Need-enum-told
 enum-told c = search needs
 
-node-ok-requires : tie.Need-node-ok-requires
-node-ok-requires c κs = search needs
+path-ok-requires : tie.Need-path-ok-requires
+path-ok-requires c κs = search needs
 
 enum-told-2 : tie.Need-enum-told-2
 enum-told-2 c = search needs
 
-fact-ok-requires : tie.Need-fact-ok-requires
-fact-ok-requires c κs = search needs
-
-enum-told-3 : tie.Need-enum-told-3
-enum-told-3 c = search needs
-
-path-ok-requires : tie.Need-path-ok-requires
-path-ok-requires c κs = search needs
-
-enum-told-4 : tie.Need-enum-told-4
-enum-told-4 c = search needs
-
 entry-ok-requires : tie.Need-entry-ok-requires
 entry-ok-requires c κs = search needs
 
-enum-told-5 : tie.Need-enum-told-5
-enum-told-5 c = search needs
+enum-told-3 : tie.Need-enum-told-3
+enum-told-3 c = search needs
 
 root-requires : tie.Need-root-requires
 root-requires c κs = search needs
@@ -36,56 +24,42 @@ root-requires c κs = search needs
 form-count-requires : tie.Need-form-count-requires
 form-count-requires c κs = search needs
 
-enum-told-6 : tie.Need-enum-told-6
-enum-told-6 c = search needs
+enum-told-4 : tie.Need-enum-told-4
+enum-told-4 c = search needs
 
 rule-ok-requires : tie.Need-rule-ok-requires
 rule-ok-requires c κs = search needs
 
 returns : tie.Need-returns
 unfolding partOk
-returns c = rw (c .before .enum-told .given .1) (c .node-ok .ensures)
+returns c = rw (c .before .enum-told .given .1) (c .path-ok .ensures)
 
 returns-2 : tie.Need-returns-2
 unfolding partOk
-returns-2 c = rw (c .before .enum-told2 .given .1) (c .fact-ok .ensures)
+returns-2 c = rw (c .before .enum-told2 .given .1) (c .entry-ok .ensures)
 
 returns-3 : tie.Need-returns-3
 unfolding partOk
-returns-3 c = rw (c .before .enum-told3 .given .1) (c .path-ok .ensures)
+returns-3 c = rw (c .before .before .enum-told3 .given .1) (cc)
 
 returns-4 : tie.Need-returns-4
 unfolding partOk
-returns-4 c = rw (c .before .enum-told4 .given .1) (c .entry-ok .ensures)
-
-returns-5 : tie.Need-returns-5
-unfolding partOk
-returns-5 c = rw (c .before .before .enum-told5 .given .1) (cc)
-
-returns-6 : tie.Need-returns-6
-unfolding partOk
-returns-6 c = rw (c .before .enum-told6 .given .1) (c .rule-ok .ensures)
+returns-4 c = rw (c .before .enum-told4 .given .1) (c .rule-ok .ensures)
 
 pub part-ok-spec : {M : Type 1} → statement M
 part-ok-spec =
     tie.close
     (tie.spec
     enum-told
-    node-ok-requires
-    enum-told-2
-    fact-ok-requires
-    enum-told-3
     path-ok-requires
-    enum-told-4
+    enum-told-2
     entry-ok-requires
-    enum-told-5
+    enum-told-3
     root-requires
     form-count-requires
-    enum-told-6
+    enum-told-4
     rule-ok-requires
     returns
     returns-2
     returns-3
-    returns-4
-    returns-5
-    returns-6)
+    returns-4)

@@ -16,6 +16,12 @@ counts-ok-requires c κs = search needs
 returns : tie.Need-returns
 returns c = counts-fail (now (c .before .before .before .args .cells)) (sym (c .before .counts-ok .ensures) ∙ not-true _ (c .if1 .taken))
 
+nodes-ok-requires : tie.Need-nodes-ok-requires
+nodes-ok-requires c κs = search needs
+
+facts-ok-requires : tie.Need-facts-ok-requires
+facts-ok-requires c κs = search needs
+
 all-ok-requires : tie.Need-all-ok-requires
 all-ok-requires c κs = search needs
 
@@ -28,14 +34,8 @@ all-ok-requires-3 c κs = search needs
 all-ok-requires-4 : tie.Need-all-ok-requires-4
 all-ok-requires-4 c κs = search needs
 
-all-ok-requires-5 : tie.Need-all-ok-requires-5
-all-ok-requires-5 c κs = search needs
-
-all-ok-requires-6 : tie.Need-all-ok-requires-6
-all-ok-requires-6 c κs = search needs
-
 returns-2 : tie.Need-returns-2
-returns-2 c = ands (c .before .before .before .before .before .all-ok .ensures) (ands (c .before .before .before .before .all-ok2 .ensures) (ands (c .before .before .before .all-ok3 .ensures) (ands (c .before .before .all-ok4 .ensures) (ands (c .before .all-ok5 .ensures) (c .all-ok6 .ensures))))) ∙ parts-ok (now (c .before .before .before .before .before .before .before .before .before .args .cells)) (sym (c .before .before .before .before .before .before .before .counts-ok .ensures) ∙ not-false _ (c .before .before .before .before .before .before .if1 .left))
+returns-2 c = ands (c .before .before .before .before .before .nodes-ok .ensures) (ands (c .before .before .before .before .facts-ok .ensures) (ands (c .before .before .before .all-ok .ensures) (ands (c .before .before .all-ok2 .ensures) (ands (c .before .all-ok3 .ensures) (c .all-ok4 .ensures))))) ∙ parts-ok (now (c .before .before .before .before .before .before .before .before .before .args .cells)) (sym (c .before .before .before .before .before .before .before .counts-ok .ensures) ∙ not-false _ (c .before .before .before .before .before .before .if1 .left))
 
 pub well-formed-spec : {M : Type 1} → statement M
 well-formed-spec =
@@ -43,10 +43,10 @@ well-formed-spec =
     (tie.spec
     counts-ok-requires
     returns
+    nodes-ok-requires
+    facts-ok-requires
     all-ok-requires
     all-ok-requires-2
     all-ok-requires-3
     all-ok-requires-4
-    all-ok-requires-5
-    all-ok-requires-6
     returns-2)
