@@ -3,3 +3,4 @@ pub mod Numbered
 pub mod Lists
 pub mod Bytes
 pub mod Columns
+pub mod Range

@@ -8,6 +8,7 @@ use lib.Dec.{eqb, ltb, leb}
 use lib.ListN.{length, getD, length-append}
 use lib.IntN.{ℤ, pos}
 use borrow.Author.Tests.{eq-eqb, lt-ltb, ltb-true, le-leb}
+use Rattle.base.specs.Range.{inRange}
 use Rattle.base.specs.Bounded.{every}
 use Rattle.base.specs.Lists.{allb}
 use Rattle.base.proofs.Bools.{and-left, and-right, and-both}
@@ -19,7 +20,7 @@ use Rattle.model.specs.Paths.{Path, predicate, inverse, sequence, alternative, 
 use Rattle.model.specs.Shapes.{Kind, anIri, aBlank, aLiteral, Test, nodeKind, datatype, languageIn, minInclusive, minExclusive, maxInclusive, maxExclusive, Upper, atMost, unbounded, Shape, top, hasShape, hasValue, conj, disj, neg, test, count, forAll, equals, disjoint, closed, lessThan, lessThanEq, uniqueLang}
 use Rattle.model.specs.Rules.{Target, targetNode, subjectsOf, objectsOf, targetClass, Rule}
 use Rattle.model.specs.Books.{Book, Line, link, type, lang, node, fact, shape, rule, Pool, nodes, links, types, langs, shapes, poolNumber, newTerms, newTriples, newShapes, newRules, collect, names, rules}
-use Rattle.model.specs.Valid.{inRange, capacity, isResource, defined, hasRoom, termOk, pathOk, testOk, shapeOk, targetOk, lineOk, admissible}
+use Rattle.model.specs.Valid.{capacity, isResource, defined, hasRoom, termOk, pathOk, testOk, shapeOk, targetOk, lineOk, admissible}
 use Rattle.model.specs.Valid as Valid
 use Rattle.tables.specs.Layout.{noNumber, nodeCount, linkCount, typeCount, langCount, shapeCount, factCount, pathCount, formCount, itemCount, ruleCount, subjectAt, predicateAt, objectAt, itemAt, rootAt}
 use Rattle.tables.specs.Entries.{PathEntry, Entry, entryOf}

@@ -10,6 +10,7 @@ use lib.Dec.{eqb, leb}
 use lib.ListN.{length, getD}
 use lib.Seq.{slice, slice-empty}
 use borrow.Author.Tests.{eqb-true, leb-true, le-leb, ltb-true, not-true}
+use Rattle.base.specs.Range.{inRange}
 use Rattle.base.specs.Lists.{allb}
 use Rattle.base.specs.Bytes.{bytes, eql}
 use Rattle.base.proofs.Bools.{and-left, and-right, and-both, or-cases, never-both, bool-cases}
@@ -24,7 +25,7 @@ use Rattle.model.specs.Paths.{Path, predicate, inverse, sequence, alternative, 
 use Rattle.model.specs.Shapes.{Kind, Upper, Shape}
 use Rattle.model.specs.Books.{Book, Pool, nodes, links, types, names, collect, newTerms}
 use Rattle.model.specs.Sizes.{endEntries}
-use Rattle.model.specs.Valid.{inRange, defined, hasRoom, isResource, upperOk, pathOk, endOk, shapeOk, targetOk}
+use Rattle.model.specs.Valid.{defined, hasRoom, isResource, upperOk, pathOk, endOk, shapeOk, targetOk}
 use Rattle.grammar.specs.Writing.{spaced, bracket, writeKind, writeUpper, nameOf, writePath, writeEnd, writeShape, writeTarget}
 use Rattle.grammar.specs.Valid.{pathDepth, endDepth, shapeDepth, reserved, wellNamed, newName}
 use Rattle.grammar.specs.Syntax.{Slot, used, new, subject, literalType, kindWord, value, low, high, path, end, form, target, list, Arg, Args}

@@ -1,13 +1,14 @@
 -- Book B of document 01: its bytes are read as the book B over which its cases are proved.
 use mathlib.Core.Path.{_≡_, refl, sym, ap, _∙_}
 use mathlib.Core.Bool.{true}
+use Rattle.base.specs.Range.{inRange}
 use Rattle.base.specs.Lists.{anyb, allb}
 use Rattle.base.specs.Bytes.{eql}
 use Rattle.text.specs.Items.{nameByte, isName}
 use Rattle.text.specs.Decimals.{signed, decimal, digitsOf}
 use Rattle.model.specs.Books.{builtIn, joins, newNames, newTerms, newTriples, newShapes, newRules, collect, names, rules}
 use Rattle.model.specs.Sizes.{pathEntries, endEntries, formEntries, shapePaths, listItems, sumOver, formsIn, pathsIn, itemsIn}
-use Rattle.model.specs.Valid.{inRange, capacity, isResource, defined, hasRoom, termOk, factOk, pathOk, endOk, shapeOk, targetOk, entriesFit, lineOk}
+use Rattle.model.specs.Valid.{capacity, isResource, defined, hasRoom, termOk, factOk, pathOk, endOk, shapeOk, targetOk, entriesFit, lineOk}
 use Rattle.model.specs.Cases.{bookB}
 use Rattle.grammar.specs.Writing.{spaced, bracket, nameOf, writePath, writeEnd, writeShape, writeTarget, writeNode, writeLine, renderFrom, render}
 use Rattle.grammar.specs.Valid.{pathDepth, endDepth, shapeDepth, lineDepth, reserved, wellNamed, newName, namesOk, validLine, validFrom, valid}

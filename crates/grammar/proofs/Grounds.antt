@@ -8,6 +8,7 @@ use native.Mathlib.Omega.{arith}
 use lib.ListN.{length, getD}
 use lib.Seq.{slice}
 use lib.IntN.{ℤ}
+use Rattle.base.specs.Range.{inRange}
 use Rattle.base.specs.Lists.{anyb}
 use Rattle.base.specs.Bytes.{bytes, eql}
 use Rattle.text.specs.Items.{itemEnd}
@@ -17,7 +18,7 @@ use Rattle.model.specs.Graph.{iri}
 use Rattle.model.specs.Shapes.{Kind}
 use Rattle.model.specs.Limits.{maxDepth, maxCount, maxForms, maxPaths, maxItems, maxFacts, maxRules}
 use Rattle.model.specs.Books.{Line, Book, Pool, nodes, links, types, names, collect, newTerms, newTriples, rules}
-use Rattle.model.specs.Valid.{inRange, capacity, defined, isResource}
+use Rattle.model.specs.Valid.{capacity, defined, isResource}
 use Rattle.grammar.specs.Writing.{nameOf, writeKind, writeLine}
 use Rattle.grammar.specs.Valid.{wellNamed, newName, validLine}
 use Rattle.grammar.specs.Syntax.{Slot, used, new, subject, literalType, kindWord, value, low, high, path, end, form, target, list, Arg, PathCode, pathWord, pathSlots, pathFamily, FormCode, formWord, formSlots, formFamily, TargetCode, targetWord, targetSlots, targetFamily, LineCode, lineWord, lineSlots, lineFamily}

@@ -13,7 +13,6 @@ use Rattle.base.specs.Bytes.{bytes, eql}
 use Rattle.base.proofs.Bools.{and-both, bool-cases, never-both}
 use Rattle.base.proofs.Bytes.{eql-true, eql-refl}
 use Rattle.text.specs.Items.{itemEnd}
-use Rattle.text.specs.Decimals as D
 use Rattle.text.specs.Decimals.{numberOf, boundOf, decimal}
 use Rattle.text.specs.Pool.{indexOf}
 use Rattle.text.specs.declared.Found.{Found}
@@ -27,7 +26,7 @@ use Rattle.text.proofs.Words.{item-span}
 use Rattle.model.specs.Paths.{predicate}
 use Rattle.model.specs.Shapes.{Kind, anIri, aBlank, aLiteral, atMost, unbounded, top}
 use Rattle.model.specs.Books.{Book, Pool, links, names}
-use Rattle.model.specs.Valid.{inRange, defined, capacity, hasRoom}
+use Rattle.model.specs.Valid.{defined, capacity, hasRoom}
 use Rattle.grammar.specs.Writing.{nameOf, writeKind}
 use Rattle.grammar.specs.Valid.{wellNamed, newName}
 use Rattle.grammar.specs.Syntax.{Slot, new, kindWord, value, low, high, form, list}
@@ -133,7 +132,6 @@ module _ {s : List ℕ} {above : Book} {start q o : ℕ} {ks : List Slot} {n : B
   kind-settled W sp = settled-item (q + 1) (λ t w e. kindNumbered t above (indexOf (map writeKind (anIri ∷ aBlank ∷ aLiteral ∷ [])) w) e) (kind-cases W sp (indexOf (map writeKind (anIri ∷ aBlank ∷ aLiteral ∷ [])) (itemAt s (q + 1))) refl)
 
   value-cases : Waits s above start q (value ∷ ks) n o → getD s q 0 ≡ 32 → (r : Number) → numberOf (itemAt s (q + 1)) ≡ r → Settles s above start (itemEnd s (q + 1)) (λ t. valued t above r (itemEnd s (q + 1)))
-  unfolding inRange D.inRange
   value-cases W sp Number.Not e = settled-refused (q + 1) (misfit W (itemAt s (q + 1)) (sp, refl) (λ f. number-not (itemAt s (q + 1)) .0 e (f .0) (f .1)) (λ _. refl)) (stop-item s (q + 1))
   value-cases W sp Number.Range e = let (z, i, r) = number-range (itemAt s (q + 1)) .0 e in settled-refused (q + 1) (value-range W z (sp, i) r) (stop-item s (q + 1))
   value-cases W sp (Number.Value x) e = settled-got x (itemEnd s (q + 1))

@@ -11,12 +11,12 @@ use lib.ListN.{length, getD}
 use lib.Seq.{slice}
 use lib.IntN.{ℤ}
 use borrow.Author.Tests.{eqb-true, eqb-false, eq-eqb, ne-eqb, ltb-true, lt-ltb, le-leb, leb-true, not-true}
+use Rattle.base.specs.Range.{inRange}
 use Rattle.base.specs.Lists.{anyb, allb}
 use Rattle.base.specs.Bytes.{bytes, eql}
 use Rattle.base.proofs.Bools.{and-left, and-right, and-both, never-both, bool-cases}
 use Rattle.base.proofs.Bytes.{eql-true, eql-refl}
 use Rattle.text.specs.Items.{edge, itemEnd, isName, nameByte}
-use Rattle.text.specs.Decimals as D
 use Rattle.text.specs.Decimals.{numberOf, boundOf, decimal, signed, digit}
 use Rattle.text.specs.Pool.{indexOf, firstFrom}
 use Rattle.text.specs.declared.Found.{Found}
@@ -29,7 +29,7 @@ use Rattle.text.proofs.Inverse.{number-value, bound-value, decimal-digits, deci
 use Rattle.model.specs.Graph.{iri, langString}
 use Rattle.model.specs.Shapes.{Kind, anIri, aBlank, aLiteral, Upper, atMost, unbounded}
 use Rattle.model.specs.Books.{Name, Book, Pool, nodes, types, names, collect, newTerms}
-use Rattle.model.specs.Valid.{inRange, defined, hasRoom, isResource, upperOk}
+use Rattle.model.specs.Valid.{defined, hasRoom, isResource, upperOk}
 use Rattle.grammar.specs.Writing.{nameOf, writeKind, writeUpper, spaced}
 use Rattle.grammar.specs.Valid.{reserved, wellNamed, newName}
 use Rattle.grammar.specs.Reading.{Read, got, refused, andThen, known, unknown, usedAt, newAt, subjectAt, literalTypeAt, kindNumbered, kindAt, valued, valueAt, bounded, lowAt, highAt, listAt}
@@ -158,7 +158,7 @@ module _ (s : List ℕ) (above : Book) where
       (λ k _. kind-plain k)
 
   pub value-exact : Exact s (Edge s) (valueAt s above) signed (λ x. inRange x ≡ true)
-  unfolding valueAt inRange D.inRange
+  unfolding valueAt
   value-exact = item-exact s (λ w e. valued s above (numberOf w) e) signed (λ x. inRange x ≡ true)
       (λ w e x nx q. let u = value-at (numberOf w) e x nx q in let v = number-value w x .0 (u .0) in (v .0, u .1, v .1))
       (λ x d e. ap (λ (r : Number). valued s above r e) (number-value (signed x) x .1 (refl, d)))

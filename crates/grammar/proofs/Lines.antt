@@ -8,6 +8,7 @@ use native.Mathlib.Omega.{arith}
 use lib.Dec.{eqb, ltb, leb}
 use lib.ListN.{length, getD}
 use borrow.Author.Tests.{eqb-true, eq-eqb, leb-true, le-leb}
+use Rattle.base.specs.Range.{inRange}
 use Rattle.base.proofs.Bools.{and-left, and-right, and-both, never-both}
 use Rattle.text.proofs.Spans.{Span, span-join, span-byte, span-split, span-one}
 use Rattle.model.specs.Graph.{Term, iri, blankNode, numeric, plain, tagged, Triple, langString}
@@ -15,7 +16,7 @@ use Rattle.model.specs.Shapes.{Shape}
 use Rattle.model.specs.Rules.{Rule}
 use Rattle.model.specs.Books.{Book, Line, link, type, lang, node, fact, shape, rule, Pool, nodes, links, types, langs, shapes, collect, newTerms, newTriples, rules}
 use Rattle.model.specs.Sizes.{formEntries, shapePaths, listItems, formsIn, pathsIn, itemsIn}
-use Rattle.model.specs.Valid.{inRange, defined, hasRoom, termOk, factOk, isResource, shapeOk, targetOk, entriesFit, lineOk}
+use Rattle.model.specs.Valid.{defined, hasRoom, termOk, factOk, isResource, shapeOk, targetOk, entriesFit, lineOk}
 use Rattle.grammar.specs.Writing.{spaced, bracket, writeNode, writeLine}
 use Rattle.grammar.specs.Valid.{shapeDepth, lineDepth, newName, namesOk, validLine}
 use Rattle.grammar.specs.Syntax.{Args, LineCode, linkL, typeL, langL, thingL, blankL, numberL, textL, wordsL, factL, shapeL, ruleL, lineFamily}

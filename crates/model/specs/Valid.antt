@@ -5,9 +5,8 @@ use mathlib.Core.List.{List, [], _∷_, _++_}
 use mathlib.Core.Bool.{Bool, true, false, not, _&&_}
 use lib.Dec.{eqb, ltb, leb}
 use lib.ListN.{length, getD}
-use lib.IntN.{ℤ, pos, negsuc}
-use lib.Signed.{leZ}
 use Rattle.base.specs.Lists.{allb}
+use Rattle.base.specs.Range.{inRange}
 use Rattle.model.specs.Limits.{maxNodes, maxLinks, maxTypes, maxLangs, maxShapes, maxRules, maxFacts, maxForms, maxPaths, maxItems, maxCount}
 use Rattle.model.specs.Graph.{Term, iri, blankNode, numeric, plain, tagged, Triple, langString}
 use Rattle.model.specs.Paths.{Path, predicate, inverse, sequence, alternative, End, self, along}
@@ -15,10 +14,6 @@ use Rattle.model.specs.Shapes.{Test, nodeKind, datatype, languageIn, min
 use Rattle.model.specs.Rules.{Target, targetNode, subjectsOf, objectsOf, targetClass, Rule}
 use Rattle.model.specs.Books.{Book, Line, link, type, lang, node, fact, shape, rule, Pool, nodes, links, types, langs, shapes, names, collect, newTerms, newTriples, rules}
 use Rattle.model.specs.Sizes.{formEntries, shapePaths, listItems, formsIn, pathsIn, itemsIn}
-
--- the signed 64-bit range
-unfoldable pub inRange : ℤ → Bool
-inRange x = leZ (negsuc 9223372036854775807) x && leZ x (pos 9223372036854775807)
 
 unfoldable pub capacity : Pool → ℕ
 capacity nodes = maxNodes

@@ -10,12 +10,13 @@ use borrow.Author.Tests.{ne-eqb, eqb-true, eqb-false, ltb-true, ltb-false, lt-lt
 use lib.Dec.{eqb, ltb, leb}
 use lib.IntN.{ℤ, pos, negsuc, negℤ}
 use lib.ListN.{length, getD, length-append, List·getD-append}
+use Rattle.base.specs.Range.{inRange}
 use Rattle.base.specs.Lists.{allb}
 use Rattle.base.specs.Bytes.{bytes}
 use Rattle.base.proofs.Bools.{bool-cases, and-left, and-right, and-both, or-cases, never-both, same-test}
 use Rattle.base.proofs.Lists.{allb-append}
 use Rattle.text.specs.Items.{edge}
-use Rattle.text.specs.Decimals.{digitsOf, decimal, signed, inRange, digit, valueFrom, isMag, positiveOf, negativeOf, numberOf, boundOf}
+use Rattle.text.specs.Decimals.{digitsOf, decimal, signed, digit, valueFrom, isMag, positiveOf, negativeOf, numberOf, boundOf}
 use Rattle.text.specs.declared.Number.{Number}
 use Rattle.text.specs.declared.Bound.{Bound}
 use Rattle.text.proofs.Words.{plain, digits-plain}

@@ -5,7 +5,6 @@ use mathlib.Core.Bool.{Bool, true, false, not, cond, _&&_, _||_}
 use lib.ListN.{length, getD, drop}
 use lib.Dec.{ltb, leb, eqb}
 use lib.IntN.{ℤ, pos, negsuc, negℤ}
-use lib.Signed.{leZ}
 use Rattle.base.specs.Lists.{allb}
 use Rattle.text.specs.Items.{within}
 use Rattle.text.specs.declared.Number.{Number}
@@ -27,10 +26,6 @@ decimal n = digitsOf (suc n) (ltb n 10) n
 unfoldable pub signed : ℤ → List ℕ
 signed (pos n) = decimal n
 signed (negsuc n) = 45 ∷ decimal (suc n)
-
--- the 64-bit range
-unfoldable pub inRange : ℤ → Bool
-inRange z = leZ (negℤ (pos (2 ^ 63))) z && leZ z (pos (2 ^ 63 - 1))
 
 -- ---- reading
 unfoldable pub digit : ℕ → Bool
