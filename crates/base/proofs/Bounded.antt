@@ -159,7 +159,7 @@ member-members p (suc n) v = member-append v (members p n) (cond (p n) (n ∷ []
         let ne : v ≡ n → ⊥ = borrow.Author.Tests.eqb-false v n e in
         or-false (ltb v n && p v) ∙ ap (λ (b : Bool). b && p v) (same-test (ltb v n) (ltb v (suc n)) (λ h. lt-ltb v (suc n) (omega (arith, borrow.Author.Tests.ltb-true v n h))) (λ h. lt-ltb v n (let l : v < suc n = borrow.Author.Tests.ltb-true v (suc n) h in omega arith)))
 
-members-low : (p : ℕ → Bool) (n m : ℕ) → n ≤ m → allb (λ v. ltb v m) (members p n) ≡ true
+pub members-low : (p : ℕ → Bool) (n m : ℕ) → n ≤ m → allb (λ v. ltb v m) (members p n) ≡ true
 unfolding members allb
 members-low p zero m h = refl
 members-low p (suc n) m h = allb-append (λ v. ltb v m) (members p n) (cond (p n) (n ∷ []) []) ∙ and-both (allb (λ v. ltb v m) (members p n)) (allb (λ v. ltb v m) (cond (p n) (n ∷ []) [])) (members-low p n m (omega arith)) (last (p n))

@@ -1,18 +1,18 @@
 -- The parts that are written from a valid book's tables and lists are the parts of its report.
 use Prim.Native.Nat.{ℕ, zero, suc, _+_, _-_, _*_, _<_, _≤_}
 use mathlib.Core.List.{List, [], _∷_, _++_, map, append-nil}
-use mathlib.Core.Bool.{Bool, true, cond, _&&_, _||_, or-true, and-true, true≢false}
+use mathlib.Core.Bool.{Bool, true, cond, _&&_, and-true, true≢false}
 use mathlib.Core.Path.{_≡_, refl, sym, ap, ap₂, _∙_}
 use native.Mathlib.Nat.{zero-add}
 use native.Mathlib.Omega.{arith}
-use lib.Dec.{eqb, ltb, leb}
+use lib.Dec.{ltb, leb}
 use lib.IntN.{ℤ}
 use lib.ListN.{length, getD, take, drop, replicate, length-drop, length-append, List·getD-append}
 use lib.Seq.{take-at, take-append-add, getD-take, getD-drop, append-snoc, length-take-le, ext-getD}
 use borrow.Author.Tests.{le-leb, ltb-true, eq-eqb, ne-eqb}
-use Rattle.base.specs.Lists.{member, allb}
+use Rattle.base.specs.Lists.{allb}
 use Rattle.base.proofs.Bools.{and-left, and-right, and-both}
-use Rattle.base.proofs.Bounded.{member-members}
+use Rattle.base.proofs.Bounded.{members-low}
 use Rattle.text.specs.Items.{nameByte, isName}
 use Rattle.text.specs.Pool.{padded, allNames}
 use Rattle.text.proofs.Items.{name-short, name-bytes}
@@ -77,14 +77,6 @@ names-short [] e = refl
 names-short (w ∷ ws) e = and-both (leb (length w) 31) (short ws) (le-leb (length w) 31 (name-short w (and-left (isName w) (allNames ws) e))) (names-short ws (and-right (isName w) (allNames ws) e))
 
 -- ---- lists
--- what passes for every member passes for every element
-all-members : (q : ℕ → Bool) (l : List ℕ) → ((v : ℕ) → member v l ≡ true → q v ≡ true) → allb q l ≡ true
-unfolding allb member
-all-members q [] h = refl
-all-members q (x ∷ l) h =
-    and-both (q x) (allb q l) (h x (ap (λ (t : Bool). t || member x l) (eq-eqb x x refl)))
-    (all-members q l (λ v m. h v (ap (λ (t : Bool). eqb v x || t) m ∙ or-true (eqb v x))))
-
 map-same : {A : Type 0} (f g : ℕ → A) (p : ℕ → Bool) (l : List ℕ) → ((v : ℕ) → p v ≡ true → f v ≡ g v) → allb p l ≡ true → map f l ≡ map g l
 unfolding allb
 map-same f g p [] h e = refl
@@ -117,7 +109,7 @@ module _ (b : Book) (v : valid b ≡ true) where
   unfolding listOf violations graphOf
   list-within r =
       ap (λ (k : ℕ). allb (λ n. ltb n k) (listOf b r)) (sym (terms-counted b))
-      ∙ all-members (λ n. ltb n (graphOf b .nodes)) (listOf b r) (λ n m. and-left (ltb n (graphOf b .nodes)) (violates (graphOf b) (schema b) r n) (sym (member-members (violates (graphOf b) (schema b) r) (graphOf b .nodes) n) ∙ m))
+      ∙ members-low (violates (graphOf b) (schema b) r) (graphOf b .nodes) (graphOf b .nodes) (omega arith)
 
   list-few : (r : Rule) → length (listOf b r) ≤ 1024
   unfolding listOf violations graphOf
