@@ -14,9 +14,12 @@ use Rattle.text.specs.declared.Found.the-variants.{At, Nothing}
 unfoldable pub padded : List ℕ → List ℕ
 padded w = w ++ replicate (32 - length w) 0
 
--- byte j after b is byte j of w
-abbrev pub sameAt : List ℕ → ℕ → List ℕ → ℕ → Bool
-sameAt s b w j = eqb (getD s (b + j) 0) (getD w j 0)
+-- byte j after two starts is the same; it is 0
+abbrev pub sameAt : List ℕ → ℕ → List ℕ → ℕ → ℕ → Bool
+sameAt s a t b j = eqb (getD s (a + j) 0) (getD t (b + j) 0)
+
+abbrev pub zeroAt : List ℕ → ℕ → ℕ → Bool
+zeroAt s a j = eqb (getD s (a + j) 0) 0
 
 -- each is a name
 unfoldable pub allNames : List (List ℕ) → Bool

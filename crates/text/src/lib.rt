@@ -4,7 +4,6 @@ use chains::entry;
 ghost use mathlib.Core.Path.{_≡_};
 ghost use mathlib.Core.Bool.{true, cond};
 ghost use Prim.Native.Nat.{_≤_, _<_, _+_, _*_, _-_};
-ghost use lib.Dec.{ltb};
 ghost use lib.ListN.{length, getD};
 ghost use lib.Seq.{slice};
 ghost use Rattle.base.specs.Bounded.{every};
@@ -13,7 +12,7 @@ ghost use Rattle.base.specs.Bytes.{eql};
 ghost use Rattle.chains.specs.Chains.{Chained};
 ghost use Rattle.text.specs.Items.{edge, itemEnd, nameByte, isName};
 ghost use Rattle.text.specs.Decimals.{digit, isMag, magOf, valueFrom, positiveOf, negativeOf, numberOf, boundOf};
-ghost use Rattle.text.specs.Pool.{padded, sameAt, hashOf, nameKey, find, store};
+ghost use Rattle.text.specs.Pool.{padded, sameAt, zeroAt, hashOf, nameKey, find, store};
 ghost use Rattle.text.specs.declared.Found.the-variants.{At};
 
 // A signed decimal of the 64-bit range; a well written decimal out of it; anything else.
@@ -242,37 +241,26 @@ pub fn letter(book: &[u8], at: usize, end: usize, j: usize) -> u8
     if j < end - at { book[at + j] } else { 0 }
 }
 
-// Byte j of a word of len bytes, or 0 past it.
-fn kept(j: u8, len: u8, b: u8) -> u8
-    ensures { λ r. ⌜ r ≡ cond (ltb j len) b 0 ⌝ }
+// The len bytes from place on and those from at on are the same. No early exit: many bytes are compared at once.
+fn same_bytes(names: &[u8], place: usize, book: &[u8], at: usize, len: usize) -> bool
+    requires { ⌜ (place + len ≤ length (now names)) × (at + len ≤ length (now book)) ⌝ }
+    ensures { λ r. ⌜ r ≡ every (sameAt (now (names .entry)) place (now (book .entry)) at) len ⌝ }
 {
-    if j < len { b } else { 0 }
-}
-
-// The 32 bytes at place are the word from at to end and then zeros, where the text goes on for 32 bytes.
-// No early exit and as many steps for each word: many bytes are compared at once.
-fn same_within(names: &[u8], place: usize, book: &[u8], at: usize, end: usize) -> bool
-    requires { ⌜ (at ≤ end) × (at + 32 ≤ length (now book)) × (end - at ≤ 31) × (place + 32 ≤ length (now names)) ⌝ }
-    ensures { λ r. ⌜ r ≡ every (sameAt (now (names .entry)) place (padded (slice at end (now (book .entry))))) 32 ⌝ }
-{
-    let len = (end - at) as u8;
     let mut same = true;
-    let mut j = 0;
-    while j < 32 {
-        same = same & (names[place + j] == kept(j as u8, len, book[at + j]));
-        j += 1;
+    for j in 0..len {
+        same = same & (names[place + j] == book[at + j]);
     }
     same
 }
 
-// The same near the end of the text, where 32 bytes from at on would go past it.
-fn same_letters(names: &[u8], place: usize, book: &[u8], at: usize, end: usize) -> bool
-    requires { ⌜ (at ≤ end) × (end ≤ length (now book)) × (place + 32 ≤ length (now names)) ⌝ }
-    ensures { λ r. ⌜ r ≡ every (sameAt (now (names .entry)) place (padded (slice at end (now (book .entry))))) 32 ⌝ }
+// The len bytes from place on are zeros. No early exit, as above.
+fn zeros(names: &[u8], place: usize, len: usize) -> bool
+    requires { ⌜ place + len ≤ length (now names) ⌝ }
+    ensures { λ r. ⌜ r ≡ every (zeroAt (now (names .entry)) place) len ⌝ }
 {
     let mut same = true;
-    for j in 0..32 {
-        same = same & (names[place + j] == letter(book, at, end, j));
+    for j in 0..len {
+        same = same & (names[place + j] == 0);
     }
     same
 }
@@ -282,10 +270,8 @@ pub fn same_name(names: &[u8], place: usize, book: &[u8], at: usize, end: usize)
     requires { ⌜ (at ≤ end) × (end ≤ length (now book)) × (end - at ≤ 31) × (place + 32 ≤ length (now names)) ⌝ }
     ensures { λ r. ⌜ r ≡ eql (padded (slice at end (now (book .entry)))) (slice place (place + 32) (now (names .entry))) ⌝ }
 {
-    if 32 <= book.len() - at {
-        return same_within(names, place, book, at, end);
-    }
-    same_letters(names, place, book, at, end)
+    let len = end - at;
+    same_bytes(names, place, book, at, len) & zeros(names, place + len, 32 - len)
 }
 
 // The number of the word from at to end in the pool of count names that starts at base.
