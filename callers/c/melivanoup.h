@@ -49,10 +49,18 @@ extern "C" {
 #define MELIVANOUP_CELL_FACTS 5 /* fact lines, repeats included */
 #define MELIVANOUP_CELL_RULES 9
 
-/* The name of node n stands at names + 32 * n, that of shape s at names + MELIVANOUP_SHAPE_NAMES + 32 * s: at most 31 bytes,
- * then zeros. */
+/* The number of the shape of rule r stands at cells[MELIVANOUP_RULE_SHAPES + r], that of a plan's steps at
+ * plan[MELIVANOUP_PLAN_STEPS]. */
+#define MELIVANOUP_RULE_SHAPES 16506
+#define MELIVANOUP_PLAN_STEPS 0
+
+/* The name of node n stands at names + MELIVANOUP_NAME * n, that of shape s at names + MELIVANOUP_SHAPE_NAMES +
+ * MELIVANOUP_NAME * s: at most MELIVANOUP_NAME - 1 bytes, then zeros. */
 #define MELIVANOUP_NAME 32
 #define MELIVANOUP_SHAPE_NAMES 43008
+
+/* What the verdict writes of a node that meets the shape; 0 of one that does not. */
+#define MELIVANOUP_CONFORMS 1
 
 /* Why a call was refused. 1 to 7 are the book writer's: 2 to 7 come with a line, counted from 1. 8 to 10 are the caller's. */
 enum melivanoup_refusal {

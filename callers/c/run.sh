@@ -5,5 +5,5 @@ set -eu
 here=$(cd "$(dirname "$0")" && pwd)
 lib=$(bash "$here/../archive.sh")
 mkdir -p "$here/build"
-"${CC:-cc}" -std=c11 -O2 -Wall -Wextra -o "$here/build/report" "$here/report.c" "$lib/libmelivanoup.a"
+"${CC:-cc}" -std=c11 -O2 -Wall -Wextra ${CFLAGS:-} -o "$here/build/report" "$here/report.c" "$lib/libmelivanoup.a"
 exec "$here/build/report" "$1"

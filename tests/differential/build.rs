@@ -1,7 +1,11 @@
-//! Links the static library that `rt staticlib melivanoup` makes.
+//! Where libmelivanoup.a stands: the folder in MELIVANOUP_LIB, else where `rt staticlib melivanoup` writes it.
+use std::{env, path::PathBuf};
+
 fn main() {
-    let folder = format!("{}/../../target/staticlib", std::env::var("CARGO_MANIFEST_DIR").unwrap());
-    println!("cargo:rustc-link-search=native={folder}");
+    let here = PathBuf::from(env::var_os("CARGO_MANIFEST_DIR").unwrap());
+    let folder = env::var_os("MELIVANOUP_LIB").map_or_else(|| here.join("../../target/staticlib"), PathBuf::from);
+    println!("cargo:rerun-if-env-changed=MELIVANOUP_LIB");
+    println!("cargo:rerun-if-changed={}", folder.join("libmelivanoup.a").display());
+    println!("cargo:rustc-link-search=native={}", folder.display());
     println!("cargo:rustc-link-lib=static=melivanoup");
-    println!("cargo:rerun-if-changed={folder}/libmelivanoup.a");
 }

@@ -48,4 +48,4 @@ pub mod sizes {
 
 /// The stack that a call may use, in bytes: measured, not proved. Books need at most 0.6 MB, tables from elsewhere 1.4. Where there
 /// is less, the program ends at the guard page: the code touches every page of a frame in turn.
-pub const STACK: usize = 3 << 19;
+pub const STACK: usize = 1_572_864;

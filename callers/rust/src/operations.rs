@@ -31,9 +31,18 @@ pub struct Counts {
     pub rules: usize,
 }
 
+// Where things stand, named as in callers/c/melivanoup.h.
+const CELL_NODES: usize = 0;
+const CELL_SHAPES: usize = 4;
+const CELL_FACTS: usize = 5;
+const CELL_RULES: usize = 9;
+const RULE_SHAPES: usize = 16_506;
+const PLAN_STEPS: usize = 0;
 const NAME: usize = 32;
 const SHAPE_NAMES: usize = 43_008;
-const RULE_SHAPES: usize = 16_506;
+
+/// the verdict's answer for a node that meets the shape
+const CONFORMS: u32 = 1;
 
 impl Tables {
     /// Zeros: the tables of no book.
@@ -67,7 +76,7 @@ impl Tables {
             )
         };
         Refusal::check(number, 0)?;
-        Ok(conforms == 1)
+        Ok(conforms == CONFORMS)
     }
 
     /// Compiles the rules of the tables into a plan, and gives its number of steps.
@@ -114,32 +123,32 @@ impl Tables {
 
     /// The counts that stand in the tables.
     pub fn counts(&self) -> Counts {
-        Counts { nodes: self.cell(0), facts: self.cell(5), rules: self.cell(9) }
+        Counts { nodes: self.cell(CELL_NODES), facts: self.cell(CELL_FACTS), rules: self.cell(CELL_RULES) }
     }
 
     /// The name of a node; none where the tables have no such node.
     pub fn node_name(&self, node: usize) -> Option<&str> {
-        (node < self.cell(0)).then(|| self.name(NAME * node))?
+        (node < self.cell(CELL_NODES)).then(|| self.name(NAME * node))?
     }
 
     /// The name of a shape; none where the tables have no such shape.
     pub fn shape_name(&self, shape: usize) -> Option<&str> {
-        (shape < self.cell(4)).then(|| self.name(SHAPE_NAMES + NAME * shape))?
+        (shape < self.cell(CELL_SHAPES)).then(|| self.name(SHAPE_NAMES + NAME * shape))?
     }
 
     /// The number of the node of that name.
     pub fn node(&self, name: &str) -> Option<usize> {
-        (0..self.cell(0)).find(|&k| self.node_name(k) == Some(name))
+        (0..self.cell(CELL_NODES)).find(|&k| self.node_name(k) == Some(name))
     }
 
     /// The number of the shape of that name.
     pub fn shape(&self, name: &str) -> Option<usize> {
-        (0..self.cell(4)).find(|&k| self.shape_name(k) == Some(name))
+        (0..self.cell(CELL_SHAPES)).find(|&k| self.shape_name(k) == Some(name))
     }
 
     /// The number of a rule's shape; none where the tables have no such rule.
     pub fn rule_shape(&self, rule: usize) -> Option<usize> {
-        (rule < self.cell(9)).then(|| self.cell(RULE_SHAPES + rule))
+        (rule < self.cell(CELL_RULES)).then(|| self.cell(RULE_SHAPES + rule))
     }
 
     fn cell(&self, at: usize) -> usize {
@@ -161,7 +170,7 @@ impl Plan {
 
     /// How many steps it has.
     pub fn steps(&self) -> usize {
-        self.cells.first().map_or(0, |&x| x.into())
+        self.cells.get(PLAN_STEPS).map_or(0, |&x| x.into())
     }
 }
 

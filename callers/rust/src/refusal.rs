@@ -6,16 +6,19 @@ use std::fmt;
 #[derive(Clone, Copy, Debug, PartialEq, Eq, Hash)]
 pub enum Ground {
     TooLong = 1,
-    Grammar,
-    Range,
-    Nesting,
-    Undefined,
-    Taken,
-    Limit,
-    Short,
-    Malformed,
-    Absent,
+    Grammar = 2,
+    Range = 3,
+    Nesting = 4,
+    Undefined = 5,
+    Taken = 6,
+    Limit = 7,
+    Short = 8,
+    Malformed = 9,
+    Absent = 10,
 }
+
+/// the number for no refusal
+const NONE: u32 = 0;
 
 /// A refusal: its ground, and the line of the book, from 1; 0 where it is no line's.
 #[derive(Clone, Copy, Debug, PartialEq, Eq, Hash)]
@@ -32,7 +35,7 @@ impl Ground {
     fn by_number(number: u32) -> Ground {
         use Ground::*;
         let all = [TooLong, Grammar, Range, Nesting, Undefined, Taken, Limit, Short, Malformed, Absent];
-        all[number as usize - 1]
+        all.into_iter().find(|ground| ground.number() == number).expect("every refusal has its ground")
     }
 }
 
@@ -54,10 +57,10 @@ impl fmt::Display for Ground {
 }
 
 impl Refusal {
-    /// `Ok` for 0, else the refusal of that number.
+    /// `Ok` for none, else the refusal of that number.
     pub(crate) fn check(number: u32, line: usize) -> Result<(), Refusal> {
         match number {
-            0 => Ok(()),
+            NONE => Ok(()),
             n => Err(Refusal { ground: Ground::by_number(n), line }),
         }
     }

@@ -3,3 +3,4 @@ pub mod Whole
 pub mod Tables
 pub mod Verdicts
 pub mod ByHand
+pub mod BookB

@@ -1,5 +1,7 @@
 use Prim.Native.Nat.{zero-le}
-use mathlib.Core.Path.{refl}
+use mathlib.Core.Path.{refl, ap, ap₂}
+use mathlib.Core.Bool.{_&&_}
+use lib.Dec.{ltb}
 use denote.Ref.{now}
 use Rattle.plan.specs.Steps.{stepOf}
 use Rattle.plan.specs.WellFormed.{stepOk}
@@ -66,11 +68,11 @@ returns c = case-is (stepBy (now (c .before .before .before .before .before .bef
 
 returns-2 : tie.Need-returns-2
 unfolding stepOf stepOk
-returns-2 c = case-is (stepBy (now (c .before .before .before .before .before .before .before .args .cells)) (now (c .before .before .before .before .before .before .before .args .plan)) (c .before .before .before .before .before .before .before .args .k) (c .before .before .before .before .step-first .result) (c .before .before .before .step-second .result)) (c .before .before .step-code .result) (step-by (now (c .before .before .before .before .before .before .before .args .cells)) (now (c .before .before .before .before .before .before .before .args .plan)) (c .before .before .before .before .before .before .before .args .k) (c .before .before .before .before .step-first .result) (c .before .before .before .step-second .result) (c .before .before .step-code .result) (c .before .before .before .before .step-first .ensures) (c .before .before .before .step-second .ensures) (c .before .before .step-code .ensures)) 9 (c .before .match .keys2) (cc)
+returns-2 c = case-is (stepBy (now (c .before .before .before .before .before .before .before .args .cells)) (now (c .before .before .before .before .before .before .before .args .plan)) (c .before .before .before .before .before .before .before .args .k) (c .before .before .before .before .step-first .result) (c .before .before .before .step-second .result)) (c .before .before .step-code .result) (step-by (now (c .before .before .before .before .before .before .before .args .cells)) (now (c .before .before .before .before .before .before .before .args .plan)) (c .before .before .before .before .before .before .before .args .k) (c .before .before .before .before .step-first .result) (c .before .before .before .step-second .result) (c .before .before .step-code .result) (c .before .before .before .before .step-first .ensures) (c .before .before .before .step-second .ensures) (c .before .before .step-code .ensures)) 9 (c .before .match .keys2) (ap₂ _&&_ (ap (ltb _) (c .path-count .ensures)) refl)
 
 returns-3 : tie.Need-returns-3
 unfolding stepOf stepOk
-returns-3 c = case-is (stepBy (now (c .before .before .before .before .before .before .before .args .cells)) (now (c .before .before .before .before .before .before .before .args .plan)) (c .before .before .before .before .before .before .before .args .k) (c .before .before .before .before .step-first .result) (c .before .before .before .step-second .result)) (c .before .before .step-code .result) (step-by (now (c .before .before .before .before .before .before .before .args .cells)) (now (c .before .before .before .before .before .before .before .args .plan)) (c .before .before .before .before .before .before .before .args .k) (c .before .before .before .before .step-first .result) (c .before .before .before .step-second .result) (c .before .before .step-code .result) (c .before .before .before .before .step-first .ensures) (c .before .before .before .step-second .ensures) (c .before .before .step-code .ensures)) 24 (c .before .match .keys3) (cc)
+returns-3 c = case-is (stepBy (now (c .before .before .before .before .before .before .before .args .cells)) (now (c .before .before .before .before .before .before .before .args .plan)) (c .before .before .before .before .before .before .before .args .k) (c .before .before .before .before .step-first .result) (c .before .before .before .step-second .result)) (c .before .before .step-code .result) (step-by (now (c .before .before .before .before .before .before .before .args .cells)) (now (c .before .before .before .before .before .before .before .args .plan)) (c .before .before .before .before .before .before .before .args .k) (c .before .before .before .before .step-first .result) (c .before .before .before .step-second .result) (c .before .before .step-code .result) (c .before .before .before .before .step-first .ensures) (c .before .before .before .step-second .ensures) (c .before .before .step-code .ensures)) 24 (c .before .match .keys3) (ap (ltb _) (c .node-count .ensures))
 
 returns-4 : tie.Need-returns-4
 unfolding stepOf stepOk
@@ -78,7 +80,7 @@ returns-4 c = case-in (stepBy (now (c .before .before .before .before .before .b
 
 returns-5 : tie.Need-returns-5
 unfolding stepOf stepOk
-returns-5 c = case-in (stepBy (now (c .before .before .before .before .before .before .before .before .before .before .args .cells)) (now (c .before .before .before .before .before .before .before .before .before .before .args .plan)) (c .before .before .before .before .before .before .before .before .before .before .args .k) (c .before .before .before .before .before .before .before .step-first .result) (c .before .before .before .before .before .before .step-second .result)) (c .before .before .before .before .before .step-code .result) (step-by (now (c .before .before .before .before .before .before .before .before .before .before .args .cells)) (now (c .before .before .before .before .before .before .before .before .before .before .args .plan)) (c .before .before .before .before .before .before .before .before .before .before .args .k) (c .before .before .before .before .before .before .before .step-first .result) (c .before .before .before .before .before .before .step-second .result) (c .before .before .before .before .before .step-code .result) (c .before .before .before .before .before .before .before .step-first .ensures) (c .before .before .before .before .before .before .step-second .ensures) (c .before .before .before .before .before .step-code .ensures)) 2 2 (c .before .before .if2 .left) (c .before .if3 .taken) (cc, (cc, tt))
+returns-5 c = case-in (stepBy (now (c .before .before .before .before .before .before .before .before .before .before .args .cells)) (now (c .before .before .before .before .before .before .before .before .before .before .args .plan)) (c .before .before .before .before .before .before .before .before .before .before .args .k) (c .before .before .before .before .before .before .before .step-first .result) (c .before .before .before .before .before .before .step-second .result)) (c .before .before .before .before .before .step-code .result) (step-by (now (c .before .before .before .before .before .before .before .before .before .before .args .cells)) (now (c .before .before .before .before .before .before .before .before .before .before .args .plan)) (c .before .before .before .before .before .before .before .before .before .before .args .k) (c .before .before .before .before .before .before .before .step-first .result) (c .before .before .before .before .before .before .step-second .result) (c .before .before .before .before .before .step-code .result) (c .before .before .before .before .before .before .before .step-first .ensures) (c .before .before .before .before .before .before .step-second .ensures) (c .before .before .before .before .before .step-code .ensures)) 2 2 (c .before .before .if2 .left) (c .before .if3 .taken) (ap (ltb _) (c .node-count2 .ensures), (ap (ltb _) (c .node-count2 .ensures), tt))
 
 returns-6 : tie.Need-returns-6
 unfolding stepOf stepOk
@@ -90,7 +92,7 @@ returns-7 c = case-in (stepBy (now (c .before .before .before .before .before .b
 
 returns-8 : tie.Need-returns-8
 unfolding stepOf stepOk
-returns-8 c = case-in (stepBy (now (c .before .before .before .before .before .before .before .before .before .before .before .before .before .args .cells)) (now (c .before .before .before .before .before .before .before .before .before .before .before .before .before .args .plan)) (c .before .before .before .before .before .before .before .before .before .before .before .before .before .args .k) (c .before .before .before .before .before .before .before .before .before .before .step-first .result) (c .before .before .before .before .before .before .before .before .before .step-second .result)) (c .before .before .before .before .before .before .before .before .step-code .result) (step-by (now (c .before .before .before .before .before .before .before .before .before .before .before .before .before .args .cells)) (now (c .before .before .before .before .before .before .before .before .before .before .before .before .before .args .plan)) (c .before .before .before .before .before .before .before .before .before .before .before .before .before .args .k) (c .before .before .before .before .before .before .before .before .before .before .step-first .result) (c .before .before .before .before .before .before .before .before .before .step-second .result) (c .before .before .before .before .before .before .before .before .step-code .result) (c .before .before .before .before .before .before .before .before .before .before .step-first .ensures) (c .before .before .before .before .before .before .before .before .before .step-second .ensures) (c .before .before .before .before .before .before .before .before .step-code .ensures)) 10 4 (next 9 (c .before .before .before .before .before .before .before .before .step-code .result) (next 8 (c .before .before .before .before .before .before .before .before .step-code .result) (c .before .before .if5 .left) (c .before .before .before .before .before .before .before .match .rest .0 .0 .1)) (c .before .before .before .before .before .before .before .match .rest .0 .1)) (c .before .before .before .before .before .before .if1 .taken) (cc, (cc, (cc, (cc, tt))))
+returns-8 c = case-in (stepBy (now (c .before .before .before .before .before .before .before .before .before .before .before .before .before .args .cells)) (now (c .before .before .before .before .before .before .before .before .before .before .before .before .before .args .plan)) (c .before .before .before .before .before .before .before .before .before .before .before .before .before .args .k) (c .before .before .before .before .before .before .before .before .before .before .step-first .result) (c .before .before .before .before .before .before .before .before .before .step-second .result)) (c .before .before .before .before .before .before .before .before .step-code .result) (step-by (now (c .before .before .before .before .before .before .before .before .before .before .before .before .before .args .cells)) (now (c .before .before .before .before .before .before .before .before .before .before .before .before .before .args .plan)) (c .before .before .before .before .before .before .before .before .before .before .before .before .before .args .k) (c .before .before .before .before .before .before .before .before .before .before .step-first .result) (c .before .before .before .before .before .before .before .before .before .step-second .result) (c .before .before .before .before .before .before .before .before .step-code .result) (c .before .before .before .before .before .before .before .before .before .before .step-first .ensures) (c .before .before .before .before .before .before .before .before .before .step-second .ensures) (c .before .before .before .before .before .before .before .before .step-code .ensures)) 10 4 (next 9 (c .before .before .before .before .before .before .before .before .step-code .result) (next 8 (c .before .before .before .before .before .before .before .before .step-code .result) (c .before .before .if5 .left) (c .before .before .before .before .before .before .before .match .rest .0 .0 .1)) (c .before .before .before .before .before .before .before .match .rest .0 .1)) (c .before .before .before .before .before .before .if1 .taken) (ap₂ _&&_ (c .before .end-ok .ensures) (ap (ltb _) (c .link-count .ensures)), (ap₂ _&&_ (c .before .end-ok .ensures) (ap (ltb _) (c .link-count .ensures)), (ap₂ _&&_ (c .before .end-ok .ensures) (ap (ltb _) (c .link-count .ensures)), (ap₂ _&&_ (c .before .end-ok .ensures) (ap (ltb _) (c .link-count .ensures)), tt))))
 
 returns-9 : tie.Need-returns-9
 unfolding stepOf stepOk
@@ -98,15 +100,15 @@ returns-9 c = case-in (stepBy (now (c .before .before .before .before .before .b
 
 returns-10 : tie.Need-returns-10
 unfolding stepOf stepOk
-returns-10 c = case-in (stepBy (now (c .before .before .before .before .before .before .before .before .before .before .before .args .cells)) (now (c .before .before .before .before .before .before .before .before .before .before .before .args .plan)) (c .before .before .before .before .before .before .before .before .before .before .before .args .k) (c .before .before .before .before .before .before .before .before .step-first .result) (c .before .before .before .before .before .before .before .step-second .result)) (c .before .before .before .before .before .before .step-code .result) (step-by (now (c .before .before .before .before .before .before .before .before .before .before .before .args .cells)) (now (c .before .before .before .before .before .before .before .before .before .before .before .args .plan)) (c .before .before .before .before .before .before .before .before .before .before .before .args .k) (c .before .before .before .before .before .before .before .before .step-first .result) (c .before .before .before .before .before .before .before .step-second .result) (c .before .before .before .before .before .before .step-code .result) (c .before .before .before .before .before .before .before .before .step-first .ensures) (c .before .before .before .before .before .before .before .step-second .ensures) (c .before .before .before .before .before .before .step-code .ensures)) 16 4 (c .before .before .before .if6 .left) (c .before .before .if7 .taken) (cc, (cc, (cc, (cc, tt))))
+returns-10 c = case-in (stepBy (now (c .before .before .before .before .before .before .before .before .before .before .before .args .cells)) (now (c .before .before .before .before .before .before .before .before .before .before .before .args .plan)) (c .before .before .before .before .before .before .before .before .before .before .before .args .k) (c .before .before .before .before .before .before .before .before .step-first .result) (c .before .before .before .before .before .before .before .step-second .result)) (c .before .before .before .before .before .before .step-code .result) (step-by (now (c .before .before .before .before .before .before .before .before .before .before .before .args .cells)) (now (c .before .before .before .before .before .before .before .before .before .before .before .args .plan)) (c .before .before .before .before .before .before .before .before .before .before .before .args .k) (c .before .before .before .before .before .before .before .before .step-first .result) (c .before .before .before .before .before .before .before .step-second .result) (c .before .before .before .before .before .before .step-code .result) (c .before .before .before .before .before .before .before .before .step-first .ensures) (c .before .before .before .before .before .before .before .step-second .ensures) (c .before .before .before .before .before .before .step-code .ensures)) 16 4 (c .before .before .before .if6 .left) (c .before .before .if7 .taken) (ap₂ _&&_ (ap (ltb _) (c .before .path-count2 .ensures)) (ap (ltb _) (c .link-count2 .ensures)), (ap₂ _&&_ (ap (ltb _) (c .before .path-count2 .ensures)) (ap (ltb _) (c .link-count2 .ensures)), (ap₂ _&&_ (ap (ltb _) (c .before .path-count2 .ensures)) (ap (ltb _) (c .link-count2 .ensures)), (ap₂ _&&_ (ap (ltb _) (c .before .path-count2 .ensures)) (ap (ltb _) (c .link-count2 .ensures)), tt))))
 
 returns-11 : tie.Need-returns-11
 unfolding stepOf stepOk
-returns-11 c = case-in (stepBy (now (c .before .before .before .before .before .before .before .before .before .before .before .args .cells)) (now (c .before .before .before .before .before .before .before .before .before .before .before .args .plan)) (c .before .before .before .before .before .before .before .before .before .before .before .args .k) (c .before .before .before .before .before .before .before .before .step-first .result) (c .before .before .before .before .before .before .before .step-second .result)) (c .before .before .before .before .before .before .step-code .result) (step-by (now (c .before .before .before .before .before .before .before .before .before .before .before .args .cells)) (now (c .before .before .before .before .before .before .before .before .before .before .before .args .plan)) (c .before .before .before .before .before .before .before .before .before .before .before .args .k) (c .before .before .before .before .before .before .before .before .step-first .result) (c .before .before .before .before .before .before .before .step-second .result) (c .before .before .before .before .before .before .step-code .result) (c .before .before .before .before .before .before .before .before .step-first .ensures) (c .before .before .before .before .before .before .before .step-second .ensures) (c .before .before .before .before .before .before .step-code .ensures)) 20 2 (c .before .before .if7 .left) (c .before .if8 .taken) (cc, (cc, tt))
+returns-11 c = case-in (stepBy (now (c .before .before .before .before .before .before .before .before .before .before .before .args .cells)) (now (c .before .before .before .before .before .before .before .before .before .before .before .args .plan)) (c .before .before .before .before .before .before .before .before .before .before .before .args .k) (c .before .before .before .before .before .before .before .before .step-first .result) (c .before .before .before .before .before .before .before .step-second .result)) (c .before .before .before .before .before .before .step-code .result) (step-by (now (c .before .before .before .before .before .before .before .before .before .before .before .args .cells)) (now (c .before .before .before .before .before .before .before .before .before .before .before .args .plan)) (c .before .before .before .before .before .before .before .before .before .before .before .args .k) (c .before .before .before .before .before .before .before .before .step-first .result) (c .before .before .before .before .before .before .before .step-second .result) (c .before .before .before .before .before .before .step-code .result) (c .before .before .before .before .before .before .before .before .step-first .ensures) (c .before .before .before .before .before .before .before .step-second .ensures) (c .before .before .before .before .before .before .step-code .ensures)) 20 2 (c .before .before .if7 .left) (c .before .if8 .taken) (ap (ltb _) (c .path-count3 .ensures), (ap (ltb _) (c .path-count3 .ensures), tt))
 
 returns-12 : tie.Need-returns-12
 unfolding stepOf stepOk
-returns-12 c = case-in (stepBy (now (c .before .before .before .before .before .before .before .before .before .before .before .before .args .cells)) (now (c .before .before .before .before .before .before .before .before .before .before .before .before .args .plan)) (c .before .before .before .before .before .before .before .before .before .before .before .before .args .k) (c .before .before .before .before .before .before .before .before .before .step-first .result) (c .before .before .before .before .before .before .before .before .step-second .result)) (c .before .before .before .before .before .before .before .step-code .result) (step-by (now (c .before .before .before .before .before .before .before .before .before .before .before .before .args .cells)) (now (c .before .before .before .before .before .before .before .before .before .before .before .before .args .plan)) (c .before .before .before .before .before .before .before .before .before .before .before .before .args .k) (c .before .before .before .before .before .before .before .before .before .step-first .result) (c .before .before .before .before .before .before .before .before .step-second .result) (c .before .before .before .before .before .before .before .step-code .result) (c .before .before .before .before .before .before .before .before .before .step-first .ensures) (c .before .before .before .before .before .before .before .before .step-second .ensures) (c .before .before .before .before .before .before .before .step-code .ensures)) 22 2 (c .before .before .if8 .left) (c .before .if9 .taken) (cc, (cc, tt))
+returns-12 c = case-in (stepBy (now (c .before .before .before .before .before .before .before .before .before .before .before .before .args .cells)) (now (c .before .before .before .before .before .before .before .before .before .before .before .before .args .plan)) (c .before .before .before .before .before .before .before .before .before .before .before .before .args .k) (c .before .before .before .before .before .before .before .before .before .step-first .result) (c .before .before .before .before .before .before .before .before .step-second .result)) (c .before .before .before .before .before .before .before .step-code .result) (step-by (now (c .before .before .before .before .before .before .before .before .before .before .before .before .args .cells)) (now (c .before .before .before .before .before .before .before .before .before .before .before .before .args .plan)) (c .before .before .before .before .before .before .before .before .before .before .before .before .args .k) (c .before .before .before .before .before .before .before .before .before .step-first .result) (c .before .before .before .before .before .before .before .before .step-second .result) (c .before .before .before .before .before .before .before .step-code .result) (c .before .before .before .before .before .before .before .before .before .step-first .ensures) (c .before .before .before .before .before .before .before .before .step-second .ensures) (c .before .before .before .before .before .before .before .step-code .ensures)) 22 2 (c .before .before .if8 .left) (c .before .if9 .taken) (ap (ltb _) (c .link-count3 .ensures), (ap (ltb _) (c .link-count3 .ensures), tt))
 
 returns-13 : tie.Need-returns-13
 unfolding stepOf stepOk

@@ -1,5 +1,6 @@
 use borrow.Author.Needs.{needs}
-use Prim.Native.Nat.{ℕ, _+_}
+use Prim.Native.Nat.{ℕ, _+_, _≤_}
+use mathlib.Core.List.{List}
 use mathlib.Core.Path.{sym, ap, _∙_}
 use native.Mathlib.Omega.{arith}
 use denote.Ref.{now}
@@ -8,6 +9,7 @@ use lib.Dec.{leb}
 use lib.Seq.{length-take-le}
 use borrow.Author.Tests.{not-true, not-false, le-leb, lt-leb}
 use Rattle.base.proofs.Bools.{and-left, and-right}
+use Rattle.tables.specs.Layout.{ruleCount}
 use Rattle.tables.specs.WellFormed.{wellFormed}
 use Rattle.tables.proofs.WellFormed as tables
 use Rattle.report.specs.Pages.{partOk}
@@ -41,8 +43,8 @@ rule-count-requires c κs = search needs
 
 add-if3 : tie.Need-add-if3
 add-if3 c =
-    let cs = take 16602 (now (c .before .before .before .before .before .before .before .before .before .before .before .before .args .cells)) in
-    let few = tables.sound cs (and-left (wellFormed cs) (partOk cs (now (c .before .before .before .before .before .before .before .before .before .before .before .before .args .lists)) (now (c .before .before .before .before .before .before .before .before .before .before .before .before .args .lengths)) (c .before .before .before .before .before .before .before .before .before .before .before .before .args .k)) (sym (c .before .before .part-ok .ensures) ∙ not-false (c .before .before .part-ok .result) (c .before .if2 .left))) .rules in
+    let cs : List ℕ = take 16602 (now (c .before .before .before .before .before .before .before .before .before .before .before .before .args .cells)) in
+    let few : ruleCount cs ≤ 32 = tables.sound cs (and-left (wellFormed cs) (partOk cs (now (c .before .before .before .before .before .before .before .before .before .before .before .before .args .lists)) (now (c .before .before .before .before .before .before .before .before .before .before .before .before .args .lengths)) (c .before .before .before .before .before .before .before .before .before .before .before .before .args .k)) (sym (c .before .before .part-ok .ensures) ∙ not-false (c .before .before .part-ok .result) (c .before .if2 .left))) .rules in
     omega (arith, few, c .rule-count .ensures)
 
 same-length-3 : tie.Need-same-length-3

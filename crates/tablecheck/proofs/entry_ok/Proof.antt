@@ -1,5 +1,7 @@
-use Prim.Native.Nat.{zero-le}
-use mathlib.Core.Path.{refl}
+use Prim.Native.Nat.{ℕ, zero-le}
+use mathlib.Core.Path.{refl, _∙_, ap, ap₂}
+use mathlib.Core.Bool.{_&&_}
+use lib.Dec.{ltb}
 use denote.Ref.{now}
 use Rattle.tables.specs.Entries.{entryOf}
 use Rattle.tables.specs.WellFormed.{entryOk, endOk, itemsOk}
@@ -104,7 +106,7 @@ returns c = case-is (entryBy (now (c .before .before .before .before .before .ar
 
 returns-2 : tie.Need-returns-2
 unfolding entryOf entryOk
-returns-2 c = case-is (entryBy (now (c .before .before .before .before .before .before .before .args .cells)) (c .before .before .before .before .before .before .before .args .e) (c .before .before .before .before .before .form-first .result) (c .before .before .before .before .form-second .result)) (c .before .before .before .form-code .result) (entry-by (now (c .before .before .before .before .before .before .before .args .cells)) (c .before .before .before .before .before .before .before .args .e) (c .before .before .before .before .before .form-first .result) (c .before .before .before .before .form-second .result) (c .before .before .before .form-code .result) (c .before .before .before .before .before .form-first .ensures) (c .before .before .before .before .form-second .ensures) (c .before .before .before .form-code .ensures)) 1 (c .before .before .match .keys2) (cc)
+returns-2 c = case-is (entryBy (now (c .before .before .before .before .before .before .before .args .cells)) (c .before .before .before .before .before .before .before .args .e) (c .before .before .before .before .before .form-first .result) (c .before .before .before .before .form-second .result)) (c .before .before .before .form-code .result) (entry-by (now (c .before .before .before .before .before .before .before .args .cells)) (c .before .before .before .before .before .before .before .args .e) (c .before .before .before .before .before .form-first .result) (c .before .before .before .before .form-second .result) (c .before .before .before .form-code .result) (c .before .before .before .before .before .form-first .ensures) (c .before .before .before .before .form-second .ensures) (c .before .before .before .form-code .ensures)) 1 (c .before .before .match .keys2) (c .below .ensures ∙ ap (ltb _) (c .before .node-count .ensures))
 
 returns-3 : tie.Need-returns-3
 unfolding entryOf entryOk
@@ -120,11 +122,11 @@ returns-5 c = case-is (entryBy (now (c .before .before .before .before .before .
 
 returns-6 : tie.Need-returns-6
 unfolding entryOf entryOk
-returns-6 c = case-is (entryBy (now (c .before .before .before .before .before .before .before .args .cells)) (c .before .before .before .before .before .before .before .args .e) (c .before .before .before .before .before .form-first .result) (c .before .before .before .before .form-second .result)) (c .before .before .before .form-code .result) (entry-by (now (c .before .before .before .before .before .before .before .args .cells)) (c .before .before .before .before .before .before .before .args .e) (c .before .before .before .before .before .form-first .result) (c .before .before .before .before .form-second .result) (c .before .before .before .form-code .result) (c .before .before .before .before .before .form-first .ensures) (c .before .before .before .before .form-second .ensures) (c .before .before .before .form-code .ensures)) 7 (c .before .before .match .keys6) (cc)
+returns-6 c = case-is (entryBy (now (c .before .before .before .before .before .before .before .args .cells)) (c .before .before .before .before .before .before .before .args .e) (c .before .before .before .before .before .form-first .result) (c .before .before .before .before .form-second .result)) (c .before .before .before .form-code .result) (entry-by (now (c .before .before .before .before .before .before .before .args .cells)) (c .before .before .before .before .before .before .before .args .e) (c .before .before .before .before .before .form-first .result) (c .before .before .before .before .form-second .result) (c .before .before .before .form-code .result) (c .before .before .before .before .before .form-first .ensures) (c .before .before .before .before .form-second .ensures) (c .before .before .before .form-code .ensures)) 7 (c .before .before .match .keys6) (c .below3 .ensures ∙ ap (ltb _) (c .before .type-count .ensures))
 
 returns-7 : tie.Need-returns-7
 unfolding entryOf entryOk
-returns-7 c = case-is (entryBy (now (c .before .before .before .before .before .before .before .args .cells)) (c .before .before .before .before .before .before .before .args .e) (c .before .before .before .before .before .form-first .result) (c .before .before .before .before .form-second .result)) (c .before .before .before .form-code .result) (entry-by (now (c .before .before .before .before .before .before .before .args .cells)) (c .before .before .before .before .before .before .before .args .e) (c .before .before .before .before .before .form-first .result) (c .before .before .before .before .form-second .result) (c .before .before .before .form-code .result) (c .before .before .before .before .before .form-first .ensures) (c .before .before .before .before .form-second .ensures) (c .before .before .before .form-code .ensures)) 8 (c .before .before .match .keys7) (cc)
+returns-7 c = case-is (entryBy (now (c .before .before .before .before .before .before .before .args .cells)) (c .before .before .before .before .before .before .before .args .e) (c .before .before .before .before .before .form-first .result) (c .before .before .before .before .form-second .result)) (c .before .before .before .form-code .result) (entry-by (now (c .before .before .before .before .before .before .before .args .cells)) (c .before .before .before .before .before .before .before .args .e) (c .before .before .before .before .before .form-first .result) (c .before .before .before .before .form-second .result) (c .before .before .before .form-code .result) (c .before .before .before .before .before .form-first .ensures) (c .before .before .before .before .form-second .ensures) (c .before .before .before .form-code .ensures)) 8 (c .before .before .match .keys7) (c .items-ok .ensures ∙ ap (λ (n : ℕ). itemsOk (now (c .before .before .before .before .before .before .before .args .cells)) n (c .before .before .before .before .before .form-first .result) (c .before .before .before .before .form-second .result)) (c .before .lang-count .ensures))
 
 returns-8 : tie.Need-returns-8
 unfolding entryOf entryOk
@@ -132,19 +134,19 @@ returns-8 c = case-is (entryBy (now (c .before .before .before .before .before .
 
 returns-9 : tie.Need-returns-9
 unfolding entryOf entryOk
-returns-9 c = case-is (entryBy (now (c .before .before .before .before .before .before .before .before .args .cells)) (c .before .before .before .before .before .before .before .before .args .e) (c .before .before .before .before .before .before .form-first .result) (c .before .before .before .before .before .form-second .result)) (c .before .before .before .before .form-code .result) (entry-by (now (c .before .before .before .before .before .before .before .before .args .cells)) (c .before .before .before .before .before .before .before .before .args .e) (c .before .before .before .before .before .before .form-first .result) (c .before .before .before .before .before .form-second .result) (c .before .before .before .before .form-code .result) (c .before .before .before .before .before .before .form-first .ensures) (c .before .before .before .before .before .form-second .ensures) (c .before .before .before .before .form-code .ensures)) 14 (c .before .before .before .match .keys9) (cc)
+returns-9 c = case-is (entryBy (now (c .before .before .before .before .before .before .before .before .args .cells)) (c .before .before .before .before .before .before .before .before .args .e) (c .before .before .before .before .before .before .form-first .result) (c .before .before .before .before .before .form-second .result)) (c .before .before .before .before .form-code .result) (entry-by (now (c .before .before .before .before .before .before .before .before .args .cells)) (c .before .before .before .before .before .before .before .before .args .e) (c .before .before .before .before .before .before .form-first .result) (c .before .before .before .before .before .form-second .result) (c .before .before .before .before .form-code .result) (c .before .before .before .before .before .before .form-first .ensures) (c .before .before .before .before .before .form-second .ensures) (c .before .before .before .before .form-code .ensures)) 14 (c .before .before .before .match .keys9) (ap₂ _&&_ (c .before .below4 .ensures ∙ ap (ltb _) (c .before .before .path-count .ensures)) (c .below5 .ensures))
 
 returns-10 : tie.Need-returns-10
 unfolding entryOf entryOk
-returns-10 c = case-is (entryBy (now (c .before .before .before .before .before .before .before .args .cells)) (c .before .before .before .before .before .before .before .args .e) (c .before .before .before .before .before .form-first .result) (c .before .before .before .before .form-second .result)) (c .before .before .before .form-code .result) (entry-by (now (c .before .before .before .before .before .before .before .args .cells)) (c .before .before .before .before .before .before .before .args .e) (c .before .before .before .before .before .form-first .result) (c .before .before .before .before .form-second .result) (c .before .before .before .form-code .result) (c .before .before .before .before .before .form-first .ensures) (c .before .before .before .before .form-second .ensures) (c .before .before .before .form-code .ensures)) 17 (c .before .before .match .keys10) (cc)
+returns-10 c = case-is (entryBy (now (c .before .before .before .before .before .before .before .args .cells)) (c .before .before .before .before .before .before .before .args .e) (c .before .before .before .before .before .form-first .result) (c .before .before .before .before .form-second .result)) (c .before .before .before .form-code .result) (entry-by (now (c .before .before .before .before .before .before .before .args .cells)) (c .before .before .before .before .before .before .before .args .e) (c .before .before .before .before .before .form-first .result) (c .before .before .before .before .form-second .result) (c .before .before .before .form-code .result) (c .before .before .before .before .before .form-first .ensures) (c .before .before .before .before .form-second .ensures) (c .before .before .before .form-code .ensures)) 17 (c .before .before .match .keys10) (c .items-ok2 .ensures ∙ ap (λ (n : ℕ). itemsOk (now (c .before .before .before .before .before .before .before .args .cells)) n (c .before .before .before .before .before .form-first .result) (c .before .before .before .before .form-second .result)) (c .before .link-count .ensures))
 
 returns-11 : tie.Need-returns-11
 unfolding entryOf entryOk
-returns-11 c = case-is (entryBy (now (c .before .before .before .before .before .before .before .args .cells)) (c .before .before .before .before .before .before .before .args .e) (c .before .before .before .before .before .form-first .result) (c .before .before .before .before .form-second .result)) (c .before .before .before .form-code .result) (entry-by (now (c .before .before .before .before .before .before .before .args .cells)) (c .before .before .before .before .before .before .before .args .e) (c .before .before .before .before .before .form-first .result) (c .before .before .before .before .form-second .result) (c .before .before .before .form-code .result) (c .before .before .before .before .before .form-first .ensures) (c .before .before .before .before .form-second .ensures) (c .before .before .before .form-code .ensures)) 20 (c .before .before .match .keys11) (cc)
+returns-11 c = case-is (entryBy (now (c .before .before .before .before .before .before .before .args .cells)) (c .before .before .before .before .before .before .before .args .e) (c .before .before .before .before .before .form-first .result) (c .before .before .before .before .form-second .result)) (c .before .before .before .form-code .result) (entry-by (now (c .before .before .before .before .before .before .before .args .cells)) (c .before .before .before .before .before .before .before .args .e) (c .before .before .before .before .before .form-first .result) (c .before .before .before .before .form-second .result) (c .before .before .before .form-code .result) (c .before .before .before .before .before .form-first .ensures) (c .before .before .before .before .form-second .ensures) (c .before .before .before .form-code .ensures)) 20 (c .before .before .match .keys11) (c .below6 .ensures ∙ ap (ltb _) (c .before .path-count2 .ensures))
 
 returns-12 : tie.Need-returns-12
 unfolding entryOf entryOk
-returns-12 c = case-in (entryBy (now (c .before .before .before .before .before .before .before .before .args .cells)) (c .before .before .before .before .before .before .before .before .args .e) (c .before .before .before .before .before .before .form-first .result) (c .before .before .before .before .before .form-second .result)) (c .before .before .before .before .form-code .result) (entry-by (now (c .before .before .before .before .before .before .before .before .args .cells)) (c .before .before .before .before .before .before .before .before .args .e) (c .before .before .before .before .before .before .form-first .result) (c .before .before .before .before .before .form-second .result) (c .before .before .before .before .form-code .result) (c .before .before .before .before .before .before .form-first .ensures) (c .before .before .before .before .before .form-second .ensures) (c .before .before .before .before .form-code .ensures)) 3 2 (next 2 (c .before .before .before .before .form-code .result) (next 1 (c .before .before .before .before .form-code .result) (next 0 (c .before .before .before .before .form-code .result) zero-le (c .before .before .before .match .rest .0 .0 .0 .0 .0 .0 .0 .0 .0 .0 .1)) (c .before .before .before .match .rest .0 .0 .0 .0 .0 .0 .0 .0 .0 .1)) (c .before .before .before .match .rest .0 .0 .0 .0 .0 .0 .0 .0 .1)) (c .before .before .if1 .taken) (cc, (cc, tt))
+returns-12 c = case-in (entryBy (now (c .before .before .before .before .before .before .before .before .args .cells)) (c .before .before .before .before .before .before .before .before .args .e) (c .before .before .before .before .before .before .form-first .result) (c .before .before .before .before .before .form-second .result)) (c .before .before .before .before .form-code .result) (entry-by (now (c .before .before .before .before .before .before .before .before .args .cells)) (c .before .before .before .before .before .before .before .before .args .e) (c .before .before .before .before .before .before .form-first .result) (c .before .before .before .before .before .form-second .result) (c .before .before .before .before .form-code .result) (c .before .before .before .before .before .before .form-first .ensures) (c .before .before .before .before .before .form-second .ensures) (c .before .before .before .before .form-code .ensures)) 3 2 (next 2 (c .before .before .before .before .form-code .result) (next 1 (c .before .before .before .before .form-code .result) (next 0 (c .before .before .before .before .form-code .result) zero-le (c .before .before .before .match .rest .0 .0 .0 .0 .0 .0 .0 .0 .0 .0 .1)) (c .before .before .before .match .rest .0 .0 .0 .0 .0 .0 .0 .0 .0 .1)) (c .before .before .before .match .rest .0 .0 .0 .0 .0 .0 .0 .0 .1)) (c .before .before .if1 .taken) (ap₂ _&&_ (c .before .below7 .ensures) (c .below8 .ensures), (ap₂ _&&_ (c .before .below7 .ensures) (c .below8 .ensures), tt))
 
 returns-13 : tie.Need-returns-13
 unfolding entryOf entryOk
@@ -152,11 +154,11 @@ returns-13 c = case-in (entryBy (now (c .before .before .before .before .before 
 
 returns-14 : tie.Need-returns-14
 unfolding entryOf entryOk
-returns-14 c = case-in (entryBy (now (c .before .before .before .before .before .before .before .before .before .before .before .args .cells)) (c .before .before .before .before .before .before .before .before .before .before .before .args .e) (c .before .before .before .before .before .before .before .before .before .form-first .result) (c .before .before .before .before .before .before .before .before .form-second .result)) (c .before .before .before .before .before .before .before .form-code .result) (entry-by (now (c .before .before .before .before .before .before .before .before .before .before .before .args .cells)) (c .before .before .before .before .before .before .before .before .before .before .before .args .e) (c .before .before .before .before .before .before .before .before .before .form-first .result) (c .before .before .before .before .before .before .before .before .form-second .result) (c .before .before .before .before .before .before .before .form-code .result) (c .before .before .before .before .before .before .before .before .before .form-first .ensures) (c .before .before .before .before .before .before .before .before .form-second .ensures) (c .before .before .before .before .before .before .before .form-code .ensures)) 15 2 (next 14 (c .before .before .before .before .before .before .before .form-code .result) (next 13 (c .before .before .before .before .before .before .before .form-code .result) (c .before .before .before .before .if2 .left) (c .before .before .before .before .before .before .match .rest .0 .0 .0 .1)) (c .before .before .before .before .before .before .match .rest .0 .0 .1)) (c .before .before .before .if3 .taken) (cc, (cc, tt))
+returns-14 c = case-in (entryBy (now (c .before .before .before .before .before .before .before .before .before .before .before .args .cells)) (c .before .before .before .before .before .before .before .before .before .before .before .args .e) (c .before .before .before .before .before .before .before .before .before .form-first .result) (c .before .before .before .before .before .before .before .before .form-second .result)) (c .before .before .before .before .before .before .before .form-code .result) (entry-by (now (c .before .before .before .before .before .before .before .before .before .before .before .args .cells)) (c .before .before .before .before .before .before .before .before .before .before .before .args .e) (c .before .before .before .before .before .before .before .before .before .form-first .result) (c .before .before .before .before .before .before .before .before .form-second .result) (c .before .before .before .before .before .before .before .form-code .result) (c .before .before .before .before .before .before .before .before .before .form-first .ensures) (c .before .before .before .before .before .before .before .before .form-second .ensures) (c .before .before .before .before .before .before .before .form-code .ensures)) 15 2 (next 14 (c .before .before .before .before .before .before .before .form-code .result) (next 13 (c .before .before .before .before .before .before .before .form-code .result) (c .before .before .before .before .if2 .left) (c .before .before .before .before .before .before .match .rest .0 .0 .0 .1)) (c .before .before .before .before .before .before .match .rest .0 .0 .1)) (c .before .before .before .if3 .taken) (ap₂ _&&_ (c .before .before .end-ok .ensures) (c .below9 .ensures ∙ ap (ltb _) (c .before .link-count2 .ensures)), (ap₂ _&&_ (c .before .before .end-ok .ensures) (c .below9 .ensures ∙ ap (ltb _) (c .before .link-count2 .ensures)), tt))
 
 returns-15 : tie.Need-returns-15
 unfolding entryOf entryOk
-returns-15 c = case-in (entryBy (now (c .before .before .before .before .before .before .before .before .before .before .before .before .before .args .cells)) (c .before .before .before .before .before .before .before .before .before .before .before .before .before .args .e) (c .before .before .before .before .before .before .before .before .before .before .before .form-first .result) (c .before .before .before .before .before .before .before .before .before .before .form-second .result)) (c .before .before .before .before .before .before .before .before .before .form-code .result) (entry-by (now (c .before .before .before .before .before .before .before .before .before .before .before .before .before .args .cells)) (c .before .before .before .before .before .before .before .before .before .before .before .before .before .args .e) (c .before .before .before .before .before .before .before .before .before .before .before .form-first .result) (c .before .before .before .before .before .before .before .before .before .before .form-second .result) (c .before .before .before .before .before .before .before .before .before .form-code .result) (c .before .before .before .before .before .before .before .before .before .before .before .form-first .ensures) (c .before .before .before .before .before .before .before .before .before .before .form-second .ensures) (c .before .before .before .before .before .before .before .before .before .form-code .ensures)) 18 2 (next 17 (c .before .before .before .before .before .before .before .before .before .form-code .result) (c .before .before .before .before .before .if3 .left) (c .before .before .before .before .before .before .before .before .match .rest .0 .1)) (c .before .before .before .before .if4 .taken) (cc, (cc, tt))
+returns-15 c = case-in (entryBy (now (c .before .before .before .before .before .before .before .before .before .before .before .before .before .args .cells)) (c .before .before .before .before .before .before .before .before .before .before .before .before .before .args .e) (c .before .before .before .before .before .before .before .before .before .before .before .form-first .result) (c .before .before .before .before .before .before .before .before .before .before .form-second .result)) (c .before .before .before .before .before .before .before .before .before .form-code .result) (entry-by (now (c .before .before .before .before .before .before .before .before .before .before .before .before .before .args .cells)) (c .before .before .before .before .before .before .before .before .before .before .before .before .before .args .e) (c .before .before .before .before .before .before .before .before .before .before .before .form-first .result) (c .before .before .before .before .before .before .before .before .before .before .form-second .result) (c .before .before .before .before .before .before .before .before .before .form-code .result) (c .before .before .before .before .before .before .before .before .before .before .before .form-first .ensures) (c .before .before .before .before .before .before .before .before .before .before .form-second .ensures) (c .before .before .before .before .before .before .before .before .before .form-code .ensures)) 18 2 (next 17 (c .before .before .before .before .before .before .before .before .before .form-code .result) (c .before .before .before .before .before .if3 .left) (c .before .before .before .before .before .before .before .before .match .rest .0 .1)) (c .before .before .before .before .if4 .taken) (ap₂ _&&_ (c .before .before .below10 .ensures ∙ ap (ltb _) (c .before .before .before .path-count3 .ensures)) (c .below11 .ensures ∙ ap (ltb _) (c .before .link-count3 .ensures)), (ap₂ _&&_ (c .before .before .below10 .ensures ∙ ap (ltb _) (c .before .before .before .path-count3 .ensures)) (c .below11 .ensures ∙ ap (ltb _) (c .before .link-count3 .ensures)), tt))
 
 returns-16 : tie.Need-returns-16
 unfolding entryOf entryOk

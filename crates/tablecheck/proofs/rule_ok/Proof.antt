@@ -1,5 +1,7 @@
 use Prim.Native.Nat.{zero-le, _≤_, _<_}
 use mathlib.Core.Logic.{⊎-elim, inl, inr}
+use mathlib.Core.Path.{_∙_, ap₂}
+use lib.Dec.{ltb}
 use native.Mathlib.Omega.{arith}
 use denote.Ref.{now}
 use Rattle.tables.specs.Layout.{ruleShapeAt, shapeCount}
@@ -39,10 +41,10 @@ below-requires-2 : tie.Need-below-requires-2
 below-requires-2 c κs = search needs
 
 returns-2 : tie.Need-returns-2
-returns-2 c = ⊎-elim (λ e. case-is (ruleBy (now (c .before .before .before .before .before .before .before .before .before .before .args .cells)) (c .before .before .before .before .before .before .before .before .before .before .args .k)) (c .before .before .before .rule-target .result) (rule-by (now (c .before .before .before .before .before .before .before .before .before .before .args .cells)) (c .before .before .before .before .before .before .before .before .before .before .args .k) (c .before .before .before .rule-target .result) (let h : ruleShapeAt (now (c .before .before .before .before .before .before .before .before .before .before .args .cells)) (c .before .before .before .before .before .before .before .before .before .before .args .k) < shapeCount (now (c .before .before .before .before .before .before .before .before .before .before .args .cells)) = omega (arith, c .before .before .before .before .before .before .before .rule-shape .ensures, c .before .before .before .before .before .before .before .before .shape-count .ensures, c .before .before .before .before .before .before .if1 .left) in h) (c .before .before .before .rule-target .ensures)) 0 e (cc)) (λ e. case-is (ruleBy (now (c .before .before .before .before .before .before .before .before .before .before .args .cells)) (c .before .before .before .before .before .before .before .before .before .before .args .k)) (c .before .before .before .rule-target .result) (rule-by (now (c .before .before .before .before .before .before .before .before .before .before .args .cells)) (c .before .before .before .before .before .before .before .before .before .before .args .k) (c .before .before .before .rule-target .result) (let h : ruleShapeAt (now (c .before .before .before .before .before .before .before .before .before .before .args .cells)) (c .before .before .before .before .before .before .before .before .before .before .args .k) < shapeCount (now (c .before .before .before .before .before .before .before .before .before .before .args .cells)) = omega (arith, c .before .before .before .before .before .before .before .rule-shape .ensures, c .before .before .before .before .before .before .before .before .shape-count .ensures, c .before .before .before .before .before .before .if1 .left) in h) (c .before .before .before .rule-target .ensures)) 3 e (cc)) (c .before .before .match .keys1)
+returns-2 c = ⊎-elim (λ e. case-is (ruleBy (now (c .before .before .before .before .before .before .before .before .before .before .args .cells)) (c .before .before .before .before .before .before .before .before .before .before .args .k)) (c .before .before .before .rule-target .result) (rule-by (now (c .before .before .before .before .before .before .before .before .before .before .args .cells)) (c .before .before .before .before .before .before .before .before .before .before .args .k) (c .before .before .before .rule-target .result) (let h : ruleShapeAt (now (c .before .before .before .before .before .before .before .before .before .before .args .cells)) (c .before .before .before .before .before .before .before .before .before .before .args .k) < shapeCount (now (c .before .before .before .before .before .before .before .before .before .before .args .cells)) = omega (arith, c .before .before .before .before .before .before .before .rule-shape .ensures, c .before .before .before .before .before .before .before .before .shape-count .ensures, c .before .before .before .before .before .before .if1 .left) in h) (c .before .before .before .rule-target .ensures)) 0 e (c .below .ensures ∙ ap₂ ltb (c .before .before .before .before .before .rule-node .ensures) (c .before .node-count .ensures))) (λ e. case-is (ruleBy (now (c .before .before .before .before .before .before .before .before .before .before .args .cells)) (c .before .before .before .before .before .before .before .before .before .before .args .k)) (c .before .before .before .rule-target .result) (rule-by (now (c .before .before .before .before .before .before .before .before .before .before .args .cells)) (c .before .before .before .before .before .before .before .before .before .before .args .k) (c .before .before .before .rule-target .result) (let h : ruleShapeAt (now (c .before .before .before .before .before .before .before .before .before .before .args .cells)) (c .before .before .before .before .before .before .before .before .before .before .args .k) < shapeCount (now (c .before .before .before .before .before .before .before .before .before .before .args .cells)) = omega (arith, c .before .before .before .before .before .before .before .rule-shape .ensures, c .before .before .before .before .before .before .before .before .shape-count .ensures, c .before .before .before .before .before .before .if1 .left) in h) (c .before .before .before .rule-target .ensures)) 3 e (c .below .ensures ∙ ap₂ ltb (c .before .before .before .before .before .rule-node .ensures) (c .before .node-count .ensures))) (c .before .before .match .keys1)
 
 returns-3 : tie.Need-returns-3
-returns-3 c = case-in (ruleBy (now (c .before .before .before .before .before .before .before .before .before .before .before .args .cells)) (c .before .before .before .before .before .before .before .before .before .before .before .args .k)) (c .before .before .before .before .rule-target .result) (rule-by (now (c .before .before .before .before .before .before .before .before .before .before .before .args .cells)) (c .before .before .before .before .before .before .before .before .before .before .before .args .k) (c .before .before .before .before .rule-target .result) (let h : ruleShapeAt (now (c .before .before .before .before .before .before .before .before .before .before .before .args .cells)) (c .before .before .before .before .before .before .before .before .before .before .before .args .k) < shapeCount (now (c .before .before .before .before .before .before .before .before .before .before .before .args .cells)) = omega (arith, c .before .before .before .before .before .before .before .before .rule-shape .ensures, c .before .before .before .before .before .before .before .before .before .shape-count .ensures, c .before .before .before .before .before .before .before .if1 .left) in h) (c .before .before .before .before .rule-target .ensures)) 1 2 (next 0 (c .before .before .before .before .rule-target .result) zero-le (λ e. c .before .before .before .match .rest .1 (inl e))) (c .before .before .if2 .taken) (cc, (cc, tt))
+returns-3 c = case-in (ruleBy (now (c .before .before .before .before .before .before .before .before .before .before .before .args .cells)) (c .before .before .before .before .before .before .before .before .before .before .before .args .k)) (c .before .before .before .before .rule-target .result) (rule-by (now (c .before .before .before .before .before .before .before .before .before .before .before .args .cells)) (c .before .before .before .before .before .before .before .before .before .before .before .args .k) (c .before .before .before .before .rule-target .result) (let h : ruleShapeAt (now (c .before .before .before .before .before .before .before .before .before .before .before .args .cells)) (c .before .before .before .before .before .before .before .before .before .before .before .args .k) < shapeCount (now (c .before .before .before .before .before .before .before .before .before .before .before .args .cells)) = omega (arith, c .before .before .before .before .before .before .before .before .rule-shape .ensures, c .before .before .before .before .before .before .before .before .before .shape-count .ensures, c .before .before .before .before .before .before .before .if1 .left) in h) (c .before .before .before .before .rule-target .ensures)) 1 2 (next 0 (c .before .before .before .before .rule-target .result) zero-le (λ e. c .before .before .before .match .rest .1 (inl e))) (c .before .before .if2 .taken) ((c .below2 .ensures ∙ ap₂ ltb (c .before .before .before .before .before .rule-link .ensures) (c .before .link-count .ensures)), ((c .below2 .ensures ∙ ap₂ ltb (c .before .before .before .before .before .rule-link .ensures) (c .before .link-count .ensures)), tt))
 
 returns-4 : tie.Need-returns-4
 returns-4 c = case-past (ruleBy (now (c .before .before .before .before .before .before .before .before .before .args .cells)) (c .before .before .before .before .before .before .before .before .before .args .k)) (c .before .before .rule-target .result) (rule-by (now (c .before .before .before .before .before .before .before .before .before .args .cells)) (c .before .before .before .before .before .before .before .before .before .args .k) (c .before .before .rule-target .result) (let h : ruleShapeAt (now (c .before .before .before .before .before .before .before .before .before .args .cells)) (c .before .before .before .before .before .before .before .before .before .args .k) < shapeCount (now (c .before .before .before .before .before .before .before .before .before .args .cells)) = omega (arith, c .before .before .before .before .before .before .rule-shape .ensures, c .before .before .before .before .before .before .before .shape-count .ensures, c .before .before .before .before .before .if1 .left) in h) (c .before .before .rule-target .ensures)) 4 (next 3 (c .before .before .rule-target .result) (c .if2 .left) (λ e. c .before .match .rest .1 (inr e))) (λ j l. rule-unknown (now (c .before .before .before .before .before .before .before .before .before .args .cells)) (c .before .before .before .before .before .before .before .before .before .args .k) j l)
