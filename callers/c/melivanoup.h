@@ -4,7 +4,8 @@
  *   A slice is a pointer and a length in elements. The pointer is never NULL and is aligned, even where the length is 0.
  *   A slice that is shorter than its size below is refused (8). A longer one counts up to its size: past it nothing is read
  *   or written. What is written overlaps nothing else that is lent in the call. No content is wrong: buffers need no
- *   clearing, tables and plans may hold anything, and every call ends.
+ *   clearing, tables and plans may hold anything, and every call ends; but tables from elsewhere may use one path entry in two
+ *   others, and each that is so shared can double the time that following the path takes. No book's tables do.
  *   A number behind a pointer is written on every call, a refusal included; the pointer is never NULL.
  *
  * What comes back

@@ -56,3 +56,9 @@ or-swap true b c d = refl
 or-swap false true true d = refl
 or-swap false true false d = refl
 or-swap false false c d = refl
+
+-- what holds only where a does adds nothing to a
+pub or-known : (a b c : Bool) → (b ≡ true → a ≡ true) → (a || (b || c)) ≡ (a || c)
+or-known true b c h = refl
+or-known false true c h = absurd (true≢false (sym (h refl)))
+or-known false false c h = refl

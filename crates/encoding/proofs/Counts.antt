@@ -173,37 +173,3 @@ forms-counted b = count-at b 7 (omega arith) ∙ omega (arith, entries-size b)
 pub items-counted : (b : Book) → itemCount (encodeCells b) ≡ itemsIn b
 unfolding countsOf
 items-counted b = count-at b 8 (omega arith) ∙ omega (arith, entries-size b)
-
--- ---- each name of a node has its term, each name of a shape its shape
-same-lengths : {A B : Type 0} (f : Line → List A) (g : Line → List B) → ((l : Line) → length (f l) ≡ length (g l)) → (b : Book) → length (collect f b) ≡ length (collect g b)
-unfolding collect
-same-lengths f g h [] = refl
-same-lengths f g h (l ∷ b) = omega (arith, h l, same-lengths f g h b, length-append (f l) (collect f b), length-append (g l) (collect g b))
-
-term-named : (l : Line) → length (newTerms l) ≡ length (newNames nodes l)
-unfolding newTerms newNames joins
-term-named (link n) = refl
-term-named (type n) = refl
-term-named (lang n) = refl
-term-named (node n t) = refl
-term-named (fact t) = refl
-term-named (shape n φ) = refl
-term-named (rule r) = refl
-
-shape-named : (l : Line) → length (newShapes l) ≡ length (newNames shapes l)
-unfolding newShapes newNames joins
-shape-named (link n) = refl
-shape-named (type n) = refl
-shape-named (lang n) = refl
-shape-named (node n t) = refl
-shape-named (fact t) = refl
-shape-named (shape n φ) = refl
-shape-named (rule r) = refl
-
-pub terms-counted : (b : Book) → length (collect newTerms b) ≡ length (names nodes b)
-unfolding names builtIn
-terms-counted = same-lengths newTerms (newNames nodes) term-named
-
-pub shapes-counted : (b : Book) → length (collect newShapes b) ≡ length (names shapes b)
-unfolding names builtIn
-shapes-counted = same-lengths newShapes (newNames shapes) shape-named

@@ -17,8 +17,8 @@ use Rattle.tables.specs.Decode.{termOf, termAt, tripleAt, triplesAt, graphAt, t
 use Rattle.encoding.specs.Rows.{nodeRow, targetCode, targetOperand}
 use Rattle.encoding.specs.Encode.{cellColumns, valueColumns, contentOf, encodeCells, encodeValues}
 use Rattle.encoding.proofs.Places.{below-or, at-column, values-is}
-use Rattle.model.proofs.Lines.{facts-within, rules-within, names-within}
-use Rattle.encoding.proofs.Counts.{names-counted, facts-counted, rules-counted, terms-counted}
+use Rattle.model.proofs.Lines.{facts-within, rules-within, names-within, terms-counted}
+use Rattle.encoding.proofs.Counts.{names-counted, facts-counted, rules-counted}
 
 -- ---- a row read back is what it was made of
 pub term-back : (t : Term) → termOf (nodeRow t .kind) (nodeRow t .type) (nodeRow t .lang) (nodeRow t .value) ≡ t

@@ -19,8 +19,8 @@ use Rattle.encoding.specs.Flatten.{last, Entries, addShape, addShapes, r
 use Rattle.encoding.specs.Encode.{cellColumns, valueColumns, entriesOf, contentOf, encodeCells, encodeValues}
 use Rattle.base.proofs.Lists.{Extends}
 use Rattle.encoding.proofs.Places.{Gives, gives-front, gives-end, by-number-none, by-number-snoc, at-column, at-items, values-is}
-use Rattle.model.proofs.Lines.{shape-by-shape, names-within, forms-within, paths-within, items-within}
-use Rattle.encoding.proofs.Counts.{shapes-size, entries-size, names-counted, paths-counted, items-counted, shapes-counted}
+use Rattle.model.proofs.Lines.{shape-by-shape, names-within, forms-within, paths-within, items-within, shapes-counted}
+use Rattle.encoding.proofs.Counts.{shapes-size, entries-size, names-counted, paths-counted, items-counted}
 use Rattle.encoding.proofs.Paths.{path-back}
 use Rattle.encoding.proofs.Shapes.{form-back, form-last, grows-shape, Held, held-before, Low, shape-read}
 

@@ -26,13 +26,13 @@ use Rattle.tables.specs.Layout.{noNumber, nodeCount, linkCount, typeCount, lang
 use Rattle.tables.specs.Entries.{PathEntry, Entry, entryOf}
 use Rattle.tables.specs.Entries as E
 use Rattle.tables.specs.Decode.{tripleAt, pathEntryAt, entryAt}
-use Rattle.tables.specs.WellFormed.{countsOk, nodeOk, factOk, pathEntryOk, itemsOk, upperOk, endOk, entryOk, ruleOk, wellFormed}
+use Rattle.tables.specs.WellFormed.{countsOk, nodeOk, factOk, pathEntryOk, itemOk, itemsOk, upperOk, endOk, entryOk, ruleOk, wellFormed}
 use Rattle.encoding.specs.Rows.{nodeRow, targetCode, targetOperand, plainRow, valueRow, formRow}
 use Rattle.encoding.specs.Flatten.{last, addPath, Entries, addForm, withPath, withItems, withEnd, endNumber, kindCode, upperNumber, addTest, addShape, addShapes, noEntries}
 use Rattle.encoding.specs.Encode.{entriesOf, encodeCells, encodeValues}
 use Rattle.encoding.proofs.Places.{gives-back, Each, by-number-none, by-number-snoc, extends-length}
-use Rattle.model.proofs.Lines.{defined-more, all-right, names-before, facts-within, rules-within, names-within, forms-within, paths-within, items-within}
-use Rattle.encoding.proofs.Counts.{path-size, entries-size, names-counted, facts-counted, rules-counted, paths-counted, forms-counted, items-counted, terms-counted, shapes-counted}
+use Rattle.model.proofs.Lines.{defined-more, all-right, names-before, facts-within, rules-within, names-within, forms-within, paths-within, items-within, terms-counted, shapes-counted}
+use Rattle.encoding.proofs.Counts.{path-size, entries-size, names-counted, facts-counted, rules-counted, paths-counted, forms-counted, items-counted}
 use Rattle.encoding.proofs.Graph.{kind-at, type-at, lang-at, triple-at, rule-shape-at, rule-target-at, rule-operand-at}
 use Rattle.encoding.proofs.Paths.{path-last}
 use Rattle.encoding.proofs.Shapes.{form-last, Grows, grows-refl, grows-form, grows-shape, Held, held-before, Low, low-shape}
@@ -189,11 +189,11 @@ module _ (cs : List ℕ) where
       unfolding itemsOk
       items-ok p xs es d h =
           let i = length (es .items) in
-          let n = length xs in
           let bound = getD cs (poolNumber p) 0 in
-          and-both _ _
-          (le-leb (i + n) (itemCount cs) (omega (arith, h .itemsFit, length-append (es .items) xs)))
-          (every-all (λ k. ltb (itemAt cs (i + k)) bound) n (λ k l. ap (λ (x : ℕ). ltb x bound) (gives-back (itemAt cs) (es .items) xs (h .items) k 0 l) ∙ below-count p (getD xs k 0) (allb-at (defined a p) xs 0 d k l)))
+          every-all (λ k. itemOk cs bound (i + k)) (length xs) (λ k l.
+          and-both (ltb (i + k) (itemCount cs)) (ltb (itemAt cs (i + k)) bound)
+          (lt-ltb (i + k) (itemCount cs) (omega (arith, l, h .itemsFit, length-append (es .items) xs)))
+          (ap (λ (x : ℕ). ltb x bound) (gives-back (itemAt cs) (es .items) xs (h .items) k 0 l) ∙ below-count p (getD xs k 0) (allb-at (defined a p) xs 0 d k l)))
 
       path-ok : (e : Path) (es : List PathEntry) → pathOk a e ≡ true → Each (pathEntryOk cs) es → Each (pathEntryOk cs) (addPath e es)
       unfolding addPath pathOk pathEntryOk

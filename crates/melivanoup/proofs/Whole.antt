@@ -11,6 +11,7 @@ use Rattle.model.specs.Refusals.{codeOf, lineOf}
 use Rattle.model.proofs.Refusals.{code-range}
 use Rattle.validation.specs.declared.Validated.{Validated}
 use Rattle.validation.specs.declared.Validated.the-variants.{Steps, Refused}
+use Rattle.validation.specs.Lent.{Lent}
 use Rattle.validation.specs.Claim.{Said, steps, refusal, saidOf, Demand3}
 use Rattle.melivanoup.specs.Numbers.{saidBy}
 
@@ -22,9 +23,9 @@ refusal-by : (r : Refusal) (k line n : ℕ) → k ≡ codeOf r → line ≡ line
 refusal-by r k line n e f =
     sym (ap (λ (t : Bool). cond t (steps n) (refusal (codeOf r) (lineOf r))) (ne-eqb (codeOf r) 0 (not-zero r))) ∙ sym (ap₂ (λ i j. saidBy i j n) e f)
 
-module _ (s plan lists lengths : List ℕ) (x : Validated) (d : Demand3 s (saidOf x) plan lists lengths) where
-  pub by-steps : (n : ℕ) → x ≡ Steps n → Demand3 s (saidBy 0 0 n) plan lists lengths
-  by-steps n e = subst (λ (y : Said). Demand3 s y plan lists lengths) (ap saidOf e) d
+module _ (s : List ℕ) (before after : Lent) (x : Validated) (d : Demand3 s before (saidOf x) after) where
+  pub by-steps : (n : ℕ) → x ≡ Steps n → Demand3 s before (saidBy 0 0 n) after
+  by-steps n e = subst (λ (y : Said). Demand3 s before y after) (ap saidOf e) d
 
-  pub by-refusal : (r : Refusal) (k line : ℕ) → x ≡ Refused r → k ≡ codeOf r → line ≡ lineOf r → Demand3 s (saidBy k line 0) plan lists lengths
-  by-refusal r k line e f g = subst (λ (y : Said). Demand3 s y plan lists lengths) (ap saidOf e ∙ refusal-by r k line 0 f g) d
+  pub by-refusal : (r : Refusal) (k line : ℕ) → x ≡ Refused r → k ≡ codeOf r → line ≡ lineOf r → Demand3 s before (saidBy k line 0) after
+  by-refusal r k line e f g = subst (λ (y : Said). Demand3 s before y after) (ap saidOf e ∙ refusal-by r k line 0 f g) d

@@ -27,7 +27,8 @@ ghost use Rattle.compiler.specs.Answers.{compileAnswer, planAfter};
 ghost use Rattle.runner.specs.Run.{runSaid, workAfter};
 ghost use Rattle.lists.specs.Answers.{listSaid, rowAfter};
 ghost use Rattle.validation.specs.Claim.{Demand3};
-ghost use Rattle.validation.specs.Whole.{lent, said, after};
+ghost use Rattle.validation.specs.Lent.{lent};
+ghost use Rattle.validation.specs.Whole.{said, after};
 ghost use Rattle.report.specs.Answers.{partSaid, partAfter};
 ghost use Rattle.melivanoup.specs.Numbers.{verdictNumber, verdictConforms, runNumber, wholeNumber, wholeLine, wholeSteps, saidBy};
 
@@ -206,7 +207,7 @@ pub extern "C" fn melivanoup_validate(
     line: &mut usize,
     steps: &mut usize,
 ) -> u32
-    ensures { λ r. ⌜ Demand3 (now (book .entry)) (saidBy r (now (line .exit)) (now (steps .exit))) (now (plan .exit)) (now (lists .exit)) (now (lengths .exit)) ⌝ }
+    ensures { λ r. ⌜ Demand3 (now (book .entry)) (lent (now (names .entry)) (now (cells .entry)) (now (values .entry)) (now (plan .entry)) (now (work .entry)) (now (lists .entry)) (now (lengths .entry))) (saidBy r (now (line .exit)) (now (steps .exit))) (lent (now (names .exit)) (now (cells .exit)) (now (values .exit)) (now (plan .exit)) (now (work .exit)) (now (lists .exit)) (now (lengths .exit))) ⌝ }
     ensures { λ r. ⌜ r ≡ wholeNumber (said (now (book .entry)) (lent (now (names .entry)) (now (cells .entry)) (now (values .entry)) (now (plan .entry)) (now (work .entry)) (now (lists .entry)) (now (lengths .entry)))) ⌝ }
     ensures { λ _. ⌜ now (line .exit) ≡ wholeLine (said (now (book .entry)) (lent (now (names .entry)) (now (cells .entry)) (now (values .entry)) (now (plan .entry)) (now (work .entry)) (now (lists .entry)) (now (lengths .entry)))) ⌝ }
     ensures { λ _. ⌜ now (steps .exit) ≡ wholeSteps (said (now (book .entry)) (lent (now (names .entry)) (now (cells .entry)) (now (values .entry)) (now (plan .entry)) (now (work .entry)) (now (lists .entry)) (now (lengths .entry)))) ⌝ }

@@ -15,11 +15,11 @@ use Rattle.model.specs.Books.{newTerms, newTriples, newShapes, newNames,
 use Rattle.model.specs.Cases.{agree, bookB, bookC, starred, rows}
 
 pub starred-hold : agree bookB starred ≡ true
-unfolding some every one size anyb allb member valueOf datatypeOf languageOf holds hasTriple ends endsOf isKind satisfies within subset noneShared allPairs less lessEq sameLang conforms newTerms newTriples collect graphOf agree
+unfolding some every one size anyb allb member valueOf datatypeOf languageOf holds hasTriple ends endsOf isKind satisfies within subset noneShared allPairs less lessEq sameLang conforms expand newTerms newTriples newShapes collect graphOf schemaFrom schema agree
 starred-hold = refl
 
 pub rows-hold : agree bookC rows ≡ true
-unfolding some every one size anyb allb member valueOf datatypeOf languageOf holds hasTriple ends endsOf isKind satisfies within subset noneShared allPairs less lessEq sameLang conforms newTerms newTriples collect graphOf agree
+unfolding some every one size anyb allb member valueOf datatypeOf languageOf holds hasTriple ends endsOf isKind satisfies within subset noneShared allPairs less lessEq sameLang conforms expand newTerms newTriples newShapes collect graphOf schemaFrom schema agree
 rows-hold = refl
 
 -- book B's rule lists `left`, its node 0

@@ -3,3 +3,5 @@ pub mod Traps
 pub mod Logic
 pub mod Refusals
 pub mod Lines
+pub mod Expansion
+pub mod Sets

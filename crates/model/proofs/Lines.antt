@@ -13,7 +13,7 @@ use Rattle.base.proofs.Bools.{bool-cases, and-left, and-right, and-both}
 use Rattle.base.proofs.Lists.{allb-append, allb-weaker, Extends}
 use Rattle.model.specs.Limits.{maxRules, maxFacts, maxForms, maxPaths, maxItems}
 use Rattle.model.specs.Shapes.{Shape}
-use Rattle.model.specs.Books.{Book, Line, link, type, lang, node, fact, shape, rule, Name, Pool, nodes, links, types, langs, shapes, poolNumber, builtIn, joins, newNames, newTriples, newShapes, newRules, collect, names, rules}
+use Rattle.model.specs.Books.{Book, Line, link, type, lang, node, fact, shape, rule, Name, Pool, nodes, links, types, langs, shapes, poolNumber, builtIn, joins, newNames, newTerms, newTriples, newShapes, newRules, collect, names, rules}
 use Rattle.model.specs.Sizes.{formEntries, shapePaths, listItems, sumOver, formsIn, pathsIn, itemsIn}
 use Rattle.model.specs.Valid.{capacity, defined, hasRoom, factOk, shapeOk, targetOk, entriesFit, lineOk, admissibleFrom, admissible}
 
@@ -31,6 +31,11 @@ pub names-snoc : (p : Pool) (a : Book) (l : Line) → names p (a ++ (l ∷ [])) 
 unfolding names
 names-snoc p a l = ap (λ (r : List Name). builtIn p ++ r) (collect-snoc (newNames p) a l) ∙ sym (append-assoc (builtIn p) (collect (newNames p) a) (newNames p l))
 
+-- a line that adds nothing
+pub collect-none : {A : Type 0} (f : Line → List A) (l : Line) → f l ≡ [] → (a c : Book) → collect f (a ++ (l ∷ c)) ≡ collect f (a ++ c)
+unfolding collect
+collect-none {A} f l e a c = collect-append f a (l ∷ c) ∙ ap (λ (x : List A). collect f a ++ (x ++ collect f c)) e ∙ sym (collect-append f a c)
+
 -- the lines above have no more names than the book
 pub names-before : (p : Pool) (a b : Book) → Extends a b → length (names p a) ≤ length (names p b)
 unfolding names
@@ -40,6 +45,40 @@ names-before p a b (c, e) = omega (arith, ap (λ (x : Book). length (names p x))
 pub defined-more : (a : Book) (l : Line) (p : Pool) (k : ℕ) → defined a p k ≡ true → defined (a ++ (l ∷ [])) p k ≡ true
 unfolding defined
 defined-more a l p k e = lt-ltb k (length (names p (a ++ (l ∷ [])))) (omega (arith, ltb-true k (length (names p a)) e, ap length (names-snoc p a l), length-append (names p a) (newNames p l)))
+
+-- ---- each name of a node has its term, each name of a shape its shape
+same-lengths : {A B : Type 0} (f : Line → List A) (g : Line → List B) → ((l : Line) → length (f l) ≡ length (g l)) → (b : Book) → length (collect f b) ≡ length (collect g b)
+unfolding collect
+same-lengths f g h [] = refl
+same-lengths f g h (l ∷ b) = omega (arith, h l, same-lengths f g h b, length-append (f l) (collect f b), length-append (g l) (collect g b))
+
+term-named : (l : Line) → length (newTerms l) ≡ length (newNames nodes l)
+unfolding newTerms newNames joins
+term-named (link n) = refl
+term-named (type n) = refl
+term-named (lang n) = refl
+term-named (node n t) = refl
+term-named (fact t) = refl
+term-named (shape n φ) = refl
+term-named (rule r) = refl
+
+shape-named : (l : Line) → length (newShapes l) ≡ length (newNames shapes l)
+unfolding newShapes newNames joins
+shape-named (link n) = refl
+shape-named (type n) = refl
+shape-named (lang n) = refl
+shape-named (node n t) = refl
+shape-named (fact t) = refl
+shape-named (shape n φ) = refl
+shape-named (rule r) = refl
+
+pub terms-counted : (b : Book) → length (collect newTerms b) ≡ length (names nodes b)
+unfolding names builtIn
+terms-counted = same-lengths newTerms (newNames nodes) term-named
+
+pub shapes-counted : (b : Book) → length (collect newShapes b) ≡ length (names shapes b)
+unfolding names builtIn
+shapes-counted = same-lengths newShapes (newNames shapes) shape-named
 
 -- ---- induction over the lines of an admissible book, each with the lines above it
 module _ (P : Book → Type 0) (start : P []) (b : Book) (step : (a : Book) (l : Line) → Extends a b → P a → lineOk a l ≡ true → P (a ++ (l ∷ []))) where

@@ -6,9 +6,9 @@ use lib.IntN.{pos, negsuc}
 use Rattle.base.specs.Bytes.{bytes}
 use Rattle.model.specs.Graph.{iri, blankNode, numeric, plain, tagged, Triple}
 use Rattle.model.specs.Paths.{Path, predicate, inverse, sequence, alternative, self, along}
-use Rattle.model.specs.Shapes.{Shape, top, hasShape, hasValue, conj, disj, neg, test, count, forAll, equals, disjoint, closed, lessThan, lessThanEq, uniqueLang, nodeKind, datatype, languageIn, minInclusive, minExclusive, maxInclusive, maxExclusive, anIri, aBlank, aLiteral, atMost, unbounded, conforms}
+use Rattle.model.specs.Shapes.{Shape, top, hasShape, hasValue, conj, disj, neg, test, count, forAll, equals, disjoint, closed, lessThan, lessThanEq, uniqueLang, nodeKind, datatype, languageIn, minInclusive, minExclusive, maxInclusive, maxExclusive, anIri, aBlank, aLiteral, atMost, unbounded, conforms, expand}
 use Rattle.model.specs.Rules.{subjectsOf}
-use Rattle.model.specs.Books.{Book, link, type, lang, node, fact, shape, rule, graphOf}
+use Rattle.model.specs.Books.{Book, link, type, lang, node, fact, shape, rule, graphOf, schema}
 
 -- ---- book B of document 01. Its nodes: 0 left, 1 right, 2 h240, 3 h215
 abbrev pub mount : Path
@@ -36,13 +36,13 @@ bookB =
     ∷ rule (record { shape = 0; target = subjectsOf 2 })
     ∷ []
 
--- a shape, a node, and whether it conforms
+-- a shape, a node, and whether it conforms. 01: a FORM of a line below the book, which may name the shapes of the book
 pub data Case : Type 0 where
   case : Shape → ℕ → Bool → Case
 
 unfoldable pub agree : Book → List Case → Bool
 agree b [] = true
-agree b (case φ v answer ∷ cs) = Bool·beq (conforms (graphOf b) φ v) answer && agree b cs
+agree b (case φ v answer ∷ cs) = Bool·beq (conforms (graphOf b) (expand (schema b) φ) v) answer && agree b cs
 
 -- the cases that document 01 marks with a star
 abbrev pub starred : List Case
@@ -61,8 +61,8 @@ starred =
     ∷ case (closed (1 ∷ [])) 0 false
     ∷ []
 
--- ---- a book with a language, a blank node and a repeated line.
--- Its nodes: 0 desk, 1 lamp, 2 hello, 3 salut, 4 hi, 5 spare, 6 low, 7 note
+-- ---- a book with a language, a blank node, a repeated line, and a shape that uses another.
+-- Its nodes: 0 desk, 1 lamp, 2 hello, 3 salut, 4 hi, 5 spare, 6 low, 7 note. Its shapes: 0 feeder, 1 idle, not a feeder
 abbrev pub bookC : Book
 bookC =
     link (bytes "label")
@@ -85,12 +85,17 @@ bookC =
     ∷ fact (record { subject = 0; predicate = 2; object = 1 })
     ∷ fact (record { subject = 0; predicate = 2; object = 1 })
     ∷ fact (record { subject = 5; predicate = 2; object = 6 })
+    ∷ shape (bytes "feeder") (count 1 unbounded (predicate 2) top)
+    ∷ shape (bytes "idle") (neg (hasShape 0))
     ∷ []
 
 -- each row of Table 1 that no starred case has, met and not met
 abbrev pub rows : List Case
 rows =
     case top 0 true
+    ∷ case (hasShape 0) 0 true
+    ∷ case (hasShape 0) 1 false
+    ∷ case (hasShape 1) 1 true
     ∷ case (hasValue 1) 1 true
     ∷ case (hasValue 1) 0 false
     ∷ case (conj top (hasValue 1)) 0 false
@@ -107,6 +112,7 @@ rows =
     ∷ case (test (languageIn (1 ∷ 0 ∷ []))) 4 true
     ∷ case (test (languageIn [])) 4 false
     ∷ case (test (minInclusive (negsuc 4))) 6 true
+    ∷ case (test (minInclusive (negsuc 3))) 6 false
     ∷ case (test (minExclusive (negsuc 4))) 6 false
     ∷ case (test (maxInclusive (negsuc 4))) 6 true
     ∷ case (test (maxExclusive (negsuc 4))) 6 false

@@ -4,6 +4,7 @@ use Prim.Native.Nat.{ℕ}
 use mathlib.Core.List.{List}
 use mathlib.Core.Option.{Option}
 use mathlib.Core.Bool.{Bool, true, false, _&&_}
+use mathlib.Core.Path.{_≡_}
 use lib.Dec.{eqb}
 use lib.IntN.{ℤ}
 use Rattle.base.specs.Lists.{anyb}
@@ -24,6 +25,7 @@ pub record Triple : Type 0 where
   pub object : ℕ
 
 -- how many nodes there are, the term of each by its number, and the triples; a repeated triple says nothing new
+-- (`conforms-set`, `violations-set`: proofs/Sets)
 pub record Graph : Type 0 where
   pub nodes : ℕ
   pub term : ℕ → Term
@@ -70,3 +72,15 @@ holds₂ r a b = holds (λ x. holds (r x) b) a
 
 unfoldable pub hasTriple : List Triple → ℕ → ℕ → ℕ → Bool
 hasTriple ts s p o = anyb (λ t. eqb (t .subject) s && (eqb (t .predicate) p && eqb (t .object) o)) ts
+
+-- The same triples as sets: each triple stands in both or in neither, wherever and however often.
+-- 01: facts are a set; a repeated line counts once
+abbrev pub SameTriples : List Triple → List Triple → Type 0
+SameTriples ts us = (s p o : ℕ) → hasTriple ts s p o ≡ hasTriple us s p o
+
+-- The same graph, but for the order of the triples and how often each stands there.
+-- 01: the same nodes, and the same facts as a set
+pub record SameGraph (g h : Graph) : Type 0 where
+  pub sameNodes : g .nodes ≡ h .nodes
+  pub sameTerms : (v : ℕ) → g .term v ≡ h .term v
+  pub sameTriples : SameTriples (g .triples) (h .triples)

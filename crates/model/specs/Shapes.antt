@@ -104,7 +104,9 @@ module _ (g : Graph) where
   abbrev pub starts : End → ℕ → ℕ → Bool
   starts f v w = endsOf (g .nodes) (g .triples) f v w
 
-  -- G, v ⊨ φ. A shape name stands for no definition here, which is ⊤: `expand`, below, puts definitions in its place.
+  -- G, v ⊨ φ. A shape name, 01's `(shape S)`, has no definition here, which source 000 reads as ⊤: `expand`, below, puts the
+  -- definition in its place. The schema of a book has no shape name left, so that the line of `hasShape` is never used for one
+  -- (`schema-nameless` and `names-unused`, proofs/Expansion), and `(shape S)` is met exactly when S is (`conforms-named`, there).
   unfoldable pub conforms : Shape → ℕ → Bool
   conforms top v = true
   conforms (hasShape s) v = true
@@ -143,3 +145,21 @@ expand H (closed ps) = closed ps
 expand H (lessThan e p) = lessThan e p
 expand H (lessThanEq e p) = lessThanEq e p
 expand H (uniqueLang e) = uniqueLang e
+
+-- no shape name stands in the shape; 01: no `(shape S)` in the form
+unfoldable pub nameless : Shape → Bool
+nameless top = true
+nameless (hasShape s) = false
+nameless (hasValue c) = true
+nameless (conj φ ψ) = nameless φ && nameless ψ
+nameless (disj φ ψ) = nameless φ && nameless ψ
+nameless (neg φ) = nameless φ
+nameless (test t) = true
+nameless (count lo hi e ψ) = nameless ψ
+nameless (forAll e ψ) = nameless ψ
+nameless (equals f p) = true
+nameless (disjoint f p) = true
+nameless (closed ps) = true
+nameless (lessThan e p) = true
+nameless (lessThanEq e p) = true
+nameless (uniqueLang e) = true

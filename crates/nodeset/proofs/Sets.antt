@@ -43,7 +43,7 @@ has-drop ws i m =
     ap (λ (y : ℕ). bit y (m % 64)) (getD-drop i ws (m / 64) 0) ∙ ap₂ (λ (a b : ℕ). bit (getD ws a 0) b) q r
 
 -- what the first k words have
-has-take : (ws : List ℕ) (k m : ℕ) → m < k * 64 → has (take k ws) m ≡ has ws m
+pub has-take : (ws : List ℕ) (k m : ℕ) → m < k * 64 → has (take k ws) m ≡ has ws m
 unfolding has
 has-take ws k m l = ap (λ (y : ℕ). bit y (m % 64)) (getD-take k ws (m / 64) 0 (let e : m / 64 < k = omega arith in e))
 

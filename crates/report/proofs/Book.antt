@@ -21,7 +21,7 @@ use Rattle.text.proofs.Pool.{padded-length}
 use Rattle.model.specs.Rules.{Rule, violates, violations, noRule}
 use Rattle.model.specs.Books.{Name, Book, nodes, names, rules, graphOf, schema, listOf}
 use Rattle.model.specs.Valid.{capacity, admissible}
-use Rattle.model.proofs.Lines.{names-within}
+use Rattle.model.proofs.Lines.{names-within, terms-counted}
 use Rattle.grammar.specs.Writing.{nameOf}
 use Rattle.grammar.specs.Valid.{valid}
 use Rattle.grammar.proofs.Books.{valid-admissible}
@@ -29,7 +29,7 @@ use Rattle.tables.specs.Layout.{cellCount, nodeCount, ruleCount}
 use Rattle.tables.specs.WellFormed.{wellFormed}
 use Rattle.encoding.specs.Encode.{encodeNames, encodeCells, poolBase}
 use Rattle.encoding.proofs.Places.{below-or}
-use Rattle.encoding.proofs.Counts.{cells-length, names-length, names-counted, facts-counted, rules-counted, terms-counted}
+use Rattle.encoding.proofs.Counts.{cells-length, names-length, names-counted, facts-counted, rules-counted}
 use Rattle.encoding.proofs.Names.{short, name-at, padded-at}
 use Rattle.encoding.proofs.WellFormed.{well-formed}
 use Rattle.stores.proofs.Prefixes.{prefix-valid}

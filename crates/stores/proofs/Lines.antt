@@ -17,12 +17,12 @@ use Rattle.model.specs.Shapes.{Shape}
 use Rattle.model.specs.Books.{Line, link, type, lang, node, fact, shape, rule, Book, nodes, shapes, collect, newTerms, newTriples, newShapes, newRules, names, rules}
 use Rattle.model.specs.Sizes.{formEntries, shapePaths, listItems, formsIn, pathsIn, itemsIn}
 use Rattle.model.specs.Valid.{capacity, defined, hasRoom, factOk, shapeOk, targetOk, entriesFit, lineOk}
-use Rattle.model.proofs.Lines.{collect-snoc}
+use Rattle.model.proofs.Lines.{collect-snoc, terms-counted, shapes-counted}
 use Rattle.tables.specs.Layout as Layout
 use Rattle.encoding.specs.Rows.{nodeRow, targetCode, targetOperand}
 use Rattle.encoding.specs.Flatten.{last, Entries, addShape, addShapes, rootsOf, noEntries}
 use Rattle.encoding.specs.Encode.{Content, cellColumns, valueColumns, entriesOf}
-use Rattle.encoding.proofs.Counts.{shape-size, entries-size, terms-counted, shapes-counted}
+use Rattle.encoding.proofs.Counts.{shape-size, entries-size}
 use Rattle.encoding.proofs.Schema.{entries-snoc, roots-snoc, roots-length}
 use Rattle.grammar.specs.Reading.{begunAbove}
 use Rattle.grammar.specs.Valid.{validLine}

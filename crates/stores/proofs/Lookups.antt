@@ -15,12 +15,11 @@ use Rattle.text.proofs.Places.{pool-length, find-pool}
 use Rattle.model.specs.Graph.{Term, iri, blankNode, numeric, plain, tagged}
 use Rattle.model.specs.Books.{Book, Pool, nodes, links, types, langs, shapes, collect, newTerms, names}
 use Rattle.model.specs.Valid.{capacity, isResource}
-use Rattle.model.proofs.Lines.{names-within}
+use Rattle.model.proofs.Lines.{names-within, terms-counted}
 use Rattle.tables.specs.Layout.{kindAt, nodeKinds}
 use Rattle.encoding.specs.Rows.{nodeRow}
 use Rattle.encoding.specs.Encode.{cellColumns, nameColumns, encodeNames, poolBase}
 use Rattle.encoding.proofs.Places.{slice-is, at-column}
-use Rattle.encoding.proofs.Counts.{terms-counted}
 use Rattle.stores.proofs.Columns.{column-inside}
 use Rattle.stores.proofs.Prefixes.{Prefix}
 use Rattle.stores.proofs.Entries.{cellTable}

@@ -15,7 +15,7 @@ ghost use Rattle.base.specs.Bounded.{every};
 ghost use Rattle.tables.specs.Layout.{rootAt, nodeCount, shapeCount, factCount, itemAt};
 ghost use Rattle.tables.specs.Decode.{pathEntryAt, entryAt};
 ghost use Rattle.tables.specs.Entries.{Entry};
-ghost use Rattle.tables.specs.WellFormed.{countsOk, nodeOk, factOk, pathEntryOk, itemsOk, endOk, entryOk, ruleOk, wellFormed};
+ghost use Rattle.tables.specs.WellFormed.{countsOk, nodeOk, factOk, pathEntryOk, itemOk, itemsOk, endOk, entryOk, ruleOk, wellFormed};
 ghost use Rattle.tablecheck.specs.Parts.{placeBelow, partCount, partOk};
 
 fn below(x: u16, n: usize) -> bool
@@ -113,17 +113,21 @@ fn path_ok(cells: &[u16], e: usize) -> bool
     }
 }
 
-// n items from number i on are there, each below a bound.
+// Item i is there, and is below a bound.
+fn item_ok(cells: &[u16], bound: usize, i: usize) -> bool
+    ensures { λ r. ⌜ r ≡ itemOk (now (cells .entry)) bound i ⌝ }
+{
+    (i < reads::item_count(cells)) & below(reads::item(cells, i), bound)
+}
+
+// n items from number i on.
 fn items_ok(cells: &[u16], bound: usize, i: u16, n: u16) -> bool
     ensures { λ r. ⌜ r ≡ itemsOk (now (cells .entry)) bound i n ⌝ }
 {
     let from = reads::wide(i);
     let count = reads::wide(n);
-    if reads::item_count(cells) < from + count {
-        return false;
-    }
     for k in 0..count {
-        if !below(reads::item(cells, from + k), bound) {
+        if !item_ok(cells, bound, from + k) {
             return false;
         }
     }

@@ -39,9 +39,13 @@ module _ (cs : List ℕ) where
   pathEntryOk e (alt a b) = ltb a e && ltb b e
   pathEntryOk e PathEntry.bad = false
 
-  -- n items from number i on, each below a bound
+  -- item i is there, and is below a bound
+  abbrev pub itemOk : ℕ → ℕ → Bool
+  itemOk bound i = ltb i (itemCount cs) && ltb (itemAt cs i) bound
+
+  -- n items from number i on; an empty list names no item, wherever it begins
   unfoldable pub itemsOk : ℕ → ℕ → ℕ → Bool
-  itemsOk bound i n = leb (i + n) (itemCount cs) && every (λ k. ltb (itemAt cs (i + k)) bound) n
+  itemsOk bound i n = every (λ k. itemOk bound (i + k)) n
 
   unfoldable pub upperOk : ℕ → Bool
   upperOk hi = leb hi maxCount || eqb hi noNumber

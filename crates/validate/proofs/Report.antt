@@ -14,7 +14,8 @@ use Rattle.grammar.specs.Writing.{render}
 use Rattle.grammar.specs.Valid.{valid}
 use Rattle.grammar.specs.Reading.{accepted, reading}
 use Rattle.grammar.proofs.Books.{reading-iff, valid-admissible}
-use Rattle.validation.specs.Whole.{Lent, long, left, after}
+use Rattle.validation.specs.Lent.{Lent, long}
+use Rattle.validation.specs.Whole.{left, after}
 use Rattle.validation.proofs.Books.{few-rules}
 use Rattle.validation.proofs.Whole.{Room, room}
 use Rattle.report.specs.Report.{report, joined}

@@ -1,7 +1,7 @@
 -- What the tables of a valid book say is what the book says: its lists, and how many steps its plan has.
 use Prim.Native.Nat.{ℕ, _+_, _*_, _<_, _≤_}
 use mathlib.Core.Path.{_≡_, refl, sym, ap, ap₂, subst, _∙_}
-use mathlib.Core.List.{List, _++_}
+use mathlib.Core.List.{List}
 use mathlib.Core.Bool.{Bool, true, _&&_}
 use native.Mathlib.Omega.{arith}
 use lib.Dec.{ltb}
@@ -22,12 +22,10 @@ use Rattle.encoding.proofs.Counts.{forms-counted, rules-counted}
 use Rattle.encoding.proofs.Graph.{graph-read, rule-at}
 use Rattle.encoding.proofs.Schema.{schema-read}
 use Rattle.encoding.proofs.WellFormed.{well-formed}
-use Rattle.plan.specs.Layout.{stepCount, planCount}
-use Rattle.translation.specs.Compile.{stepsOf, planOf}
-use Rattle.translation.proofs.Plans.{plan-few, plan-count}
-use Rattle.lists.specs.Rows.{row}
+use Rattle.translation.specs.Compile.{stepsOf}
+use Rattle.translation.proofs.Plans.{plan-few}
 use Rattle.tablerun.specs.Lists.{listAt}
-use Rattle.validation.specs.Claim.{ruleOf, breaks, Right}
+use Rattle.validation.specs.Claim.{ruleOf, breaks}
 
 module _ (b : Book) (ok : admissible b ≡ true) where
   -- the list of rule r
@@ -60,13 +58,3 @@ module _ (b : Book) (q : Rule) where
   pub listed-few : length (listOf b q) ≤ graphOf b .nodes
   unfolding listOf violations
   listed-few = subst (λ k. k ≤ graphOf b .nodes) (size-members (violates (graphOf b) (schema b) q) (graphOf b .nodes)) (size-le (violates (graphOf b) (schema b) q) (graphOf b .nodes))
-
--- ---- the claim for a book whose lists stand in their rows
-pub right : (b : Book) (plan lists lengths : List ℕ) (n : ℕ) → ((r : ℕ) → r < length (rules b) → row lists lengths r ≡ listOf b (ruleOf b r)) → stepCount plan ≡ n → n ≤ 4 * formsIn b + 2 * length (rules b) → Right b plan lists lengths n
-right b plan lists lengths n rows e l =
-    record {
-      exactly = λ r low v. ap (member v) (rows r low) ∙ listed-exactly b (ruleOf b r) v;
-      ordered = λ r low. ap ascending (rows r low) ∙ listed-ordered b (ruleOf b r);
-      counted = e;
-      few = l;
-    }

@@ -1,17 +1,20 @@
--- For who calls the operations one after the other: read, compile, run and list, on whatever buffers, give each rule's list.
+-- For who calls the operations one after the other: after read has accepted a book, compile, run and list, on whatever buffers,
+-- get no refusal but 8, and that exactly where a lent slice is too short; else the plan has at most four steps for each form entry
+-- and two for each rule, and each rule's list is what the book says.
 use Prim.Native.Nat.{ℕ, _+_, _*_, _<_, _≤_}
 use mathlib.Core.Path.{_≡_, refl, sym, ap, ap₂, subst, _∙_}
 use mathlib.Core.List.{List, _++_}
 use mathlib.Core.Option.{Option}
-use mathlib.Core.Bool.{Bool, true, _&&_}
+use mathlib.Core.Bool.{Bool, true, false, cond, _&&_}
 use native.Mathlib.Omega.{arith}
 use lib.Dec.{leb, ltb}
 use lib.IntN.{ℤ}
 use lib.ListN.{length, take, drop, length-append, length-drop}
-use borrow.Author.Tests.{le-leb, lt-ltb}
-use Rattle.base.proofs.Bools.{and-both}
+use borrow.Author.Tests.{leb-true, lt-ltb}
+use Rattle.base.proofs.Bools.{bool-cases, and-left, and-right, and-both}
 use Rattle.model.specs.Limits.{maxNodes}
 use Rattle.model.specs.Books.{Book, rules, listOf}
+use Rattle.model.specs.Sizes.{formsIn}
 use Rattle.tables.specs.Layout.{cellCount, valueCount, ruleCount}
 use Rattle.tables.specs.Sizes.{longEnough}
 use Rattle.tables.specs.WellFormed.{wellFormed}
@@ -30,14 +33,14 @@ use Rattle.plancheck.proofs.WellFormed as plans
 use Rattle.translation.proofs.Plans.{length-planOf}
 use Rattle.lists.specs.Rows.{over, listIn}
 use Rattle.lists.specs.Answers as lists
-use Rattle.lists.proofs.Answers.{done}
+use Rattle.lists.proofs.Answers.{short, done}
 use Rattle.tablerun.proofs.Answers as tablerun
 use Rattle.tablerun.proofs.Lists.{bare-well-formed, rule-nodes}
 use Rattle.validation.specs.Claim.{ruleOf}
-use Rattle.validation.proofs.Books.{list-read}
+use Rattle.validation.proofs.Books.{list-read, steps-few}
 use Rattle.validation.proofs.Tables.{fine, names′, cells′, values′, cells-read, values-read, still-long, well-formed-read}
 
-module _ (s ns cs : List ℕ) (vs : List ℤ) (e : longEnough ns cs vs ≡ true) (b : Book) (v : valid b ≡ true) (r : render b ≡ s) (ps ws row : List ℕ) (planRoom : planCount ≤ length ps) (workRoom : runs.workCount ≤ length ws) (rowRoom : maxNodes ≤ length row) where
+module _ (s ns cs : List ℕ) (vs : List ℤ) (e : longEnough ns cs vs ≡ true) (b : Book) (v : valid b ≡ true) (r : render b ≡ s) where
   -- names, cells and values as read left them
   abbrev n : List ℕ
   n = names′ s ns cs vs e b v r
@@ -48,60 +51,139 @@ module _ (s ns cs : List ℕ) (vs : List ℤ) (e : longEnough ns cs vs ≡ true)
   abbrev w : List ℤ
   w = values′ s ns cs vs e b v r
 
-  -- the plan as compile left it, and the work space as run left it
-  abbrev pub plan′ : List ℕ
-  plan′ = compiles.planAfter n c w ps
-
-  abbrev pub work′ : List ℕ
-  work′ = runs.workAfter n c w plan′ ws
-
   long′ : longEnough n c w ≡ true
   long′ = still-long s ns cs vs e b v r
 
   right′ : wellFormed (take cellCount c) ≡ true
   right′ = well-formed-read s ns cs vs e b v r
 
-  made : plan′ ≡ planOf (take cellCount c) ++ drop planCount ps
-  made = tablerun.plan-left n c w ps long′ right′ planRoom
+  abbrev cells : List ℕ
+  cells = encodeCells b
 
-  plan-is : take planCount plan′ ≡ planOf (encodeCells b)
-  plan-is = tablerun.plan-cells n c w ps long′ right′ planRoom plan′ ws made workRoom ∙ ap planOf (cells-read s ns cs vs e b v r)
+  -- ---- compile
+  pub few-steps : length (stepsOf cells) ≤ 4 * formsIn b + 2 * length (rules b)
+  few-steps = steps-few b (fine s ns cs vs e b v r)
 
-  filled : work′ ≡ runs.filled (encodeCells b) (encodeValues b) (planOf (encodeCells b)) ws
-  filled =
-      tablerun.work-left n c w ps long′ right′ planRoom plan′ ws made workRoom
-      ∙ ap₂ (λ k x. runs.filled k x (planOf k) ws) (cells-read s ns cs vs e b v r) (values-read s ns cs vs e b v r)
+  module _ (ps : List ℕ) where
+    -- the lent plan is long enough
+    abbrev planFits : Bool
+    planFits = leb planCount (length ps)
 
-  plan-long : planCount ≤ length plan′
-  plan-long = omega (arith, ap length made, length-append (planOf (take cellCount c)) (drop planCount ps), length-planOf (take cellCount c))
+    -- the plan as compile left it
+    abbrev pub plan′ : List ℕ
+    plan′ = compiles.planAfter n c w ps
 
-  work-long : runs.workCount ≤ length work′
-  work-long =
-      let steps = plans.sound (encodeCells b) (planOf (encodeCells b)) (bare-well-formed (encodeCells b) (well-formed b (fine s ns cs vs e b v r))) .steps in
-      omega (arith, workRoom, ap length filled, length-filled (encodeCells b) (encodeValues b) (planOf (encodeCells b)) ws (omega (arith, steps, workRoom)))
+    pub compiled-by-hand : compiles.compileAnswer n c w ps ≡ cond planFits (compiles.accepted (length (stepsOf cells))) (compiles.refused 8)
+    unfolding compiles.compileAnswer
+    compiled-by-hand = rw (long′, right′, cells-read s ns cs vs e b v r) refl
 
-  lent′ : lists.long n c w plan′ work′ row ≡ true
-  unfolding lists.long
-  lent′ =
-      and-both (longEnough n c w) (leb planCount (length plan′) && (leb runs.workCount (length work′) && leb maxNodes (length row))) long′
-      (and-both (leb planCount (length plan′)) (leb runs.workCount (length work′) && leb maxNodes (length row)) (le-leb planCount (length plan′) plan-long)
-      (and-both (leb runs.workCount (length work′)) (leb maxNodes (length row)) (le-leb runs.workCount (length work′) work-long) (le-leb maxNodes (length row) rowRoom)))
+    unchanged : planFits ≡ false → plan′ ≡ ps
+    unfolding compiles.planAfter
+    unchanged t = rw (long′, t) refl
 
-  both′ : (wellFormed (take cellCount c) && planWellFormed (take cellCount c) (take planCount plan′)) ≡ true
-  both′ = and-both (wellFormed (take cellCount c)) (planWellFormed (take cellCount c) (take planCount plan′)) right′ (tablerun.plan-right n c w ps long′ right′ planRoom plan′ ws made workRoom)
+    module _ (t : planFits ≡ true) where
+      plan-room : planCount ≤ length ps
+      plan-room = leb-true planCount (length ps) t
 
-  module _ (k : ℕ) (low : k < length (rules b)) where
-    nodes-are : lists.nodesOf n c w plan′ work′ k row ≡ listOf b (ruleOf b k)
-    nodes-are =
-        let known : k < ruleCount (encodeCells b) = subst (λ m. k < m) (sym (rules-counted b)) low in
-        ap (λ x. listIn x (take planCount plan′) work′ k) (cells-read s ns cs vs e b v r)
-        ∙ ap₂ (λ p x. listIn (encodeCells b) p x k) plan-is filled
-        ∙ rule-nodes (encodeCells b) (well-formed b (fine s ns cs vs e b v r)) (encodeValues b) ws k known
-        ∙ list-read b (fine s ns cs vs e b v r) k low
+      made : plan′ ≡ planOf (take cellCount c) ++ drop planCount ps
+      made = tablerun.plan-left n c w ps long′ right′ plan-room
 
-    pub listed-by-hand : (lists.listSaid n c w plan′ work′ k row ≡ lists.listed (length (listOf b (ruleOf b k)))) × (lists.rowAfter n c w plan′ work′ k row ≡ over (listOf b (ruleOf b k)) row)
-    listed-by-hand =
-        let cells : List ℕ = take cellCount c in
-        let found : ltb k (ruleCount cells) ≡ true = ap (λ x. ltb k (ruleCount x)) (cells-read s ns cs vs e b v r) ∙ lt-ltb k (ruleCount (encodeCells b)) (subst (λ m. k < m) (sym (rules-counted b)) low) in
-        let said = done n c w plan′ work′ k row lent′ both′ found (length (listOf b (ruleOf b k))) (over (listOf b (ruleOf b k)) row) (ap length (sym nodes-are)) (ap (λ xs. over xs row) (sym nodes-are)) in
-        (sym (said .0), sym (said .1))
+    plan-length : length plan′ ≡ length ps
+    plan-length =
+        bool-cases (λ t. planFits ≡ t → length plan′ ≡ length ps) planFits
+        (λ _ t. let z : length plan′ ≡ length ps = omega (arith, plan-room t, ap length (made t), length-append (planOf (take cellCount c)) (drop planCount ps), length-planOf (take cellCount c), length-drop planCount ps) in z)
+        (λ _ t. ap length (unchanged t))
+        refl
+
+    -- ---- run
+    module _ (ws : List ℕ) where
+      -- plan and work space are long enough
+      abbrev workFits : Bool
+      workFits = planFits && leb runs.workCount (length ws)
+
+      abbrev pub work′ : List ℕ
+      work′ = runs.workAfter n c w plan′ ws
+
+      run-long : runs.lentLong n c w plan′ ws ≡ workFits
+      unfolding runs.lentLong
+      run-long = rw (long′, plan-length) refl
+
+      module _ (t : workFits ≡ true) where
+        plan-fits : planFits ≡ true
+        plan-fits = and-left planFits (leb runs.workCount (length ws)) t
+
+        work-room : runs.workCount ≤ length ws
+        work-room = leb-true runs.workCount (length ws) (and-right planFits (leb runs.workCount (length ws)) t)
+
+        plan-is : take planCount plan′ ≡ planOf cells
+        plan-is = tablerun.plan-cells n c w ps long′ right′ (plan-room plan-fits) plan′ ws (made plan-fits) work-room ∙ ap planOf (cells-read s ns cs vs e b v r)
+
+        plan-right : planWellFormed (take cellCount c) (take planCount plan′) ≡ true
+        plan-right = tablerun.plan-right n c w ps long′ right′ (plan-room plan-fits) plan′ ws (made plan-fits) work-room
+
+        filled : work′ ≡ runs.filled cells (encodeValues b) (planOf cells) ws
+        filled =
+            tablerun.work-left n c w ps long′ right′ (plan-room plan-fits) plan′ ws (made plan-fits) work-room
+            ∙ ap₂ (λ k x. runs.filled k x (planOf k) ws) (cells-read s ns cs vs e b v r) (values-read s ns cs vs e b v r)
+
+        ran : runs.runSaid n c w plan′ ws ≡ Option.none
+        ran = tablerun.run-done n c w ps long′ right′ (plan-room plan-fits) plan′ ws (made plan-fits) work-room
+
+      not-run : workFits ≡ false → (runs.runSaid n c w plan′ ws ≡ Option.some (8, 0)) × (work′ ≡ ws)
+      unfolding runs.runSaid runs.workAfter
+      not-run t = (rw (run-long, t) refl, rw (run-long, t) refl)
+
+      pub ran-by-hand : runs.runSaid n c w plan′ ws ≡ cond workFits Option.none (Option.some (8, 0))
+      ran-by-hand =
+          bool-cases (λ t. workFits ≡ t → runs.runSaid n c w plan′ ws ≡ cond t Option.none (Option.some (8, 0))) workFits
+          (λ _ t. ran t) (λ _ t. not-run t .0) refl
+
+      work-length : length work′ ≡ length ws
+      work-length =
+          bool-cases (λ t. workFits ≡ t → length work′ ≡ length ws) workFits
+          (λ _ t.
+          let few = plans.sound cells (planOf cells) (bare-well-formed cells (well-formed b (fine s ns cs vs e b v r))) .steps in
+          ap length (filled t) ∙ length-filled cells (encodeValues b) (planOf cells) ws (let z : 16 * stepCount (planOf cells) ≤ length ws = omega (arith, few, work-room t) in z))
+          (λ _ t. ap length (not-run t .1))
+          refl
+
+      -- ---- list, of a rule that the book has
+      module _ (row : List ℕ) (k : ℕ) (low : k < length (rules b)) where
+        -- plan, work space and row are long enough
+        abbrev rowFits : Bool
+        rowFits = planFits && (leb runs.workCount (length ws) && leb maxNodes (length row))
+
+        abbrev list : List ℕ
+        list = listOf b (ruleOf b k)
+
+        list-long : lists.long n c w plan′ work′ row ≡ rowFits
+        unfolding lists.long
+        list-long = rw (long′, plan-length, work-length) refl
+
+        abbrev Listed : Bool → Type 0
+        Listed t = (lists.listSaid n c w plan′ work′ k row ≡ cond t (lists.listed (length list)) (lists.refused 8)) × (lists.rowAfter n c w plan′ work′ k row ≡ cond t (over list row) row)
+
+        known : k < ruleCount cells
+        known = subst (λ m. k < m) (sym (rules-counted b)) low
+
+        all-fit : rowFits ≡ true → Listed true
+        all-fit t =
+            let rest : Bool = leb runs.workCount (length ws) && leb maxNodes (length row) in
+            let fit : workFits ≡ true = and-both planFits (leb runs.workCount (length ws)) (and-left planFits rest t) (and-left (leb runs.workCount (length ws)) (leb maxNodes (length row)) (and-right planFits rest t)) in
+            let nodes-are : lists.nodesOf n c w plan′ work′ k row ≡ list =
+            ap (λ x. listIn x (take planCount plan′) work′ k) (cells-read s ns cs vs e b v r)
+            ∙ ap₂ (λ p x. listIn cells p x k) (plan-is fit) (filled fit)
+            ∙ rule-nodes cells (well-formed b (fine s ns cs vs e b v r)) (encodeValues b) ws k known
+            ∙ list-read b (fine s ns cs vs e b v r) k low in
+            let both : (wellFormed (take cellCount c) && planWellFormed (take cellCount c) (take planCount plan′)) ≡ true = and-both (wellFormed (take cellCount c)) (planWellFormed (take cellCount c) (take planCount plan′)) right′ (plan-right fit) in
+            let found : ltb k (ruleCount (take cellCount c)) ≡ true = ap (λ x. ltb k (ruleCount x)) (cells-read s ns cs vs e b v r) ∙ lt-ltb k (ruleCount cells) known in
+            let said = done n c w plan′ work′ k row (list-long ∙ t) both found (length list) (over list row) (ap length (sym nodes-are)) (ap (λ xs. over xs row) (sym nodes-are)) in
+            (sym (said .0), sym (said .1))
+
+        too-short : rowFits ≡ false → Listed false
+        too-short t =
+            let said = short n c w plan′ work′ k row (list-long ∙ t) in
+            (sym (said .0), sym (said .1))
+
+        pub listed-by-hand : Listed rowFits
+        listed-by-hand = bool-cases (λ t. rowFits ≡ t → Listed t) rowFits (λ _ t. all-fit t) (λ _ t. too-short t) refl

@@ -4,3 +4,4 @@ pub mod Tables
 pub mod Verdicts
 pub mod ByHand
 pub mod BookB
+pub mod WrongPrograms

@@ -1,7 +1,7 @@
 -- The three ways through the whole run: too short, refused, accepted. Each meets the claim.
 use Prim.Native.Nat.{ℕ, _+_, _*_, _<_, _≤_}
 use mathlib.Core.Path.{_≡_, refl, sym, ap, ap₂, subst, _∙_}
-use mathlib.Core.List.{List, _++_}
+use mathlib.Core.List.{List, [], _++_, append-nil}
 use mathlib.Core.Bool.{Bool, true, false, cond, _&&_}
 use native.Mathlib.Omega.{arith}
 use lib.Dec.{leb}
@@ -9,17 +9,17 @@ use lib.IntN.{ℤ}
 use lib.ListN.{length, take, drop}
 use lib.Seq.{take-at}
 use borrow.Author.Tests.{leb-true}
+use Rattle.base.specs.Lists.{member, ascending}
 use Rattle.base.proofs.Bools.{and-left, and-right}
 use Rattle.model.specs.declared.Refusal.{Refusal}
 use Rattle.model.specs.Refusals.{codeOf, lineOf}
 use Rattle.model.proofs.Refusals.{code-range}
-use Rattle.model.specs.Books.{Book, rules, listOf, graphOf}
-use Rattle.model.specs.Sizes.{formsIn}
-use Rattle.tables.specs.Layout.{cellCount, valueCount, ruleCount}
+use Rattle.model.specs.Books.{Book, rules, listOf}
+use Rattle.tables.specs.Layout.{nameCount, cellCount, valueCount, ruleCount}
 use Rattle.tables.specs.Sizes.{longEnough}
 use Rattle.tables.specs.WellFormed.{wellFormed}
-use Rattle.encoding.specs.Encode.{encodeCells, encodeValues}
-use Rattle.encoding.proofs.Counts.{cells-length, values-length, rules-counted}
+use Rattle.encoding.specs.Encode.{encodeNames, encodeCells, encodeValues}
+use Rattle.encoding.proofs.Counts.{names-length, cells-length, values-length, rules-counted}
 use Rattle.encoding.proofs.WellFormed.{well-formed}
 use Rattle.grammar.specs.Writing.{render}
 use Rattle.grammar.specs.Valid.{valid}
@@ -28,19 +28,21 @@ use Rattle.grammar.proofs.Books.{reading-iff, one-book, refused-only, valid-adm
 use Rattle.grammar.proofs.GroundsBooks.{other-refusals}
 use Rattle.plan.specs.Layout.{planCount, stepCount}
 use Rattle.translation.specs.Compile.{stepsOf, planOf}
-use Rattle.translation.proofs.Plans.{plan-count}
+use Rattle.translation.proofs.Plans.{plan-count, length-planOf}
 use Rattle.reader.specs.declared.ReadAnswer.{ReadAnswer}
 use Rattle.reader.specs.declared.ReadAnswer.the-variants as answers
 use Rattle.reader.specs.Answers as reads
-use Rattle.runner.specs.Run.{workCount, filled}
-use Rattle.lists.specs.Rows.{listCount, lengthCount, row, withRows, withLengths}
+use Rattle.runner.specs.Run.{workCount, setWords, filled}
+use Rattle.runner.proofs.Work.{filled-words}
+use Rattle.lists.specs.Rows.{listCount, lengthCount, listIn, row, withRows, withLengths}
 use Rattle.lists.proofs.ReadOff.{row-read}
 use Rattle.tablerun.specs.Lists.{listAt}
-use Rattle.tablerun.proofs.Lists.{rows-same, lengths-same}
+use Rattle.tablerun.proofs.Lists.{rule-nodes, rows-same, lengths-same}
 use Rattle.validation.specs.Claim.{ruleOf, Right, Said, steps, refusal, Answers, Demand3}
 use Rattle.itemreader.specs.declared.Counts.{Counts}
-use Rattle.validation.specs.Whole.{Lent, lent, long, answered, left, said, after}
-use Rattle.validation.proofs.Books.{list-read, steps-few, few-nodes, few-rules, listed-few, right}
+use Rattle.validation.specs.Lent.{Lent, lent, long, namesIn, cellsIn, valuesIn, planIn}
+use Rattle.validation.specs.Whole.{answered, left, said, after}
+use Rattle.validation.proofs.Books.{list-read, steps-few, few-nodes, few-rules, listed-exactly, listed-ordered, listed-few}
 
 -- the slices are as long as the limits
 pub record Room (l : Lent) : Type 0 where
@@ -72,12 +74,12 @@ room l e =
 -- what a way through the run must give: the claim, the answer, and what is left in the slices
 module _ (s : List ℕ) (l : Lent) where
   abbrev pub Meets : Said → Lent → Type 0
-  Meets a m = Demand3 s a (m .plan) (m .lists) (m .lengths) × ((a ≡ said s l) × (m ≡ after s l))
+  Meets a m = Demand3 s l a m × ((a ≡ said s l) × (m ≡ after s l))
 
   -- ---- 8: nothing has changed
   pub too-short : long l ≡ false → Meets (refusal 8 0) l
   unfolding said after
-  too-short e = ((λ b v r. refl), (rw e, rw e))
+  too-short e = ((λ b v r. (e, refl, refl, refl)), (rw e, rw e))
 
   module _ (e : long l ≡ true) where
     -- ---- a refused book
@@ -99,20 +101,65 @@ module _ (s : List ℕ) (l : Lent) where
       short : (r : ℕ) → length (list r) ≤ 1024
       short r = omega (arith, listed-few b (ruleOf b r), few-nodes b (valid-admissible b is-valid))
 
-      in-rows : (r : ℕ) → r < length (rules b) → row (left (accepted b) l .lists) (left (accepted b) l .lengths) r ≡ listOf b (ruleOf b r)
+      -- what is left, tables and plan up to their limits
+      abbrev m : Lent
+      m = left (accepted b) l
+
+      fine : wellFormed (encodeCells b) ≡ true
+      fine = well-formed b (valid-admissible b is-valid)
+
+      names-in : namesIn m ≡ encodeNames b
+      names-in = take-at (encodeNames b) (drop nameCount (l .names)) nameCount (names-length b)
+
+      cells-in : cellsIn m ≡ encodeCells b
+      cells-in = take-at (encodeCells b) (drop cellCount (l .cells)) cellCount (cells-length b)
+
+      values-in : valuesIn m ≡ encodeValues b
+      values-in = take-at (encodeValues b) (drop valueCount (l .values)) valueCount (values-length b)
+
+      plan-in : planIn m ≡ planOf (encodeCells b)
+      plan-in = take-at (planOf (encodeCells b)) (drop planCount (l .plan)) planCount (length-planOf (encodeCells b))
+
+      abbrev n : ℕ
+      n = length (stepsOf (encodeCells b))
+
+      steps-are : stepCount (planOf (encodeCells b)) ≡ n
+      steps-are = ap stepCount (sym (append-nil (planOf (encodeCells b)))) ∙ plan-count (encodeCells b) []
+
+      step-words : (k : ℕ) → k < n → take 16 (drop (16 * k) (m .work)) ≡ setWords (cellsIn m) (valuesIn m) (planIn m) k
+      step-words k low =
+          filled-words (encodeCells b) (encodeValues b) (planOf (encodeCells b)) (l .work) k (subst (λ x. k < x) (sym steps-are) low)
+          ∙ (λ j. setWords (sym cells-in j) (sym values-in j) (sym plan-in j) k)
+
+      in-rows : (r : ℕ) → r < length (rules b) → row (m .lists) (m .lengths) r ≡ listOf b (ruleOf b r)
       in-rows r low =
           row-read list short (length (rules b)) (l .lists) (l .lengths)
           (omega (arith, fits .lists, few-rules b (valid-admissible b is-valid))) (omega (arith, fits .lengths, few-rules b (valid-admissible b is-valid))) r low
 
-      abbrev RightFor : Book → Type 0
-      RightFor x = Right x (left (accepted b) l .plan) (left (accepted b) l .lists) (left (accepted b) l .lengths) (length (stepsOf (encodeCells b)))
+      rows-read-off : (r : ℕ) → r < length (rules b) → row (m .lists) (m .lengths) r ≡ listIn (cellsIn m) (planIn m) (m .work) r
+      rows-read-off r low =
+          in-rows r low
+          ∙ sym (rule-nodes (encodeCells b) fine (encodeValues b) (l .work) r (subst (λ x. r < x) (sym (rules-counted b)) low) ∙ list-read b (valid-admissible b is-valid) r low)
+          ∙ (λ j. listIn (sym cells-in j) (sym plan-in j) (m .work) r)
 
-      right-for : RightFor b
-      right-for = right b (left (accepted b) l .plan) (left (accepted b) l .lists) (left (accepted b) l .lengths) (length (stepsOf (encodeCells b))) in-rows (plan-count (encodeCells b) (drop planCount (l .plan))) (steps-few b (valid-admissible b is-valid))
+      right : Right b m n
+      right =
+          record {
+            names = names-in;
+            cells = cells-in;
+            values = values-in;
+            planned = plan-in ∙ ap planOf (sym cells-in);
+            ran = step-words;
+            readOff = rows-read-off;
+            exactly = λ r low v. ap (member v) (in-rows r low) ∙ listed-exactly b (ruleOf b r) v;
+            ordered = λ r low. ap ascending (in-rows r low) ∙ listed-ordered b (ruleOf b r);
+            counted = ap stepCount plan-in ∙ steps-are;
+            few = steps-few b (valid-admissible b is-valid);
+          }
 
-      pub taken : Meets (steps (length (stepsOf (encodeCells b)))) (left (accepted b) l)
+      pub taken : Meets (steps n) m
       unfolding said after
-      taken = ((λ a v r. subst RightFor (one-book b a is-valid v (reading-iff s b .0 q .1 ∙ sym r)) right-for), (rw (e, q) refl, rw (e, q) refl))
+      taken = ((λ a v r. (e, subst (λ x. Right x m n) (one-book b a is-valid v (reading-iff s b .0 q .1 ∙ sym r)) right)), (rw (e, q) refl, rw (e, q) refl))
 
 -- ---- what read's answer tells, for tables that are long enough
 module _ (s ns cs : List ℕ) (vs : List ℤ) (e : longEnough ns cs vs ≡ true) where

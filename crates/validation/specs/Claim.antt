@@ -1,10 +1,13 @@
--- Demand 3, from the bytes of a book to the lists of all its rules, by the definitions of model, grammar and base alone.
+-- Demand 3: one claim, from the bytes of a book to the lists of all its rules.
+-- It rests on what a book says and means (model), how it is written (grammar: `render`, `valid`), its tables (encoding), the plan
+-- of tables (translation: `planOf`), the set of each step (plan: `setAt`, in words by runner: `setWords`), a list read off the
+-- work space (lists: `listIn`, `row`) and how long the lent slices must be (`long`).
 use Prim.Native.Nat.{ℕ, _+_, _*_, _<_, _≤_}
 use mathlib.Core.Path.{_≡_}
 use mathlib.Core.List.{List}
-use mathlib.Core.Bool.{Bool, true, not, _&&_}
+use mathlib.Core.Bool.{Bool, true, false, not, _&&_}
 use lib.Dec.{ltb}
-use lib.ListN.{length, getD}
+use lib.ListN.{length, take, drop, getD}
 use Rattle.base.specs.Lists.{member, ascending}
 use Rattle.model.specs.Rules.{Rule, selects, noRule}
 use Rattle.model.specs.Books.{Book, graphOf, rules, conformsIn}
@@ -12,8 +15,12 @@ use Rattle.model.specs.Sizes.{formsIn}
 use Rattle.model.specs.Refusals.{codeOf, lineOf}
 use Rattle.grammar.specs.Writing.{render}
 use Rattle.grammar.specs.Valid.{valid}
+use Rattle.encoding.specs.Encode.{encodeNames, encodeCells, encodeValues}
 use Rattle.plan.specs.Layout.{stepCount}
-use Rattle.lists.specs.Rows.{row}
+use Rattle.translation.specs.Compile.{planOf}
+use Rattle.runner.specs.Run.{setWords}
+use Rattle.lists.specs.Rows.{listIn, row}
+use Rattle.validation.specs.Lent.{Lent, long, namesIn, cellsIn, valuesIn, planIn}
 use Rattle.validation.specs.declared.Validated.{Validated}
 use Rattle.validation.specs.declared.Validated.the-variants.{Steps, Refused}
 
@@ -25,14 +32,24 @@ ruleOf b r = getD (rules b) r noRule
 abbrev pub breaks : Book → Rule → ℕ → Bool
 breaks b q v = ltb v (graphOf b .nodes) && (selects (graphOf b) (q .target) v && not (conformsIn b v (q .shape)))
 
--- the lists and the number of steps that the book b should get
-pub record Right (b : Book) (plan lists lengths : List ℕ) (steps : ℕ) : Type 0 where
+-- what the book b should get: what is left in the slices, and the number of steps
+pub record Right (b : Book) (after : Lent) (steps : ℕ) : Type 0 where
+  -- the tables are the book's
+  pub names : namesIn after ≡ encodeNames b
+  pub cells : cellsIn after ≡ encodeCells b
+  pub values : valuesIn after ≡ encodeValues b
+  -- the plan is the compiler's plan of these tables
+  pub planned : planIn after ≡ planOf (cellsIn after)
+  -- each step's sixteen words of the work space are its set
+  pub ran : (k : ℕ) → k < steps → take 16 (drop (16 * k) (after .work)) ≡ setWords (cellsIn after) (valuesIn after) (planIn after) k
+  -- each rule's list is read off the words of the rule's step
+  pub readOff : (r : ℕ) → r < length (rules b) → row (after .lists) (after .lengths) r ≡ listIn (cellsIn after) (planIn after) (after .work) r
   -- under each rule a node is listed exactly when the rule selects it and it does not conform to the shape
-  pub exactly : (r : ℕ) → r < length (rules b) → (v : ℕ) → member v (row lists lengths r) ≡ breaks b (ruleOf b r) v
+  pub exactly : (r : ℕ) → r < length (rules b) → (v : ℕ) → member v (row (after .lists) (after .lengths) r) ≡ breaks b (ruleOf b r) v
   -- each node once, in book order
-  pub ordered : (r : ℕ) → r < length (rules b) → ascending (row lists lengths r) ≡ true
+  pub ordered : (r : ℕ) → r < length (rules b) → ascending (row (after .lists) (after .lengths) r) ≡ true
   -- the number of steps is the plan's, at most four for each form entry and two for each rule
-  pub counted : stepCount plan ≡ steps
+  pub counted : stepCount (planIn after) ≡ steps
   pub few : steps ≤ 4 * formsIn b + 2 * length (rules b)
 
 -- ---- what is answered: the number of steps, or document 01's number of a refusal and its line
@@ -44,11 +61,12 @@ abbrev pub saidOf : Validated → Said
 saidOf (Steps n) = steps n
 saidOf (Refused r) = refusal (codeOf r) (lineOf r)
 
--- what is said of the book b is right; demand 3 speaks of the calls that did not get 8
-abbrev pub Answers : Book → (plan lists lengths : List ℕ) → Said → Type 0
-Answers b plan lists lengths (steps n) = Right b plan lists lengths n
-Answers b plan lists lengths (refusal k line) = k ≡ 8
+-- what is said of the book b and left in the slices is right; the one refusal is 8, exactly where a slice is too short, and then
+-- nothing has changed
+abbrev pub Answers : Book → (before : Lent) → Said → (after : Lent) → Type 0
+Answers b before (steps n) after = (long before ≡ true) × Right b after n
+Answers b before (refusal k line) after = (long before ≡ false) × (k ≡ 8) × (line ≡ 0) × (after ≡ before)
 
--- the claim: for every valid book with these bytes
-abbrev pub Demand3 : List ℕ → Said → (plan lists lengths : List ℕ) → Type 0
-Demand3 s said plan lists lengths = (b : Book) → valid b ≡ true → render b ≡ s → Answers b plan lists lengths said
+-- the claim: for every valid book with these bytes, whatever the slices held before
+abbrev pub Demand3 : List ℕ → (before : Lent) → Said → (after : Lent) → Type 0
+Demand3 s before said after = (b : Book) → valid b ≡ true → render b ≡ s → Answers b before said after

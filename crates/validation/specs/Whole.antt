@@ -1,39 +1,18 @@
 -- The whole run: what it answers, and what it leaves in the seven lent slices.
 use Prim.Native.Nat.{ℕ}
 use mathlib.Core.List.{List, _++_}
-use mathlib.Core.Bool.{Bool, cond, _&&_}
-use lib.Dec.{leb}
-use lib.IntN.{ℤ}
+use mathlib.Core.Bool.{cond}
 use lib.ListN.{length, drop}
 use Rattle.model.specs.Books.{rules, listOf}
-use Rattle.tables.specs.Sizes.{longEnough}
 use Rattle.encoding.specs.Encode.{encodeCells, encodeValues}
 use Rattle.grammar.specs.Reading.{Outcome, accepted, turnedDown, reading}
 use Rattle.plan.specs.Layout.{planCount}
 use Rattle.translation.specs.Compile.{stepsOf, planOf}
 use Rattle.reader.specs.Answers.{namesLeft, cellsLeft, valuesLeft}
-use Rattle.runner.specs.Run.{workCount, filled}
-use Rattle.lists.specs.Rows.{listCount, lengthCount, withRows, withLengths}
+use Rattle.runner.specs.Run.{filled}
+use Rattle.lists.specs.Rows.{withRows, withLengths}
+use Rattle.validation.specs.Lent.{Lent, long}
 use Rattle.validation.specs.Claim.{ruleOf, Said, steps, refusal}
-
--- what is lent beside the book
-pub record Lent : Type 0 where
-  pub names : List ℕ
-  pub cells : List ℕ
-  pub values : List ℤ
-  pub plan : List ℕ
-  pub work : List ℕ
-  pub lists : List ℕ
-  pub lengths : List ℕ
-
-abbrev pub lent : (names cells : List ℕ) (values : List ℤ) (plan work lists lengths : List ℕ) → Lent
-lent ns cs vs ps ws ls ks = record { names = ns; cells = cs; values = vs; plan = ps; work = ws; lists = ls; lengths = ks }
-
--- no ground for 8
-unfoldable pub long : Lent → Bool
-long l =
-    longEnough (l .names) (l .cells) (l .values)
-    && (leb planCount (length (l .plan)) && (leb workCount (length (l .work)) && (leb listCount (length (l .lists)) && leb lengthCount (length (l .lengths)))))
 
 -- ---- by the reading of the book
 abbrev pub answered : Outcome → Said

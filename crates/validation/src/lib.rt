@@ -11,7 +11,8 @@ use tablerun::run_tables;
 use tables::lent::enough;
 ghost use mathlib.Core.Path.{_≡_};
 ghost use Rattle.validation.specs.Claim.{saidOf, Demand3};
-ghost use Rattle.validation.specs.Whole.{lent, long, said, after};
+ghost use Rattle.validation.specs.Lent.{lent, long};
+ghost use Rattle.validation.specs.Whole.{said, after};
 
 // The number of steps of the plan; or why the book is refused.
 pub enum Validated {
@@ -37,10 +38,11 @@ fn long_enough(
                 & ((LIST_PLACES <= lists.len()) & (LENGTH_PLACES <= lengths.len()))))
 }
 
-// The operation. Demand 3: for every valid book with these bytes, whatever the slices held, each rule's row of the lists, up to
-// its length, has exactly the nodes that the rule selects and that do not conform to its shape, each once, in book order, and
-// the plan has at most four steps for each form entry and two for each rule; or the answer is 8. Then the answer for any
-// bytes (8, then what the grammar says), and what is left in the seven slices.
+// The operation. Demand 3: for every valid book with these bytes, whatever the slices held, the answer is 8 exactly where a slice
+// is too short, and nothing has changed then; else the plan is that of the book's tables, the work space has each step's set, and
+// each rule's row of the lists, up to its length, is read off its step: exactly the nodes that the rule selects and that do not
+// conform to its shape, each once, in book order; and the plan has at most four steps for each form entry and two for each rule.
+// Then the answer for any bytes (8, then what the grammar says), and what is left in the seven slices.
 pub fn validate(
     book: &[u8],
     names: &mut [u8],
@@ -51,7 +53,7 @@ pub fn validate(
     lists: &mut [u16],
     lengths: &mut [u16],
 ) -> Validated
-    ensures { λ r. ⌜ Demand3 (now (book .entry)) (saidOf r) (now (plan .exit)) (now (lists .exit)) (now (lengths .exit)) ⌝ }
+    ensures { λ r. ⌜ Demand3 (now (book .entry)) (lent (now (names .entry)) (now (cells .entry)) (now (values .entry)) (now (plan .entry)) (now (work .entry)) (now (lists .entry)) (now (lengths .entry))) (saidOf r) (lent (now (names .exit)) (now (cells .exit)) (now (values .exit)) (now (plan .exit)) (now (work .exit)) (now (lists .exit)) (now (lengths .exit))) ⌝ }
     ensures { λ r. ⌜ saidOf r ≡ said (now (book .entry)) (lent (now (names .entry)) (now (cells .entry)) (now (values .entry)) (now (plan .entry)) (now (work .entry)) (now (lists .entry)) (now (lengths .entry))) ⌝ }
     ensures { λ _. ⌜ lent (now (names .exit)) (now (cells .exit)) (now (values .exit)) (now (plan .exit)) (now (work .exit)) (now (lists .exit)) (now (lengths .exit)) ≡ after (now (book .entry)) (lent (now (names .entry)) (now (cells .entry)) (now (values .entry)) (now (plan .entry)) (now (work .entry)) (now (lists .entry)) (now (lengths .entry))) ⌝ }
 {

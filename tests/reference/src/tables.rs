@@ -217,7 +217,8 @@ pub fn decode(t: &Tables) -> Option<Book> {
     for k in 0..forms {
         let (first, second) = (cell(FORM_FIRSTS, k), cell(FORM_SECONDS, k));
         let list = |pool: usize| {
-            if first + second > items {
+            // an empty list names no item, wherever it begins
+            if second > 0 && first + second > items {
                 return None;
             }
             (first..first + second).map(|i| below(cell(ITEMS, i), counts[pool])).collect::<Option<Vec<usize>>>()

@@ -1,5 +1,5 @@
 use denote.Ref.{now}
-use Rattle.validation.specs.Whole.{lent}
+use Rattle.validation.specs.Lent.{lent}
 use Rattle.validation.proofs.Whole.{long-by}
 use borrow.Author.Needs.{needs}
 use Rattle.validation.proofs.long_enough.Statement.{statement}

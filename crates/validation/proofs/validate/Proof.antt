@@ -15,7 +15,7 @@ use Rattle.plan.specs.Layout.{planCount}
 use Rattle.translation.specs.Compile.{stepsOf, planOf}
 use Rattle.runner.specs.Run.{filled}
 use Rattle.validation.specs.Claim.{Said, steps, refusal}
-use Rattle.validation.specs.Whole.{Lent, lent, long}
+use Rattle.validation.specs.Lent.{Lent, lent, long}
 use Rattle.validation.proofs.Whole.{room, Meets, too-short, turned-down, taken, is-valid, was-refused, was-accepted, names-left, cells-left, values-left, lent-same, cells-of, values-of, well-formed-of, rows-of, lengths-of, long-kept}
 use borrow.Author.Needs.{needs}
 use Rattle.validation.proofs.validate.Statement.{statement}
