@@ -35,7 +35,7 @@ extern "C" {
 #define MELIVANOUP_ROW 1024      /* uint16_t: the list of one rule                            */
 #define MELIVANOUP_LISTS 32768   /* uint16_t: the lists of all rules, a row for each          */
 #define MELIVANOUP_LENGTHS 32    /* uint16_t: how many nodes each rule lists                  */
-#define MELIVANOUP_PAGE 46080    /* uint8_t:  a part of the report                            */
+#define MELIVANOUP_PAGE 45056    /* uint8_t:  a part of the report                            */
 
 /* The longest book, in bytes: one byte more is refused (1). */
 #define MELIVANOUP_BOOK 65536

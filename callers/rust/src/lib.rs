@@ -43,7 +43,7 @@ pub mod sizes {
     pub const LISTS: usize = 32_768;
     pub const LENGTHS: usize = 32;
     /// a part of the report
-    pub const PAGE: usize = 46_080;
+    pub const PAGE: usize = 45_056;
 }
 
 /// The stack that a call may use, in bytes: measured, not proved. Books need at most 0.6 MB, tables from elsewhere 1.4. Where there

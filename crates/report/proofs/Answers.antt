@@ -1,5 +1,5 @@
 -- The answers of writing a part, case by case.
-use Prim.Native.Nat.{ℕ, _≤_, _<_}
+use Prim.Native.Nat.{ℕ, _+_, _≤_, _<_}
 use mathlib.Core.List.{List}
 use mathlib.Core.Bool.{Bool, true, false, _&&_}
 use mathlib.Core.Path.{_≡_, ap}
@@ -9,13 +9,17 @@ use lib.IntN.{ℤ}
 use lib.ListN.{length}
 use borrow.Author.Tests.{leb-true, le-leb, lt-leb}
 use Rattle.base.proofs.Bools.{and-left, and-right}
+use Rattle.text.specs.Decimals.{decimal}
+use Rattle.model.specs.declared.Refusal.{Refusal}
+use Rattle.model.specs.declared.Refusal.the-variants.{TooLong, Grammar, Range, Nesting, Undefined, Repeated, Limit, Short, Malformed, Absent}
+use Rattle.model.specs.Refusals.{codeOf, lineOf}
 use Rattle.tables.specs.Sizes.{longEnough}
 use Rattle.tables.proofs.Sizes as sizes
 use Rattle.lists.specs.Rows.{listCount, lengthCount}
 use Rattle.report.specs.Report.{refusalReport}
-use Rattle.report.specs.Pages.{pageCount, Put}
+use Rattle.report.specs.Pages.{pageCount, refusalCount, Put}
 use Rattle.report.specs.Answers.{Answer, refused, wrote, long, right, known, text, partSaid, partAfter, refusalSaid, refusalAfter}
-use Rattle.report.proofs.Writing.{put-front}
+use Rattle.report.proofs.Writing.{put-front, digits-few, two-digits, twenty-digits}
 
 -- the slices are as long as the limits
 pub record Lent (ns cs : List ℕ) (vs : List ℤ) (ls ks page : List ℕ) : Type 0 where
@@ -66,15 +70,30 @@ module _ (ns cs : List ℕ) (vs : List ℤ) (ls ks : List ℕ) (k : ℕ) (page :
       unfolding partSaid partAfter
       done e p = (rw (l, w, e) (ap wrote (put-front p .0)), (rw (l, w, e) (put-front p .1), p .inside))
 
--- ---- the report of a refusal
+-- ---- the report of a refusal: it fits, whatever its line
+with-line : (k at : ℕ) → k < 10 → at < 18446744073709551616 → 12 + length (decimal k) + length (decimal at) ≤ refusalCount
+with-line k at low h = omega (arith, digits-few 0 k low, twenty-digits at h)
+
+pub refusal-fits : (r : Refusal) → lineOf r < 18446744073709551616 → 12 + length (decimal (codeOf r)) + length (decimal (lineOf r)) ≤ refusalCount
+refusal-fits TooLong h = with-line 1 0 (omega arith) h
+refusal-fits (Grammar at) h = with-line 2 at (omega arith) h
+refusal-fits (Range at) h = with-line 3 at (omega arith) h
+refusal-fits (Nesting at) h = with-line 4 at (omega arith) h
+refusal-fits (Undefined at) h = with-line 5 at (omega arith) h
+refusal-fits (Repeated at) h = with-line 6 at (omega arith) h
+refusal-fits (Limit at) h = with-line 7 at (omega arith) h
+refusal-fits Short h = with-line 8 0 (omega arith) h
+refusal-fits Malformed h = with-line 9 0 (omega arith) h
+refusal-fits Absent h = omega (arith, two-digits 10 (omega arith), two-digits 0 (omega arith))
+
 module _ (number at : ℕ) (page : List ℕ) where
   abbrev Reported : Answer → List ℕ → Type 0
   Reported a now = (a ≡ refusalSaid number at page) × ((now ≡ refusalAfter number at page) × (a .bytes ≤ length page))
 
-  pub no-room : length page < pageCount → Reported (refused 8) page
+  pub no-room : length page < refusalCount → Reported (refused 8) page
   unfolding refusalSaid refusalAfter
-  no-room h = (rw (lt-leb pageCount (length page) h), (rw (lt-leb pageCount (length page) h), omega arith))
+  no-room h = (rw (lt-leb refusalCount (length page) h), (rw (lt-leb refusalCount (length page) h), omega arith))
 
-  pub reported : pageCount ≤ length page → {now : List ℕ} {n : ℕ} → Put page now 0 (refusalReport number at) n → Reported (wrote n) now
+  pub reported : refusalCount ≤ length page → {now : List ℕ} {n : ℕ} → Put page now 0 (refusalReport number at) n → Reported (wrote n) now
   unfolding refusalSaid refusalAfter
-  reported h p = (rw (le-leb pageCount (length page) h) (ap wrote (put-front p .0)), (rw (le-leb pageCount (length page) h) (put-front p .1), p .inside))
+  reported h p = (rw (le-leb refusalCount (length page) h) (ap wrote (put-front p .0)), (rw (le-leb refusalCount (length page) h) (put-front p .1), p .inside))

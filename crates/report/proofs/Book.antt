@@ -10,9 +10,10 @@ use lib.IntN.{ℤ}
 use lib.ListN.{length, getD, take, drop, replicate, length-drop, length-append, List·getD-append}
 use lib.Seq.{take-at, take-append-add, getD-take, getD-drop, append-snoc, length-take-le, ext-getD}
 use borrow.Author.Tests.{le-leb, ltb-true, eq-eqb, ne-eqb}
+use Rattle.base.specs.Bounded.{every}
 use Rattle.base.specs.Lists.{allb}
 use Rattle.base.proofs.Bools.{and-left, and-right, and-both}
-use Rattle.base.proofs.Bounded.{members-low}
+use Rattle.base.proofs.Bounded.{every-all, members-low}
 use Rattle.text.specs.Items.{nameByte, isName}
 use Rattle.text.specs.Pool.{padded, allNames}
 use Rattle.text.proofs.Items.{name-short, name-bytes}
@@ -37,10 +38,10 @@ use Rattle.lists.specs.Rows.{over, withRows, withLengths}
 use Rattle.lists.proofs.ReadOff.{length-read, nodes-read}
 use Rattle.lists.proofs.Rows.{few}
 use Rattle.report.specs.Report.{headLine, breakLines, foundLine, ruleLines, found, firstLine, lastLine, report, part, joined}
-use Rattle.report.specs.Pages.{beforeZero, nameIn, rowIn, foundIn, partIn, rowOk, partOk}
+use Rattle.report.specs.Pages.{beforeZero, nameIn, rowIn, foundIn, partIn, lengthOk, rowOk, partOk}
 use Rattle.report.specs.Answers.{refused, wrote, long, right, known, text, partSaid, partAfter}
 use Rattle.report.proofs.Report.{rule-part, last-part, next-low, next-rule, next-count, parts-joined}
-use Rattle.report.proofs.Parts.{part-rule, part-last, ok-head, ok-rule, ok-last}
+use Rattle.report.proofs.Parts.{part-rule, part-last, ok-head, ok-rule, ok-last, ok-past}
 
 -- ---- a name, and zeros after it
 not-zero : (x : ℕ) → nameByte x ≡ true → x ≡ 0 → ⊥
@@ -169,20 +170,27 @@ module _ (b : Book) (v : valid b ≡ true) where
         omega (arith, ap (foundIn ks) (next-count b above rs r e), size, found-read (above ++ (r ∷ [])) rs (e ∙ sym (append-snoc above r rs)))
 
     -- ---- the lists have no ground for refusal 9
+    length-ok : (r : ℕ) → r < length (rules b) → lengthOk ks r ≡ true
+    length-ok r low = le-leb (getD ks r 0) 1024 (omega (arith, holds .size r low, list-few (getD (rules b) r noRule)))
+
     row-ok : (r : ℕ) → r < length (rules b) → rowOk (encodeCells b) ls ks r ≡ true
     unfolding rowOk rowIn
     row-ok r low =
         let rule : Rule = getD (rules b) r noRule in
-        and-both (leb (getD ks r 0) 1024) (allb (λ n. ltb n (nodeCount (encodeCells b))) (take (getD ks r 0) (drop (1024 * r) ls)))
-        (le-leb (getD ks r 0) 1024 (omega (arith, holds .size r low, list-few rule)))
+        and-both (lengthOk ks r) (allb (λ n. ltb n (nodeCount (encodeCells b))) (take (getD ks r 0) (drop (1024 * r) ls))) (length-ok r low)
         (ap₂ (λ (k : ℕ) (l : List ℕ). allb (λ n. ltb n k) l) (names-counted b nodes) (holds .row r low) ∙ list-within rule)
+
+    lengths-ok : every (lengthOk ks) (ruleCount (encodeCells b)) ≡ true
+    lengths-ok = every-all (lengthOk ks) (ruleCount (encodeCells b)) (λ r low. length-ok r (omega (arith, rules-counted b)))
 
     part-ok : (k : ℕ) → partOk (encodeCells b) ls ks k ≡ true
     part-ok zero = ok-head (encodeCells b) ls ks 0 refl
     part-ok (suc r) =
         below-or (partOk (encodeCells b) ls ks (suc r) ≡ true) r (length (rules b))
         (λ low. ok-rule (encodeCells b) ls ks (suc r) r refl (omega (arith, rules-counted b)) ∙ row-ok r low)
-        (λ high. ok-last (encodeCells b) ls ks (suc r) (omega (arith, rules-counted b)))
+        (λ high. below-or (partOk (encodeCells b) ls ks (suc r) ≡ true) (length (rules b)) r
+        (λ past. ok-past (encodeCells b) ls ks (suc r) (omega (arith, rules-counted b)))
+        (λ last. ok-last (encodeCells b) ls ks (suc r) (omega (arith, rules-counted b)) ∙ lengths-ok))
 
     module _ (t : List ℕ) where
       -- a part by the tables is the part of the book

@@ -1,21 +1,22 @@
 -- The parts of the report by tables and lists, as they are tested and written.
 use Prim.Native.Nat.{ℕ, zero, suc, _+_, _-_, _*_, _<_, _≤_}
 use mathlib.Core.List.{List, [], _∷_, _++_, map, append-nil, append-assoc}
-use mathlib.Core.Bool.{Bool, true, false, _&&_}
+use mathlib.Core.Bool.{Bool, true, false, _&&_, and-true}
 use mathlib.Core.Path.{_≡_, refl, sym, ap, _∙_}
 use native.Mathlib.Numerals.{add-one}
 use native.Mathlib.Omega.{arith}
 use lib.Dec.{ltb, leb}
 use lib.ListN.{length, getD, take, drop, drop-of-length-le}
 use lib.Seq.{take-suc, drop-cons}
-use borrow.Author.Tests.{lt-ltb, le-ltb, le-leb, lt-leb, leb-true, ltb-true}
+use borrow.Author.Tests.{lt-ltb, le-ltb, le-leb, lt-leb, eq-eqb, ne-eqb, leb-true, ltb-true}
+use Rattle.base.specs.Bounded.{every}
 use Rattle.base.specs.Lists.{allb}
 use Rattle.base.proofs.Bools.{and-left, and-right}
 use Rattle.base.proofs.Lists.{allb-weaker}
 use Rattle.model.specs.Books.{Name}
 use Rattle.tables.specs.Layout.{nodeCount, factCount, ruleCount}
 use Rattle.report.specs.Report.{headLine, breakLine, breakLines, foundLine}
-use Rattle.report.specs.Pages.{nameIn, rowIn, foundIn, partIn, rowOk, partOk}
+use Rattle.report.specs.Pages.{nameIn, rowIn, foundIn, partIn, lengthOk, rowOk, partOk}
 
 -- ---- how many nodes are listed: one rule more
 pub found-none : (ks : List ℕ) → 0 ≡ foundIn ks 0
@@ -76,12 +77,16 @@ module _ (cs ls ks : List ℕ) where
 
   pub ok-rule : (k r : ℕ) → k ≡ suc r → r < ruleCount cs → partOk cs ls ks k ≡ rowOk cs ls ks r
   unfolding partOk
-  ok-rule k r e h = ap (partOk cs ls ks) e ∙ rw (lt-ltb r (ruleCount cs) h)
+  ok-rule k r e h = ap (partOk cs ls ks) e ∙ rw (lt-ltb r (ruleCount cs) h, ne-eqb r (ruleCount cs) (λ q. omega arith)) (and-true (rowOk cs ls ks r))
 
-  pub ok-last : (k : ℕ) → ruleCount cs < k → partOk cs ls ks k ≡ true
+  pub ok-last : (k : ℕ) → k ≡ suc (ruleCount cs) → partOk cs ls ks k ≡ every (lengthOk ks) (ruleCount cs)
   unfolding partOk
-  ok-last zero h = absurd (omega arith)
-  ok-last (suc r) h = rw (le-ltb r (ruleCount cs) (omega arith))
+  ok-last k e = ap (partOk cs ls ks) e ∙ rw (le-ltb (ruleCount cs) (ruleCount cs) (omega arith), eq-eqb (ruleCount cs) (ruleCount cs) refl)
+
+  pub ok-past : (k : ℕ) → ruleCount cs + 1 < k → partOk cs ls ks k ≡ true
+  unfolding partOk
+  ok-past zero h = absurd (omega arith)
+  ok-past (suc r) h = rw (le-ltb r (ruleCount cs) (omega arith), ne-eqb r (ruleCount cs) (λ q. omega arith))
 
   pub row-long : (r : ℕ) → 1024 < getD ks r 0 → rowOk cs ls ks r ≡ false
   unfolding rowOk

@@ -11,7 +11,7 @@ use Rattle.tables.specs.Sizes.{longEnough}
 use Rattle.tables.specs.WellFormed.{wellFormed}
 use Rattle.lists.specs.Rows.{listCount, lengthCount, over}
 use Rattle.report.specs.Report.{refusalReport}
-use Rattle.report.specs.Pages.{pageCount, partIn, partOk}
+use Rattle.report.specs.Pages.{pageCount, refusalCount, partIn, partOk}
 use Rattle.report.specs.declared.Page.{Page}
 use Rattle.report.specs.declared.Page.the-variants.{Bytes, Refused}
 
@@ -57,7 +57,7 @@ module _ (ns cs : List ℕ) (vs : List ℤ) (ls ks : List ℕ) (k : ℕ) (page :
 -- ---- the report of a refusal, with its number and its line
 module _ (number at : ℕ) (page : List ℕ) where
   unfoldable pub refusalSaid : Answer
-  refusalSaid = cond (leb pageCount (length page)) (wrote (length (refusalReport number at))) (refused 8)
+  refusalSaid = cond (leb refusalCount (length page)) (wrote (length (refusalReport number at))) (refused 8)
 
   unfoldable pub refusalAfter : List ℕ
-  refusalAfter = cond (leb pageCount (length page)) (over (refusalReport number at) page) page
+  refusalAfter = cond (leb refusalCount (length page)) (over (refusalReport number at) page) page

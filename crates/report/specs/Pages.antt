@@ -6,16 +6,20 @@ use mathlib.Core.Bool.{Bool, true, cond, _&&_}
 use lib.Dec.{eqb, ltb, leb}
 use lib.ListN.{length, getD, take, drop}
 use lib.Seq.{sets}
-use Rattle.base.specs.Bounded.{_⇒_}
+use Rattle.base.specs.Bounded.{every, _⇒_}
 use Rattle.base.specs.Lists.{allb}
 use Rattle.model.specs.Limits.{maxNodes, maxName}
 use Rattle.model.specs.Books.{Name}
 use Rattle.tables.specs.Layout.{nodeCount, factCount, ruleCount}
 use Rattle.report.specs.Report.{headLine, breakLines, foundLine}
 
--- a page holds 1,024 lines of the longest names
+-- a page holds 1,024 lines of 44 bytes: two digits of a rule, 31 bytes of a name
 abbrev pub pageCount : ℕ
-pageCount = 46080
+pageCount = 45056
+
+-- the report of a refusal: one digit of its number and twenty of its line, since 10 has no line
+abbrev pub refusalCount : ℕ
+refusalCount = 33
 
 -- ---- what the tables say; ns: the names, cs: the cells, ls: the rows of the lists, ks: their lengths
 -- what stands before the first zero
@@ -41,14 +45,18 @@ unfoldable pub partIn : (ns cs ls ks : List ℕ) → ℕ → List ℕ
 partIn ns cs ls ks zero = headLine (nodeCount cs) (factCount cs) (ruleCount cs)
 partIn ns cs ls ks (suc k) = cond (ltb k (ruleCount cs)) (breakLines k (map (nameIn ns) (rowIn ls ks k))) (foundLine (foundIn ks (ruleCount cs)))
 
+-- a row is in its limit
+abbrev pub lengthOk : List ℕ → ℕ → Bool
+lengthOk ks r = leb (getD ks r 0) maxNodes
+
 -- a row is in its limit and lists nodes of the tables
 unfoldable pub rowOk : (cs ls ks : List ℕ) → ℕ → Bool
-rowOk cs ls ks r = leb (getD ks r 0) maxNodes && allb (λ v. ltb v (nodeCount cs)) (rowIn ls ks r)
+rowOk cs ls ks r = lengthOk ks r && allb (λ v. ltb v (nodeCount cs)) (rowIn ls ks r)
 
--- of the lists, part k looks at its rule's only
+-- of the lists, a rule's part looks at its own row, the last part at the length of each
 unfoldable pub partOk : (cs ls ks : List ℕ) → ℕ → Bool
 partOk cs ls ks zero = true
-partOk cs ls ks (suc k) = ltb k (ruleCount cs) ⇒ rowOk cs ls ks k
+partOk cs ls ks (suc k) = (ltb k (ruleCount cs) ⇒ rowOk cs ls ks k) && (eqb k (ruleCount cs) ⇒ every (lengthOk ks) (ruleCount cs))
 
 -- ---- writing: the text stands on the page from `at` to `end`, and nothing else changed
 pub record Put (before after : List ℕ) (at : ℕ) (text : List ℕ) (end : ℕ) : Type 0 where

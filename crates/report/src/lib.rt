@@ -20,6 +20,7 @@ ghost use mathlib.Core.List.{_∷_, map};
 ghost use Prim.Native.Nat.{_+_, _*_, _<_, _≤_};
 ghost use lib.ListN.{length, getD, take, drop};
 ghost use lib.Dec.{ltb};
+ghost use Rattle.base.specs.Bounded.{every};
 ghost use Rattle.base.specs.Lists.{allb};
 ghost use Rattle.text.specs.Decimals.{decimal};
 ghost use Rattle.model.specs.Refusals.{codeOf, lineOf};
@@ -27,11 +28,14 @@ ghost use Rattle.tables.specs.Layout.{nameCount};
 ghost use Rattle.tables.specs.WellFormed.{wellFormed};
 ghost use Rattle.lists.specs.Rows.{listCount, lengthCount};
 ghost use Rattle.report.specs.Report.{headLine, breakLine, breakLines, foundLine, refusalReport};
-ghost use Rattle.report.specs.Pages.{pageCount, nameIn, rowIn, foundIn, partIn, rowOk, partOk, Put};
+ghost use Rattle.report.specs.Pages.{pageCount, nameIn, rowIn, foundIn, partIn, lengthOk, rowOk, partOk, Put};
 ghost use Rattle.report.specs.Answers.{saidOf, long, partSaid, partAfter, refusalSaid, refusalAfter};
 
-// A page for 1,024 lines of the longest names.
-pub const PAGE_BYTES: usize = 46080;
+// A page for 1,024 lines of 44 bytes: two digits of a rule, 31 bytes of a name.
+pub const PAGE_BYTES: usize = 45056;
+
+// The report of a refusal: one digit of its number and twenty of its line, since 10 has no line.
+pub const REFUSAL_BYTES: usize = 33;
 
 // How many bytes stand on the page; or why there are none.
 pub enum Page {
@@ -106,9 +110,9 @@ fn put_name(page: &mut [u8], at: usize, names: &[u8], v: usize) -> usize
 
 // The line of node v under rule r.
 fn put_break(page: &mut [u8], at: usize, r: usize, names: &[u8], v: usize) -> usize
-    requires { ⌜ (at + 45 ≤ length (now page)) × (r < 32) × (v < 1024) × (nameCount ≤ length (now names)) ⌝ }
+    requires { ⌜ (at + 44 ≤ length (now page)) × (r < 32) × (v < 1024) × (nameCount ≤ length (now names)) ⌝ }
     ensures { λ end. ⌜ Put (now (page .entry)) (now (page .exit)) at (breakLine r (nameIn (now (names .entry)) v)) end ⌝ }
-    ensures { λ end. ⌜ end ≤ at + 45 ⌝ }
+    ensures { λ end. ⌜ end ≤ at + 44 ⌝ }
 {
     let word = put_bytes(page, at, b"(breaks");
     let number = put_number(page, word, r);
@@ -154,7 +158,7 @@ fn put_found(page: &mut [u8], count: usize) -> usize
 
 // The line of a refusal.
 fn put_refusal(page: &mut [u8], number: usize, at: usize) -> usize
-    requires { ⌜ pageCount ≤ length (now page) ⌝ }
+    requires { ⌜ 12 + length (decimal number) + length (decimal at) ≤ length (now page) ⌝ }
     ensures { λ end. ⌜ Put (now (page .entry)) (now (page .exit)) 0 (refusalReport number at) end ⌝ }
 {
     let word = put_bytes(page, 0, b"(refused");
@@ -235,6 +239,19 @@ fn row_ok(cells: &[u16], lists: &[u16], lengths: &[u16], r: usize) -> bool
     all_below(&lists[first..last], node_count(cells))
 }
 
+// The lengths of the first n rules are in their limit.
+fn lengths_ok(lengths: &[u16], n: usize) -> bool
+    requires { ⌜ n ≤ length (now lengths) ⌝ }
+    ensures { λ ok. ⌜ ok ≡ every (lengthOk (now (lengths .entry))) n ⌝ }
+{
+    for i in 0..n {
+        if MAX_NODES < wide(lengths[i]) {
+            return false;
+        }
+    }
+    true
+}
+
 // Refusal 9 is for tables and lists of which this is false.
 fn part_ok(cells: &[u16], lists: &[u16], lengths: &[u16], k: usize) -> bool
     requires { ⌜ (listCount ≤ length (now lists)) × (lengthCount ≤ length (now lengths)) ⌝ }
@@ -246,10 +263,14 @@ fn part_ok(cells: &[u16], lists: &[u16], lengths: &[u16], k: usize) -> bool
     if k == 0 {
         return true;
     }
-    if rule_count(cells) < k {
+    let rules = rule_count(cells);
+    if k <= rules {
+        return row_ok(cells, lists, lengths, k - 1);
+    }
+    if rules + 1 < k {
         return true;
     }
-    row_ok(cells, lists, lengths, k - 1)
+    lengths_ok(lengths, rules)
 }
 
 // Refusal 8 is for slices of which this is false.
@@ -270,7 +291,8 @@ fn long_enough(
 
 // The operation: part k of the report at the front of a lent page; what lies past it stays. Part 0 is the first line, parts 1
 // and on the lines of the rules by number, the part after these the last line. Refused: a slice too short, then tables that are
-// not well formed or a list that is not one of their nodes, then a part that the report does not have; nothing changes then.
+// not well formed, a list that is too long or not one of their nodes, then a part that the report does not have; nothing
+// changes then.
 pub fn report_part(
     names: &[u8],
     cells: &[u16],
@@ -297,15 +319,15 @@ pub fn report_part(
     Page::Bytes(put_part(page, names, cs, lists, lengths, k))
 }
 
-// The operation: the report of a refusal at the front of a lent page; what lies past it stays. Refused: a page too short, and
+// The operation: the report of a refusal at the front of lent space; what lies past it stays. Refused: space too short, and
 // nothing changes then.
-pub fn report_refusal(refusal: Refusal, page: &mut [u8]) -> Page
-    ensures { λ r. ⌜ saidOf r ≡ refusalSaid (codeOf refusal) (lineOf refusal) (now (page .entry)) ⌝ }
-    ensures { λ _. ⌜ now (page .exit) ≡ refusalAfter (codeOf refusal) (lineOf refusal) (now (page .entry)) ⌝ }
-    ensures { λ r. ⌜ saidOf r .bytes ≤ length (now (page .entry)) ⌝ }
+pub fn report_refusal(refusal: Refusal, space: &mut [u8]) -> Page
+    ensures { λ r. ⌜ saidOf r ≡ refusalSaid (codeOf refusal) (lineOf refusal) (now (space .entry)) ⌝ }
+    ensures { λ _. ⌜ now (space .exit) ≡ refusalAfter (codeOf refusal) (lineOf refusal) (now (space .entry)) ⌝ }
+    ensures { λ r. ⌜ saidOf r .bytes ≤ length (now (space .entry)) ⌝ }
 {
-    if page.len() < PAGE_BYTES {
+    if space.len() < REFUSAL_BYTES {
         return Page::Refused(Refusal::Short);
     }
-    Page::Bytes(put_refusal(page, code(refusal), line(refusal)))
+    Page::Bytes(put_refusal(space, code(refusal), line(refusal)))
 }

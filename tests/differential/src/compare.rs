@@ -13,7 +13,7 @@ const WORK: usize = 8192;
 const ROW: usize = 1024;
 const LISTS: usize = 32 * ROW;
 const LENGTHS: usize = 32;
-const PAGE: usize = 46080;
+const PAGE: usize = 45056;
 
 /// What differs, in words; or nothing.
 pub type Outcome = Result<(), String>;
@@ -342,8 +342,11 @@ impl Case<'_> {
         let mut lists: Vec<u16> = lend(self.r, LISTS);
         let mut lengths: Vec<u16> = lend(self.r, LENGTHS);
         let nodes = book.as_ref().map_or(5, |book| book.nodes().max(1));
+        // one row in so many is too long
+        let rows = self.r.pick(&[4, 16, 1000]);
         for (k, length) in lengths.iter_mut().enumerate().take(LENGTHS) {
-            *length = self.r.pick(&[0, 1, 2, 9, 1023, 1024, 1025, 65535]);
+            let some: &[u16] = if self.r.once_in(rows) { &[1025, 65535] } else { &[0, 1, 2, 9, 1023, 1024] };
+            *length = self.r.pick(some);
             let row = lists.iter_mut().skip(ROW * k).take((*length as usize).min(20));
             row.for_each(|v| *v = (self.r.below(nodes) + self.r.once_in(200) as usize) as u16);
             if *length > 20 && lists.len() >= LISTS && self.r.once_in(2) {
@@ -355,6 +358,7 @@ impl Case<'_> {
             let part = match self.r.below(12) {
                 0 => rules + 2,
                 1 => usize::MAX - self.r.below(2),
+                2 | 3 => rules + 1,
                 _ => self.r.between(0, rules + 1),
             };
             let mut page: Vec<u8> = lend(self.r, PAGE);
@@ -444,10 +448,14 @@ fn part_of(book: &Option<Book>, lists: &[u16], lengths: &[u16], part: usize) -> 
         }
         return Ok(book.break_lines(part - 1, &row));
     }
-    if part == rules + 1 {
-        return Ok(reference::found_line(lengths[..rules].iter().map(|&n| n as usize).sum()).into_bytes());
+    if part > rules + 1 {
+        return Err(10);
     }
-    Err(10)
+    let found: Vec<usize> = lengths[..rules].iter().map(|&n| n as usize).collect();
+    if found.iter().any(|&n| n > ROW) {
+        return Err(9);
+    }
+    Ok(reference::found_line(found.iter().sum()).into_bytes())
 }
 
 fn words(sets: &[Set]) -> Vec<u64> {

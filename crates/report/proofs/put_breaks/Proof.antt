@@ -17,7 +17,7 @@ use Rattle.report.proofs.put_breaks.Statement.{statement}
 use Rattle.report.proofs.put_breaks.Tie as tie
 
 abbrev Inv-loop : tie.InvT-loop
-Inv-loop page₀ names list r at₀ i₀ page at i = (i ≤ length list) × (at ≤ 45 * i) × (length page ≡ length page₀) × Put page₀ page 0 (breakLines r (map (nameIn names) (take i list))) at
+Inv-loop page₀ names list r at₀ i₀ page at i = (i ≤ length list) × (at ≤ 44 * i) × (length page ≡ length page₀) × Put page₀ page 0 (breakLines r (map (nameIn names) (take i list))) at
 
 abbrev μ-loop : tie.MeasureT-loop
 μ-loop page₀ names list r at₀ i₀ page at i = length list - i

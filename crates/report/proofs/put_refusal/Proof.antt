@@ -2,7 +2,7 @@ use borrow.Author.Needs.{needs}
 use native.Mathlib.Omega.{arith}
 use Rattle.base.specs.Bytes.{bytes}
 use Rattle.text.specs.Decimals.{decimal}
-use Rattle.report.proofs.Writing.{put-then, put-as, put-length, twenty-digits, line-two}
+use Rattle.report.proofs.Writing.{put-then, put-as, put-length, line-two}
 use Rattle.report.proofs.put_refusal.Statement.{statement}
 use Rattle.report.proofs.put_refusal.Tie as tie
 
@@ -14,27 +14,24 @@ put-bytes-requires c κs = search needs
 
 put-number-requires : tie.Need-put-number-requires
 put-number-requires c κs =
-    let a = c .before .before .before .before .before .before .before .args in
     let p = c .before .before .before .put-bytes .ensures in
-    omega (arith, p .ends, put-length p, twenty-digits (a .number) (omega (arith, c .before .before .before .before .before .before .before .fits)), twenty-digits (a .at) (omega (arith, c .before .before .before .before .before .before .before .fits)), c .before .before .before .before .before .before .before .pre)
+    omega (arith, p .ends, put-length p, c .before .before .before .before .before .before .before .pre)
 
 put-number-requires-2 : tie.Need-put-number-requires-2
 put-number-requires-2 c κs =
-    let a = c .before .before .before .before .before .before .before .before .before .before .before .args in
     let p = c .before .before .before .before .before .before .before .put-bytes .ensures in
     let q = c .before .before .before .put-number .ensures in
-    omega (arith, p .ends, q .ends, put-length p, put-length q, twenty-digits (a .number) (omega (arith, c .before .before .before .before .before .before .before .before .before .before .before .fits)), twenty-digits (a .at) (omega (arith, c .before .before .before .before .before .before .before .before .before .before .before .fits)), c .before .before .before .before .before .before .before .before .before .before .before .pre)
+    omega (arith, p .ends, q .ends, put-length p, put-length q, c .before .before .before .before .before .before .before .before .before .before .before .pre)
 
 slice-aggregate-put-bytes-2 : tie.Need-slice-aggregate-put-bytes-2
 slice-aggregate-put-bytes-2 c = search needs
 
 put-bytes-requires-2 : tie.Need-put-bytes-requires-2
 put-bytes-requires-2 c κs =
-    let a = c .before .before .before .before .before .before .before .before .before .before .before .before .before .before .before .before .args in
     let p = c .before .before .before .before .before .before .before .before .before .before .before .before .put-bytes .ensures in
     let q = c .before .before .before .before .before .before .before .before .put-number .ensures in
     let n = c .before .before .before .before .put-number2 .ensures in
-    omega (arith, p .ends, q .ends, n .ends, put-length p, put-length q, put-length n, twenty-digits (a .number) (omega (arith, c .before .before .before .before .before .before .before .before .before .before .before .before .before .before .before .before .fits)), twenty-digits (a .at) (omega (arith, c .before .before .before .before .before .before .before .before .before .before .before .before .before .before .before .before .fits)), c .before .before .before .before .before .before .before .before .before .before .before .before .before .before .before .before .pre)
+    omega (arith, p .ends, q .ends, n .ends, put-length p, put-length q, put-length n, c .before .before .before .before .before .before .before .before .before .before .before .before .before .before .before .before .pre)
 
 same-length : tie.Need-same-length
 same-length c = search needs

@@ -1,18 +1,21 @@
 use borrow.Author.Needs.{needs}
 use Prim.Native.Nat.{ℕ}
 use mathlib.Core.Path.{_≡_, ap, _∙_}
+use native.Mathlib.Omega.{arith}
 use denote.Ref.{now}
+use lib.ListN.{length}
+use Rattle.text.specs.Decimals.{decimal}
 use Rattle.report.specs.Report.{refusalReport}
 use Rattle.report.proofs.Writing.{put-as}
 use Rattle.model.specs.Refusals.{codeOf, lineOf}
-use Rattle.report.proofs.Answers.{no-room, reported}
+use Rattle.report.proofs.Answers.{refusal-fits, no-room, reported}
 use Rattle.report.proofs.report_refusal.Statement.{statement}
 use Rattle.report.proofs.report_refusal.Tie as tie
 
 returns : tie.Need-returns
 returns c =
     let a = c .before .before .args in
-    no-room (codeOf (a .refusal)) (lineOf (a .refusal)) (now (a .page)) (c .if1 .taken)
+    no-room (codeOf (a .refusal)) (lineOf (a .refusal)) (now (a .space)) (c .if1 .taken)
 
 code-requires : tie.Need-code-requires
 code-requires c κs = search needs
@@ -21,7 +24,13 @@ line-requires : tie.Need-line-requires
 line-requires c κs = search needs
 
 put-refusal-requires : tie.Need-put-refusal-requires
-put-refusal-requires c κs = search needs
+put-refusal-requires c κs =
+    let a = c .before .before .before .before .before .args in
+    let k = c .before .code in
+    let at = c .line in
+    let number : length (decimal (k .result)) ≡ length (decimal (codeOf (a .refusal))) = ap (λ (n : ℕ). length (decimal n)) (k .ensures) in
+    let line : length (decimal (at .result)) ≡ length (decimal (lineOf (a .refusal))) = ap (λ (n : ℕ). length (decimal n)) (at .ensures) in
+    omega (arith, number, line, refusal-fits (a .refusal) (omega (arith, at .ok, at .ensures)), c .before .before .before .if1 .left)
 
 same-length : tie.Need-same-length
 same-length c = search needs
@@ -30,7 +39,7 @@ returns-2 : tie.Need-returns-2
 returns-2 c =
     let a = c .before .before .before .before .before .before .before .before .args in
     let same : refusalReport (c .before .before .before .before .code .result) (c .before .before .before .line .result) ≡ refusalReport (codeOf (a .refusal)) (lineOf (a .refusal)) = ap (λ (n : ℕ). refusalReport n (c .before .before .before .line .result)) (c .before .before .before .before .code .ensures) ∙ ap (refusalReport (codeOf (a .refusal))) (c .before .before .before .line .ensures) in
-    reported (codeOf (a .refusal)) (lineOf (a .refusal)) (now (a .page)) (c .before .before .before .before .before .before .if1 .left) (put-as same (c .before .before .put-refusal .ensures))
+    reported (codeOf (a .refusal)) (lineOf (a .refusal)) (now (a .space)) (c .before .before .before .before .before .before .if1 .left) (put-as same (c .before .before .put-refusal .ensures))
 
 pub report-refusal-spec : {M : Type 1} → statement M
 report-refusal-spec =
