@@ -2,5 +2,6 @@ pub mod Codes
 pub mod Steps
 pub mod Tests
 pub mod Arms
+pub mod Sets
 pub mod Work
 pub mod Answers

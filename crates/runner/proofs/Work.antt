@@ -1,5 +1,5 @@
 -- The work space, step by step.
-use Prim.Native.Nat.{ℕ, zero, suc, _+_, _-_, _*_, _/_, _%_, _≤_, _<_}
+use Prim.Native.Nat.{ℕ, zero, suc, _+_, _-_, _*_, _≤_, _<_}
 use mathlib.Core.List.{List, [], _++_, append-assoc, append-nil}
 use mathlib.Core.Bool.{Bool, true, false, _&&_}
 use mathlib.Core.Path.{_≡_, refl, sym, ap, ap₂, _∙_}
@@ -10,13 +10,13 @@ use native.Mathlib.Omega.{arith}
 use lib.Dec.{ltb}
 use lib.IntN.{ℤ}
 use lib.ListN.{length, take, drop, length-append, length-drop, drop-of-length-le}
-use lib.Seq.{take-all, take-at, drop-at, drop-drop, getD-take}
+use lib.Seq.{take-all, take-at, drop-at, drop-drop}
 use borrow.Rule.Slice.PartMut.{putMid}
 use borrow.Author.Tests.{lt-ltb}
 use Rattle.base.specs.Numbered.{below, numbered}
 use Rattle.base.proofs.Numbered.{at-number, below-number}
-use Rattle.nodeset.specs.Words.{bit, has, wordsOf, stored}
-use Rattle.nodeset.proofs.Sets.{length-wordsOf, has-of, length-of}
+use Rattle.nodeset.specs.Words.{has, wordsOf, stored}
+use Rattle.nodeset.proofs.Sets.{length-wordsOf, has-take, has-of, length-of}
 use Rattle.nodeset.proofs.Stores.{stored-whole}
 use Rattle.tables.specs.Layout.{nodeCount}
 use Rattle.plan.specs.Layout.{stepAt, stepCount}
@@ -37,11 +37,6 @@ put-tail ws s k n ls room e q =
     ap₂ (λ (x y : List ℕ). take (16 * k) ws ++ (x ++ y)) (q ∙ ap (λ (l : List ℕ). stored l s) (take-all n t (le-of-eq len))) (drop-of-length-le t (le-of-eq len))
     ∙ ap (λ (x : List ℕ). take (16 * k) ws ++ x)
     (append-nil (stored t s) ∙ stored-whole t s (omega arith) ∙ ap (λ (m : ℕ). s ++ drop m t) ls ∙ ap (λ (x : List ℕ). s ++ x) (drop-drop 16 (16 * k) ws))
-
--- the first words have what lies in them
-has-take : (s : List ℕ) (w : ℕ) → w < 1024 → has (take 16 s) w ≡ has s w
-unfolding has
-has-take s w l = ap (λ (x : ℕ). bit x (w % 64)) (getD-take 16 s (w / 64) 0 (omega arith))
 
 module _ (cs : List ℕ) (vs : List ℤ) (ps : List ℕ) where
   length-set-words : (k : ℕ) → length (setWords cs vs ps k) ≡ 16
@@ -69,7 +64,7 @@ module _ (cs : List ℕ) (vs : List ℤ) (ps : List ℕ) where
     part-has : (k j : ℕ) (rest : List ℕ) → j < k → (w : ℕ) → w < nodeCount cs → has (drop (16 * j) (stepWords cs vs ps k ++ rest)) w ≡ setAt cs vs ps j w
     unfolding setWords
     part-has k j rest l w lw =
-        sym (has-take (drop (16 * j) (stepWords cs vs ps k ++ rest)) w (omega arith))
+        sym (has-take (drop (16 * j) (stepWords cs vs ps k ++ rest)) 16 w (omega arith))
         ∙ has-of (λ v. ltb v (nodeCount cs) && setAt cs vs ps j v) 16 (part-words k j rest l) w (omega arith)
         ∙ ap (λ (b : Bool). b && setAt cs vs ps j w) (lt-ltb w (nodeCount cs) lw)
 

@@ -3,6 +3,7 @@
 //
 // It sees neither reader nor compiler nor verdict: any tables and any plan may be handed in, and are checked before the first
 // word is written.
+use model::LinkNo;
 use model::Refusal;
 use nodeset::NodeSet;
 use nodeset::store;
@@ -45,6 +46,7 @@ ghost use Rattle.paths.specs.Facts.{Tables};
 ghost use Rattle.stepsets.specs.Ends.{Held, RowsFor};
 ghost use Rattle.plan.specs.Layout.{stepAt};
 ghost use Rattle.plan.specs.WellFormed.{stepOk, planWellFormed};
+ghost use Rattle.runner.specs.Kinds.{kindOf};
 ghost use Rattle.runner.specs.Run.{workCount, saidOf, filled, lentLong, runSaid, workAfter};
 ghost use Rattle.runner.specs.Steps.{stepFrom, put};
 
@@ -57,13 +59,68 @@ pub enum Ran {
     Refused(Refusal),
 }
 
-// The set of step k, from the sets of the steps before it. The rows of ends that it looks at are kept for the next step: f
-// holds those of number e, and s those of number t.
+// What a step asks for, with its operands. The bool: it is the breaking one of two.
+enum Kind {
+    Whole,
+    Empty,
+    Node(Ask, bool),
+    Both(usize, usize),
+    Either(usize, usize),
+    Path(Ask, usize, usize),
+    Ends(Ask, bool, usize, LinkNo),
+    Lang(bool, usize),
+    Closed(usize),
+    Facts(Pick),
+}
+
+// What step k asks for, by its code.
+fn step_kind(plan: &[u16], k: usize) -> Kind
+    ensures { λ r. ⌜ r ≡ kindOf (stepAt (now (plan .entry)) k) ⌝ }
+{
+    let a = step_first(plan, k);
+    let b = step_second(plan, k);
+    let lo = step_third(plan, k);
+    let hi = step_fourth(plan, k);
+    let c = step_node(plan, k);
+    let p = step_link(plan, k);
+    let l = step_second_link(plan, k);
+    match step_code(plan, k) {
+        0 => Kind::Whole, // All
+        1 => Kind::Empty, // None
+        2 => Kind::Node(Ask::Is(c), false), // Is
+        3 => Kind::Node(Ask::Is(c), true), // Isnot
+        4 => Kind::Node(Ask::Test(a), false), // Test
+        5 => Kind::Node(Ask::Test(a), true), // Untest
+        6 => Kind::Both(a, b), // Both
+        7 => Kind::Either(a, b), // Either
+        8 => Kind::Path(Ask::Count(lo, hi), a, b), // Count
+        9 => Kind::Path(Ask::Every, a, b), // Every
+        10 => Kind::Ends(Ask::Equal, false, a, l), // Equal
+        11 => Kind::Ends(Ask::Equal, true, a, l), // Unequal
+        12 => Kind::Ends(Ask::Apart, false, a, l), // Apart
+        13 => Kind::Ends(Ask::Apart, true, a, l), // Meet
+        14 => Kind::Closed(a), // Closed
+        15 => Kind::Facts(Pick::Open(a)), // Open
+        16 => Kind::Ends(Ask::Less, false, a, l), // Less
+        17 => Kind::Ends(Ask::Less, true, a, l), // Notless
+        18 => Kind::Ends(Ask::LessEq, false, a, l), // Lesseq
+        19 => Kind::Ends(Ask::LessEq, true, a, l), // Notlesseq
+        20 => Kind::Lang(false, a), // Onelang
+        21 => Kind::Lang(true, a), // Manylang
+        22 => Kind::Facts(Pick::From(p)), // From
+        23 => Kind::Facts(Pick::Into(p)), // Into
+        24 => Kind::Facts(Pick::Typed(c)), // Typed
+        25..=65535 => Kind::Empty,
+    }
+}
+
+// The set of step k, from the sets of the steps before it. The rows of ends that it looks at are kept for the next step: first
+// holds those of number end, and second those of number link.
 fn step_set(
-    f: &mut [u64],
-    e: &mut usize,
-    s: &mut [u64],
-    t: &mut usize,
+    first: &mut [u64],
+    end: &mut usize,
+    second: &mut [u64],
+    link: &mut usize,
     cells: &[u16],
     index: &[u16],
     values: &[i64],
@@ -71,45 +128,25 @@ fn step_set(
     work: &[u64],
     k: usize,
 ) -> NodeSet
-    requires { ⌜ Tables (now cells) (now index) × (k < 512) × (stepOk (now cells) k (stepAt (now plan) k) ≡ true) × Held (now cells) (now e) (now f) × Held (now cells) (now t) (now s) ⌝ }
+    requires { ⌜ Tables (now cells) (now index) × (k < 512) × (stepOk (now cells) k (stepAt (now plan) k) ≡ true) × Held (now cells) (now end) (now first) × Held (now cells) (now link) (now second) ⌝ }
     ensures { λ r. ⌜ r .words ≡ stepFrom (now (cells .entry)) (now (values .entry)) (now (plan .entry)) (now (work .entry)) k ⌝ }
-    ensures { λ _. ⌜ Held (now (cells .entry)) (now (e .exit)) (now (f .exit)) ⌝ }
-    ensures { λ _. ⌜ Held (now (cells .entry)) (now (t .exit)) (now (s .exit)) ⌝ }
+    ensures { λ _. ⌜ Held (now (cells .entry)) (now (end .exit)) (now (first .exit)) ⌝ }
+    ensures { λ _. ⌜ Held (now (cells .entry)) (now (link .exit)) (now (second .exit)) ⌝ }
 {
     let n = node_count(cells);
-    let a = step_first(plan, k);
-    let b = step_second(plan, k);
-    let count = Ask::Count(step_third(plan, k), step_fourth(plan, k));
-    let c = step_node(plan, k);
-    let p = step_link(plan, k);
-    let l = step_second_link(plan, k);
-    match step_code(plan, k) {
-        0 => NodeSet::whole(n),
-        1 => NodeSet::EMPTY,
-        2 => plain_set(Ask::Is(c), false, cells, values),
-        3 => plain_set(Ask::Is(c), true, cells, values),
-        4 => plain_set(Ask::Test(a), false, cells, values),
-        5 => plain_set(Ask::Test(a), true, cells, values),
-        6 => both_set(work, a, b, n),
-        7 => either_set(work, a, b, n),
-        8 => path_set(f, e, count, false, cells, index, values, a, work, b),
-        9 => path_set(f, e, Ask::Every, false, cells, index, values, a, work, b),
-        10 => ends_set(f, e, s, t, Ask::Equal, false, cells, index, values, a, l),
-        11 => ends_set(f, e, s, t, Ask::Equal, true, cells, index, values, a, l),
-        12 => ends_set(f, e, s, t, Ask::Apart, false, cells, index, values, a, l),
-        13 => ends_set(f, e, s, t, Ask::Apart, true, cells, index, values, a, l),
-        14 => closed_set(cells, a),
-        15 => facts_set(Pick::Open(a), cells, index),
-        16 => ends_set(f, e, s, t, Ask::Less, false, cells, index, values, a, l),
-        17 => ends_set(f, e, s, t, Ask::Less, true, cells, index, values, a, l),
-        18 => ends_set(f, e, s, t, Ask::LessEq, false, cells, index, values, a, l),
-        19 => ends_set(f, e, s, t, Ask::LessEq, true, cells, index, values, a, l),
-        20 => lang_set(f, e, false, cells, index, values, a),
-        21 => lang_set(f, e, true, cells, index, values, a),
-        22 => facts_set(Pick::From(p), cells, index),
-        23 => facts_set(Pick::Into(p), cells, index),
-        24 => facts_set(Pick::Typed(c), cells, index),
-        25..=65535 => NodeSet::EMPTY,
+    match step_kind(plan, k) {
+        Kind::Whole => NodeSet::whole(n),
+        Kind::Empty => NodeSet::EMPTY,
+        Kind::Node(ask, b) => plain_set(ask, b, cells, values),
+        Kind::Both(i, j) => both_set(work, i, j, n),
+        Kind::Either(i, j) => either_set(work, i, j, n),
+        Kind::Path(ask, p, j) => path_set(first, end, ask, false, cells, index, values, p, work, j),
+        Kind::Ends(ask, b, f, l) => {
+            ends_set(first, end, second, link, ask, b, cells, index, values, f, l)
+        }
+        Kind::Lang(b, p) => lang_set(first, end, b, cells, index, values, p),
+        Kind::Closed(e) => closed_set(cells, e),
+        Kind::Facts(pick) => facts_set(pick, cells, index),
     }
 }
 
