@@ -4,7 +4,6 @@ use mathlib.Core.List.{List}
 use mathlib.Core.Option.{Option}
 use mathlib.Core.Bool.{Bool, true, false, not, cond, _&&_, true≢false}
 use mathlib.Core.Path.{_≡_, refl, sym, ap, _∙_}
-use native.Mathlib.Omega.{arith}
 use lib.Dec.{leb}
 use lib.IntN.{ℤ}
 use lib.ListN.{length, take}
@@ -12,7 +11,7 @@ use borrow.Author.Tests.{leb-true, not-true, not-false}
 use Rattle.base.proofs.Bools.{and-left, and-right}
 use Rattle.model.specs.Graph.{holds}
 use Rattle.model.specs.declared.Refusal.{Refusal}
-use Rattle.model.specs.Refusals.{codeOf, lineOf}
+use Rattle.model.specs.Refusals.{codeOf}
 use Rattle.tables.specs.Layout.{cellCount, valueCount}
 use Rattle.tables.specs.Sizes.{longEnough}
 use Rattle.tables.proofs.Sizes.{Long, long}

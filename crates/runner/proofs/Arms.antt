@@ -5,7 +5,7 @@ use mathlib.Core.Path.{_≡_, refl, sym, ap, _∙_}
 use lib.ListN.{List·getD-eq-default}
 use Rattle.model.specs.declared.NodeNo.{NodeNo}
 use Rattle.model.specs.declared.LinkNo.{LinkNo}
-use Rattle.plan.specs.Steps.{Step, stepOf}
+use Rattle.plan.specs.Steps.{stepOf}
 use Rattle.plan.specs.Layout.{stepAt, stepCodeAt, stepFirstAt, stepSecondAt, stepThirdAt, stepFourthAt}
 use Rattle.runner.specs.declared.Kind.{Kind}
 use Rattle.runner.specs.declared.Kind.the-variants.{Empty}

@@ -1,6 +1,6 @@
 -- A number that is none of those below n is at least n: what the last arm of a match on codes knows.
 use Prim.Native.Nat.{ℕ, zero, suc, _≤_, zero-le}
-use mathlib.Core.Path.{_≡_, sym}
+use mathlib.Core.Path.{_≡_}
 use Rattle.tablecheck.proofs.Codes.{next}
 
 abbrev pub Nots : ℕ → ℕ → Type 0

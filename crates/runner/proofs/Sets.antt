@@ -1,19 +1,18 @@
--- What a step asks for, as sixteen words: the set of the step. And what the calls require of it, where the step is right.
+-- What a step asks for: the words that the calls give for it are the step's set, and a right step meets what they require.
 use Prim.Native.Nat.{ℕ, _+_, _-_, _*_, _≤_, _<_, suc}
 use mathlib.Core.List.{List}
 use mathlib.Core.Bool.{Bool, true, false, not, cond, _&&_, _||_, true≢false}
-use mathlib.Core.Path.{_≡_, refl, sym, ap, _∙_, subst}
+use mathlib.Core.Path.{_≡_, refl, sym, ap, _∙_}
 use native.Mathlib.Omega.{arith}
 use lib.Dec.{eqb, ltb, leb}
 use lib.IntN.{ℤ}
 use lib.ListN.{drop, replicate}
 use borrow.Author.Tests.{ne-eqb, ltb-true}
 use Rattle.base.specs.Bounded.{size}
-use Rattle.base.proofs.Bools.{bool-cases, and-left, and-right}
+use Rattle.base.proofs.Bools.{bool-cases, and-left}
 use Rattle.base.proofs.Bounded.{size-beyond}
 use Rattle.nodeset.specs.Words.{has, wordsOf}
 use Rattle.nodeset.proofs.Sets.{zeros}
-use Rattle.model.specs.declared.LinkNo.{LinkNo}
 use Rattle.model.specs.Limits.{maxCount}
 use Rattle.model.specs.Paths as model
 use Rattle.model.specs.Paths.{self, along, endsOf}
@@ -45,7 +44,7 @@ use Rattle.runner.specs.Steps.{stepFrom}
 use Rattle.runner.proofs.Steps.{two-low}
 use Rattle.runner.proofs.Tests.{test-meets, test-fails, opened-by, closed-by}
 
--- ---- what the calls promise, and what they require
+-- the words, as the calls promise them
 module _ (cs : List ℕ) (vs : List ℤ) (ws : List ℕ) where
   unfoldable pub kindSet : Kind → List ℕ
   kindSet Whole = wordsOf (λ v. ltb v (nodeCount cs)) 16
@@ -59,6 +58,7 @@ module _ (cs : List ℕ) (vs : List ℤ) (ws : List ℕ) where
   kindSet (Closed e) = nodesOf (λ v. not (picked cs (Open e) v)) (nodeCount cs)
   kindSet (Facts pick) = nodesOf (picked cs pick) (nodeCount cs)
 
+-- what the calls require
 abbrev pub KindOk : List ℕ → Kind → Type 0
 KindOk cs Whole = Unit {0}
 KindOk cs Empty = Unit {0}
@@ -71,103 +71,104 @@ KindOk cs (Lang breaks p) = p < pathCount cs
 KindOk cs (Closed e) = Unit {0}
 KindOk cs (Facts pick) = Unit {0}
 
--- ---- of a right step
-module _ (cs index : List ℕ) (tables : Tables cs index) (k : ℕ) where
-  abbrev n : ℕ
-  n = nodeCount cs
+-- ---- a right step meets it
+module _ (cs : List ℕ) (k : ℕ) (low : k < 512) where
+  -- two lower steps; a path entry and a lower step; a path entry as an END
+  lower : (i j : ℕ) → (ltb i k && ltb j k) ≡ true → (i < 65536) × (j < 65536)
+  lower i j w = let l : (i < k) × (j < k) = two-low i j k k w in (omega arith, omega arith)
 
-  -- lower steps; a path entry as an END
-  lower : k < 512 → (i j : ℕ) → (ltb i k && ltb j k) ≡ true → (i < 65536) × (j < 65536)
-  lower low i j w = let l : (i < k) × (j < k) = two-low i j k k w in (omega arith, omega arith)
-
-  on-path : k < 512 → (p j : ℕ) → (ltb p (pathCount cs) && ltb j k) ≡ true → (p < pathCount cs) × (j < 65536) × (true ≡ true)
-  on-path low p j w = let l : (p < pathCount cs) × (j < k) = two-low p j (pathCount cs) k w in (l .0, omega arith, refl)
+  on-path : (p j : ℕ) → (ltb p (pathCount cs) && ltb j k) ≡ true → (p < pathCount cs) × (j < 65536) × (true ≡ true)
+  on-path p j w = let l : (p < pathCount cs) × (j < k) = two-low p j (pathCount cs) k w in (l .0, omega arith, refl)
 
   an-end : (p l : ℕ) → (ltb p (pathCount cs) && ltb l (linkCount cs)) ≡ true → endOk cs p ≡ true
   unfolding endOk
   an-end p l w = ap (λ (x : Bool). x || eqb p noNumber) (and-left (ltb p (pathCount cs)) (ltb l (linkCount cs)) w)
 
-  pub kind-ok : k < 512 → (s : Step) → stepOk cs k s ≡ true → KindOk cs (kindOf s)
+  pub kind-ok : (s : Step) → stepOk cs k s ≡ true → KindOk cs (kindOf s)
   unfolding kindOf stepOk askOk
-  kind-ok low Step.all w = tt
-  kind-ok low Step.none w = tt
-  kind-ok low (Step.is c) w = refl
-  kind-ok low (Step.isnot c) w = refl
-  kind-ok low (Step.test e) w = test-codes cs e w
-  kind-ok low (Step.untest e) w = test-codes cs e w
-  kind-ok low (Step.both i j) w = lower low i j w
-  kind-ok low (Step.either i j) w = lower low i j w
-  kind-ok low (Step.count p j lo hi) w = on-path low p j (and-left (ltb p (pathCount cs) && ltb j k) (leb lo (suc maxCount) && upperOk cs hi) w)
-  kind-ok low (Step.every p j) w = on-path low p j w
-  kind-ok low (Step.equal f l) w = (and-left (endOk cs f) (ltb l (linkCount cs)) w, refl)
-  kind-ok low (Step.unequal f l) w = (and-left (endOk cs f) (ltb l (linkCount cs)) w, refl)
-  kind-ok low (Step.apart f l) w = (and-left (endOk cs f) (ltb l (linkCount cs)) w, refl)
-  kind-ok low (Step.meet f l) w = (and-left (endOk cs f) (ltb l (linkCount cs)) w, refl)
-  kind-ok low (Step.closed e) w = tt
-  kind-ok low (Step.opened e) w = tt
-  kind-ok low (Step.less p l) w = (an-end p l w, refl)
-  kind-ok low (Step.notless p l) w = (an-end p l w, refl)
-  kind-ok low (Step.lesseq p l) w = (an-end p l w, refl)
-  kind-ok low (Step.notlesseq p l) w = (an-end p l w, refl)
-  kind-ok low (Step.onelang p) w = ltb-true p (pathCount cs) w
-  kind-ok low (Step.manylang p) w = ltb-true p (pathCount cs) w
-  kind-ok low (Step.from l) w = tt
-  kind-ok low (Step.into l) w = tt
-  kind-ok low (Step.typed c) w = tt
-  kind-ok low Step.bad w = tt
+  kind-ok Step.all w = tt
+  kind-ok Step.none w = tt
+  kind-ok (Step.is c) w = refl
+  kind-ok (Step.isnot c) w = refl
+  kind-ok (Step.test e) w = test-codes cs e w
+  kind-ok (Step.untest e) w = test-codes cs e w
+  kind-ok (Step.both i j) w = lower i j w
+  kind-ok (Step.either i j) w = lower i j w
+  kind-ok (Step.count p j lo hi) w = on-path p j (and-left (ltb p (pathCount cs) && ltb j k) (leb lo (suc maxCount) && upperOk cs hi) w)
+  kind-ok (Step.every p j) w = on-path p j w
+  kind-ok (Step.equal f l) w = (and-left (endOk cs f) (ltb l (linkCount cs)) w, refl)
+  kind-ok (Step.unequal f l) w = (and-left (endOk cs f) (ltb l (linkCount cs)) w, refl)
+  kind-ok (Step.apart f l) w = (and-left (endOk cs f) (ltb l (linkCount cs)) w, refl)
+  kind-ok (Step.meet f l) w = (and-left (endOk cs f) (ltb l (linkCount cs)) w, refl)
+  kind-ok (Step.closed e) w = tt
+  kind-ok (Step.opened e) w = tt
+  kind-ok (Step.less p l) w = (an-end p l w, refl)
+  kind-ok (Step.notless p l) w = (an-end p l w, refl)
+  kind-ok (Step.lesseq p l) w = (an-end p l w, refl)
+  kind-ok (Step.notlesseq p l) w = (an-end p l w, refl)
+  kind-ok (Step.onelang p) w = ltb-true p (pathCount cs) w
+  kind-ok (Step.manylang p) w = ltb-true p (pathCount cs) w
+  kind-ok (Step.from l) w = tt
+  kind-ok (Step.into l) w = tt
+  kind-ok (Step.typed c) w = tt
+  kind-ok Step.bad w = tt
 
-  module _ (vs : List ℤ) (ws : List ℕ) where
-    -- the ends are nodes: there is nothing to count past the last
-    counted : (p j lo hi : ℕ) → kindSet cs vs ws (kindOf (Step.count p j lo hi)) ≡ nodesOf (inStep cs vs (Step.count p j lo hi) (λ j. has (drop (16 * j) ws))) n
-    unfolding kindSet kindOf inStep asked graphAt endsOf
-    counted p j lo hi = nodes-ext _ _ n (λ v l.
-        let q : ℕ → Bool = λ w. from (graphAt cs vs) (pathAt cs p) v w && has (drop (16 * j) ws) w in
-        ap (within lo (upperOf hi)) (ap (size q) (let z : 1024 ≡ n + (1024 - n) = omega (arith, sound cs (tables .ok) .nodes) in z) ∙ size-beyond q n (1024 - n) (λ w m. past v l w m)))
-      where
-        past : (v : ℕ) → v < n → (w : ℕ) → n ≤ w → (from (graphAt cs vs) (pathAt cs p) v w && has (drop (16 * j) ws) w) ≡ false
-        past v l w m = bool-cases (λ t. from (graphAt cs vs) (pathAt cs p) v w ≡ t → (t && has (drop (16 * j) ws) w) ≡ false) (from (graphAt cs vs) (pathAt cs p) v w) (λ _ q. let z : w < n = ends-low cs index tables (along (pathAt cs p)) v w l q in absurd (omega arith)) (λ _ q. refl) refl
+-- ---- the words are those of its set
+module _ (cs index : List ℕ) (tables : Tables cs index) (vs : List ℤ) (ws : List ℕ) (k : ℕ) where
+  abbrev n : ℕ
+  n = nodeCount cs
 
-    -- a path entry is no `id`
-    no-id : (p l : ℕ) → (ltb p (pathCount cs) && ltb l (linkCount cs)) ≡ true → endAt cs p ≡ along (pathAt cs p)
-    unfolding endAt
-    no-id p l w =
-        let low : p < pathCount cs = ltb-true p (pathCount cs) (and-left (ltb p (pathCount cs)) (ltb l (linkCount cs)) w) in
-        ap (λ (t : Bool). cond t self (along (pathAt cs p))) (ne-eqb p noNumber (λ q. let z : ⊥ = omega (arith, sound cs (tables .ok) .paths) in z))
+  -- the ends are nodes: there is nothing to count past the last
+  counted : (p j lo hi : ℕ) → kindSet cs vs ws (kindOf (Step.count p j lo hi)) ≡ nodesOf (inStep cs vs (Step.count p j lo hi) (λ j. has (drop (16 * j) ws))) n
+  unfolding kindSet kindOf inStep asked graphAt endsOf
+  counted p j lo hi = nodes-ext _ _ n (λ v l.
+      let q : ℕ → Bool = λ w. from (graphAt cs vs) (pathAt cs p) v w && has (drop (16 * j) ws) w in
+      ap (within lo (upperOf hi)) (ap (size q) (let z : 1024 ≡ n + (1024 - n) = omega (arith, sound cs (tables .ok) .nodes) in z) ∙ size-beyond q n (1024 - n) (λ w m. past v l w m)))
+    where
+      past : (v : ℕ) → v < n → (w : ℕ) → n ≤ w → (from (graphAt cs vs) (pathAt cs p) v w && has (drop (16 * j) ws) w) ≡ false
+      past v l w m = bool-cases (λ t. from (graphAt cs vs) (pathAt cs p) v w ≡ t → (t && has (drop (16 * j) ws) w) ≡ false) (from (graphAt cs vs) (pathAt cs p) v w) (λ _ q. let z : w < n = ends-low cs index tables (along (pathAt cs p)) v w l q in absurd (omega arith)) (λ _ q. refl) refl
 
-    by-path : (ask : Ask) (breaks : Bool) (p l : ℕ) → (ltb p (pathCount cs) && ltb l (linkCount cs)) ≡ true → nodesOf (λ v. orNot breaks (asked cs vs ask (starts (graphAt cs vs) (endAt cs p) v) (objects (graphAt cs vs) l v) v)) n ≡ nodesOf (λ v. orNot breaks (asked cs vs ask (from (graphAt cs vs) (pathAt cs p) v) (objects (graphAt cs vs) l v) v)) n
-    unfolding endsOf
-    by-path ask breaks p l w = ap (λ (f : model.End). nodesOf (λ v. orNot breaks (asked cs vs ask (starts (graphAt cs vs) f v) (objects (graphAt cs vs) l v) v)) n) (no-id p l w)
+  -- a path entry is no `id`
+  no-id : (p l : ℕ) → (ltb p (pathCount cs) && ltb l (linkCount cs)) ≡ true → endAt cs p ≡ along (pathAt cs p)
+  unfolding endAt
+  no-id p l w =
+      let low : p < pathCount cs = ltb-true p (pathCount cs) (and-left (ltb p (pathCount cs)) (ltb l (linkCount cs)) w) in
+      ap (λ (t : Bool). cond t self (along (pathAt cs p))) (ne-eqb p noNumber (λ q. let z : ⊥ = omega (arith, sound cs (tables .ok) .paths) in z))
 
-    kind-set : (s : Step) → stepOk cs k s ≡ true → kindSet cs vs ws (kindOf s) ≡ nodesOf (inStep cs vs s (λ j. has (drop (16 * j) ws))) n
-    unfolding kindSet kindOf stepOk inStep asked graphAt subset
-    kind-set Step.all w = nodes-all n
-    kind-set Step.none w = zeros 16 ∙ nodes-never n
-    kind-set (Step.is c) w = refl
-    kind-set (Step.isnot c) w = refl
-    kind-set (Step.test e) w = nodes-ext _ _ n (λ v l. test-meets cs vs e w v)
-    kind-set (Step.untest e) w = nodes-ext _ _ n (λ v l. test-fails cs vs e w v)
-    kind-set (Step.both i j) w = refl
-    kind-set (Step.either i j) w = refl
-    kind-set (Step.count p j lo hi) w = counted p j lo hi
-    kind-set (Step.every p j) w = refl
-    kind-set (Step.equal f l) w = refl
-    kind-set (Step.unequal f l) w = nodes-ext _ _ n (λ v m. not-equal n (starts (graphAt cs vs) (endAt cs f) v) (objects (graphAt cs vs) l v))
-    kind-set (Step.apart f l) w = refl
-    kind-set (Step.meet f l) w = nodes-ext _ _ n (λ v m. not-apart n (starts (graphAt cs vs) (endAt cs f) v) (objects (graphAt cs vs) l v))
-    kind-set (Step.closed e) w = nodes-ext _ _ n (λ v l. ap not (picked-open cs vs v e) ∙ closed-by cs vs e w v)
-    kind-set (Step.opened e) w = nodes-ext _ _ n (λ v l. picked-open cs vs v e ∙ opened-by cs vs e w v)
-    kind-set (Step.less p l) w = by-path Less false p l w
-    kind-set (Step.notless p l) w = by-path Less true p l w ∙ nodes-ext _ _ n (λ v m. not-pairs n (from (graphAt cs vs) (pathAt cs p) v) (objects (graphAt cs vs) l v) _ _ (λ x y. not-less (termAt cs vs x) (termAt cs vs y)))
-    kind-set (Step.lesseq p l) w = by-path LessEq false p l w
-    kind-set (Step.notlesseq p l) w = by-path LessEq true p l w ∙ nodes-ext _ _ n (λ v m. not-pairs n (from (graphAt cs vs) (pathAt cs p) v) (objects (graphAt cs vs) l v) _ _ (λ x y. not-lessEq (termAt cs vs x) (termAt cs vs y)))
-    kind-set (Step.onelang p) w = refl
-    kind-set (Step.manylang p) w = nodes-ext _ _ n (λ v l. not-pairs n (from (graphAt cs vs) (pathAt cs p) v) (from (graphAt cs vs) (pathAt cs p) v) _ _ (not-clash (termAt cs vs)))
-    kind-set (Step.from l) w = nodes-ext _ _ n (λ v m. picked-from cs vs v (record { 0 = l }))
-    kind-set (Step.into l) w = nodes-ext _ _ n (λ v m. picked-into cs vs v (record { 0 = l }))
-    kind-set (Step.typed c) w = nodes-ext _ _ n (λ v m. picked-typed cs vs v (record { 0 = c }))
-    kind-set Step.bad w = absurd (true≢false (sym w))
+  by-path : (ask : Ask) (breaks : Bool) (p l : ℕ) → (ltb p (pathCount cs) && ltb l (linkCount cs)) ≡ true → nodesOf (λ v. orNot breaks (asked cs vs ask (starts (graphAt cs vs) (endAt cs p) v) (objects (graphAt cs vs) l v) v)) n ≡ nodesOf (λ v. orNot breaks (asked cs vs ask (from (graphAt cs vs) (pathAt cs p) v) (objects (graphAt cs vs) l v) v)) n
+  unfolding endsOf
+  by-path ask breaks p l w = ap (λ (f : model.End). nodesOf (λ v. orNot breaks (asked cs vs ask (starts (graphAt cs vs) f v) (objects (graphAt cs vs) l v) v)) n) (no-id p l w)
 
-    -- of step k
-    pub kind-from : (ps : List ℕ) → stepOk cs k (stepAt ps k) ≡ true → kindSet cs vs ws (kindOf (stepAt ps k)) ≡ stepFrom cs vs ps ws k
-    unfolding stepFrom
-    kind-from ps w = kind-set (stepAt ps k) w
+  kind-set : (s : Step) → stepOk cs k s ≡ true → kindSet cs vs ws (kindOf s) ≡ nodesOf (inStep cs vs s (λ j. has (drop (16 * j) ws))) n
+  unfolding kindSet kindOf stepOk inStep asked graphAt subset
+  kind-set Step.all w = nodes-all n
+  kind-set Step.none w = zeros 16 ∙ nodes-never n
+  kind-set (Step.is c) w = refl
+  kind-set (Step.isnot c) w = refl
+  kind-set (Step.test e) w = nodes-ext _ _ n (λ v l. test-meets cs vs e w v)
+  kind-set (Step.untest e) w = nodes-ext _ _ n (λ v l. test-fails cs vs e w v)
+  kind-set (Step.both i j) w = refl
+  kind-set (Step.either i j) w = refl
+  kind-set (Step.count p j lo hi) w = counted p j lo hi
+  kind-set (Step.every p j) w = refl
+  kind-set (Step.equal f l) w = refl
+  kind-set (Step.unequal f l) w = nodes-ext _ _ n (λ v m. not-equal n (starts (graphAt cs vs) (endAt cs f) v) (objects (graphAt cs vs) l v))
+  kind-set (Step.apart f l) w = refl
+  kind-set (Step.meet f l) w = nodes-ext _ _ n (λ v m. not-apart n (starts (graphAt cs vs) (endAt cs f) v) (objects (graphAt cs vs) l v))
+  kind-set (Step.closed e) w = nodes-ext _ _ n (λ v l. ap not (picked-open cs vs v e) ∙ closed-by cs vs e w v)
+  kind-set (Step.opened e) w = nodes-ext _ _ n (λ v l. picked-open cs vs v e ∙ opened-by cs vs e w v)
+  kind-set (Step.less p l) w = by-path Less false p l w
+  kind-set (Step.notless p l) w = by-path Less true p l w ∙ nodes-ext _ _ n (λ v m. not-pairs n (from (graphAt cs vs) (pathAt cs p) v) (objects (graphAt cs vs) l v) _ _ (λ x y. not-less (termAt cs vs x) (termAt cs vs y)))
+  kind-set (Step.lesseq p l) w = by-path LessEq false p l w
+  kind-set (Step.notlesseq p l) w = by-path LessEq true p l w ∙ nodes-ext _ _ n (λ v m. not-pairs n (from (graphAt cs vs) (pathAt cs p) v) (objects (graphAt cs vs) l v) _ _ (λ x y. not-lessEq (termAt cs vs x) (termAt cs vs y)))
+  kind-set (Step.onelang p) w = refl
+  kind-set (Step.manylang p) w = nodes-ext _ _ n (λ v l. not-pairs n (from (graphAt cs vs) (pathAt cs p) v) (from (graphAt cs vs) (pathAt cs p) v) _ _ (not-clash (termAt cs vs)))
+  kind-set (Step.from l) w = nodes-ext _ _ n (λ v m. picked-from cs vs v (record { 0 = l }))
+  kind-set (Step.into l) w = nodes-ext _ _ n (λ v m. picked-into cs vs v (record { 0 = l }))
+  kind-set (Step.typed c) w = nodes-ext _ _ n (λ v m. picked-typed cs vs v (record { 0 = c }))
+  kind-set Step.bad w = absurd (true≢false (sym w))
+
+  -- of step k
+  pub kind-from : (ps : List ℕ) → stepOk cs k (stepAt ps k) ≡ true → kindSet cs vs ws (kindOf (stepAt ps k)) ≡ stepFrom cs vs ps ws k
+  unfolding stepFrom
+  kind-from ps w = kind-set (stepAt ps k) w

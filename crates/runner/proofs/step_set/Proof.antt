@@ -39,11 +39,12 @@ calls = (node-count-reads.Asked, node-count-reads.Learnt, step-kind-reads.Asked,
 abbrev Place : Type 0
 Place = lts.After-step-kind calls reads.Pre reads.Post
 
+-- the words that its kind asks for are its set; what the calls require of its kind
 words : (c : Place) {x : Kind} → c .step-kind .result ≡ x → kindSet (now (c .before .before .before .before .before .before .before .before .args .cells)) (now (c .before .before .before .before .before .before .before .before .args .values)) (now (c .before .before .before .before .before .before .before .before .args .work)) x ≡ stepFrom (now (c .before .before .before .before .before .before .before .before .args .cells)) (now (c .before .before .before .before .before .before .before .before .args .values)) (now (c .before .before .before .before .before .before .before .before .args .plan)) (now (c .before .before .before .before .before .before .before .before .args .work)) (c .before .before .before .before .before .before .before .before .args .k)
-words c e = ap (kindSet (now (c .before .before .before .before .before .before .before .before .args .cells)) (now (c .before .before .before .before .before .before .before .before .args .values)) (now (c .before .before .before .before .before .before .before .before .args .work))) (sym e ∙ c .step-kind .ensures) ∙ kind-from (now (c .before .before .before .before .before .before .before .before .args .cells)) (now (c .before .before .before .before .before .before .before .before .args .index)) (c .before .before .before .before .before .before .before .before .pre .0) (c .before .before .before .before .before .before .before .before .args .k) (now (c .before .before .before .before .before .before .before .before .args .values)) (now (c .before .before .before .before .before .before .before .before .args .work)) (now (c .before .before .before .before .before .before .before .before .args .plan)) (c .before .before .before .before .before .before .before .before .pre .2)
+words c e = ap (kindSet (now (c .before .before .before .before .before .before .before .before .args .cells)) (now (c .before .before .before .before .before .before .before .before .args .values)) (now (c .before .before .before .before .before .before .before .before .args .work))) (sym e ∙ c .step-kind .ensures) ∙ kind-from (now (c .before .before .before .before .before .before .before .before .args .cells)) (now (c .before .before .before .before .before .before .before .before .args .index)) (c .before .before .before .before .before .before .before .before .pre .0) (now (c .before .before .before .before .before .before .before .before .args .values)) (now (c .before .before .before .before .before .before .before .before .args .work)) (c .before .before .before .before .before .before .before .before .args .k) (now (c .before .before .before .before .before .before .before .before .args .plan)) (c .before .before .before .before .before .before .before .before .pre .2)
 
 right : (c : Place) {x : Kind} → c .step-kind .result ≡ x → KindOk (now (c .before .before .before .before .before .before .before .before .args .cells)) x
-right c e = subst (KindOk (now (c .before .before .before .before .before .before .before .before .args .cells))) (sym (c .step-kind .ensures) ∙ e) (kind-ok (now (c .before .before .before .before .before .before .before .before .args .cells)) (now (c .before .before .before .before .before .before .before .before .args .index)) (c .before .before .before .before .before .before .before .before .pre .0) (c .before .before .before .before .before .before .before .before .args .k) (c .before .before .before .before .before .before .before .before .pre .1) (stepAt (now (c .before .before .before .before .before .before .before .before .args .plan)) (c .before .before .before .before .before .before .before .before .args .k)) (c .before .before .before .before .before .before .before .before .pre .2))
+right c e = subst (KindOk (now (c .before .before .before .before .before .before .before .before .args .cells))) (sym (c .step-kind .ensures) ∙ e) (kind-ok (now (c .before .before .before .before .before .before .before .before .args .cells)) (c .before .before .before .before .before .before .before .before .args .k) (c .before .before .before .before .before .before .before .before .pre .1) (stepAt (now (c .before .before .before .before .before .before .before .before .args .plan)) (c .before .before .before .before .before .before .before .before .args .k)) (c .before .before .before .before .before .before .before .before .pre .2))
 
 few : (c : Place) → nodeCount (now (c .before .before .before .before .before .before .before .before .args .cells)) ≤ 1024
 few c = sound (now (c .before .before .before .before .before .before .before .before .args .cells)) (c .before .before .before .before .before .before .before .before .pre .0 .ok) .nodes
