@@ -28,7 +28,10 @@ struct Line<'a> {
 
 type Changes = Vec<String>;
 
-const KINDS: [(&str, fn(&Line) -> Changes); 8] = [
+/// Its name, and what a line can become.
+type Kind = (&'static str, fn(&Line) -> Changes);
+
+const KINDS: [Kind; 8] = [
     ("relation", relations),
     ("constant", constants),
     ("operator", operators),
@@ -61,7 +64,7 @@ pub fn draw(sites: &[Site], declared: &Declared, n: usize, seed: u64) -> Vec<Fau
 
 /// The faults of a site, a list for each kind that it has.
 fn kinds_of(site: &Site, declared: &Declared) -> Vec<Vec<Fault>> {
-    let faults = |(kind, changes): &(&'static str, fn(&Line) -> Changes)| {
+    let faults = |(kind, changes): &Kind| {
         let of_line = |&line: &usize| {
             let old = &site.text[line];
             let fault =

@@ -148,9 +148,11 @@ fn outcome(status: Option<ExitStatus>, said: &str) -> Outcome {
     }
 }
 
-/// A proof names a need or a fact that the code no longer has, or leaves a new one out: the proof's shape is refused, and no fact.
+/// What is said of a proof that no longer fits the code: it names what the code no longer has, or leaves out what is new there.
+const MISFITS: [&str; 4] = ["Need-", "has no field `", "this pattern needs a function", "components but its type has"];
+
 fn is_misfit(error: &str) -> bool {
-    error.contains("Need-") || error.contains("has no field `")
+    MISFITS.iter().any(|words| error.contains(words))
 }
 
 /// The first error that is not of what only waits for another, or what is not proved of a function that has no proof file.

@@ -17,13 +17,16 @@ pub struct Site {
     pub text: Rc<Vec<String>>,
 }
 
+/// Its name, and the types that it holds.
+pub type Variant = (String, Vec<String>);
+
 /// What the crates declare, by name. Several may have one name.
 #[derive(Default)]
 pub struct Declared {
     /// the types of the parameters of each function and of each variant that holds something
     pub parameters: HashMap<String, Vec<Vec<String>>>,
-    /// the variants of each enum, with the types that each holds
-    pub variants: HashMap<String, Vec<Vec<(String, Vec<String>)>>>,
+    /// the variants of each enum
+    pub variants: HashMap<String, Vec<Vec<Variant>>>,
     /// the value of each constant
     pub constants: HashMap<String, String>,
 }
