@@ -1,16 +1,13 @@
 -- Columns read back, and stores into them.
 use Prim.Native.Nat.{ℕ, zero, suc, _+_, _≤_, _<_}
 use mathlib.Core.List.{List, [], _∷_, _++_}
-use mathlib.Core.Bool.{Bool, true, false}
 use mathlib.Core.Path.{_≡_, refl, sym, ap, ap₂, _∙_, subst}
-use mathlib.Core.Logic.{⊎-elim}
 use native.Mathlib.Nat.{add-assoc, zero-add, suc-add}
 use native.Mathlib.Omega.{arith}
 use lib.Dec.{eqb}
 use lib.ListN.{length, getD, set, length-append, length-set, List·getD-append, List·getD-eq-default}
 use lib.Seq.{getD-append-add, ext-getD, getD-set-same, getD-set-other, set-append-left, getD-append-seam}
 use borrow.Author.Tests.{eqb-true, eqb-false}
-use Rattle.base.specs.Lists.{valuesFrom}
 use Rattle.base.specs.Columns.{Column, pad, flat, offset, column, push}
 use Rattle.base.proofs.Lists.{length-valuesFrom, at-values}
 use Rattle.base.proofs.Bools.{bool-cases}

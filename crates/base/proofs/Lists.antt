@@ -1,14 +1,13 @@
 -- `member`, `anyb`, `allb` and `ascending` of lists put together, and of lists as sets; the list of a function's values.
-use Prim.Native.Nat.{ℕ, zero, suc, _+_, _≤_, _<_}
+use Prim.Native.Nat.{ℕ, zero, suc, _+_, _<_}
 use mathlib.Core.List.{List, [], _∷_, _++_, map}
-use mathlib.Core.Bool.{Bool, true, false, not, _&&_, _||_, or-assoc, and-assoc, or-true, Bool·not-not}
+use mathlib.Core.Bool.{Bool, true, not, _&&_, _||_, or-assoc, and-assoc, or-true, Bool·not-not}
 use mathlib.Core.Path.{_≡_, refl, sym, ap, ap₂, _∙_}
 use mathlib.Core.Logic.{⊎-elim}
-use native.Mathlib.Nat.{add-zero, zero-add, suc-add, add-suc, add-assoc}
+use native.Mathlib.Nat.{add-zero, zero-add, suc-add, add-suc}
 use native.Mathlib.Omega.{arith}
 use lib.Dec.{eqb, ltb}
-use lib.ListN.{length, getD, List·getD-eq-default}
-use borrow.Author.Tests.{ltb-true, ltb-false}
+use lib.ListN.{length, getD}
 use Rattle.base.specs.Bounded.{some}
 use Rattle.base.specs.Lists.{member, anyb, allb, valuesFrom, values, ascending}
 use Rattle.base.proofs.Bools.{and-left, and-right, and-both, or-cases, or-known, same-test, not-or}

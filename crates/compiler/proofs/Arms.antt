@@ -1,9 +1,8 @@
 -- The arms of the match over the entry codes: what a callee stored is the part of the entry with that code.
-use Prim.Native.Nat.{ℕ, suc, _+_, _≤_, _<_}
+use Prim.Native.Nat.{ℕ, _≤_, _<_}
 use mathlib.Core.List.{List, [], _∷_}
 use mathlib.Core.Path.{_≡_, refl, sym, ap, _∙_, subst}
 use native.Mathlib.Nat.{add-zero}
-use native.Mathlib.Omega.{arith}
 use lib.ListN.{getD, List·getD-eq-default}
 use Rattle.tables.specs.Layout.{formCodeAt, formFirstAt, formSecondAt, formThirdAt, formFourthAt, limitAt, rootAt}
 use Rattle.tables.specs.Entries.{Entry, entryOf}

@@ -5,12 +5,12 @@ use mathlib.Core.List.{List}
 use mathlib.Core.Option.{Option}
 use mathlib.Core.Path.{_≡_, refl, sym, ap, ap₂, _∙_, subst}
 use native.Mathlib.Omega.{arith}
-use lib.Dec.{eqb, leb, ltb}
+use lib.Dec.{eqb, ltb}
 use lib.IntN.{ℤ, pos, negsuc}
 use lib.ListN.{replicate}
 use lib.Signed.{ltZ, leZ}
 use borrow.Author.Tests.{eq-eqb, eqb-true, le-leb, leb-true, leb-false, lt-ltb, ltb-true}
-use Rattle.base.specs.Bounded.{_⇒_, every}
+use Rattle.base.specs.Bounded.{_⇒_}
 use Rattle.base.proofs.Bools.{bool-cases, same-test, implies-true, true-implies, and-left, and-right, and-both}
 use Rattle.base.proofs.Bounded.{every-at, every-all}
 use Rattle.nodeset.specs.Words.{has, with}

@@ -1,7 +1,7 @@
 -- How long the tables are, how many entries shapes take, and the ten counts.
 use Prim.Native.Nat.{ℕ, _+_, _<_}
 use mathlib.Core.List.{List, [], _∷_, _++_}
-use mathlib.Core.Path.{_≡_, refl, sym, ap, _∙_}
+use mathlib.Core.Path.{_≡_, sym, ap, _∙_}
 use native.Mathlib.Nat.{zero-add}
 use native.Mathlib.Omega.{arith}
 use lib.ListN.{length, getD, length-append}
@@ -9,7 +9,7 @@ use lib.IntN.{pos}
 use Rattle.base.proofs.Columns.{at-flat, length-flat}
 use Rattle.model.specs.Paths.{Path, predicate, inverse, sequence, alternative, End, self, along}
 use Rattle.model.specs.Shapes.{Test, nodeKind, datatype, languageIn, minInclusive, minExclusive, maxInclusive, maxExclusive, Shape, top, hasShape, hasValue, conj, disj, neg, test, count, forAll, equals, disjoint, closed, lessThan, lessThanEq, uniqueLang}
-use Rattle.model.specs.Books.{Book, Line, link, type, lang, node, fact, shape, rule, Pool, nodes, links, types, langs, shapes, poolNumber, builtIn, joins, newNames, newTerms, newTriples, newShapes, collect, names, rules}
+use Rattle.model.specs.Books.{Book, link, lang, shape, Pool, nodes, links, types, langs, shapes, poolNumber, newTriples, newShapes, collect, names, rules}
 use Rattle.model.specs.Sizes.{pathEntries, endEntries, formEntries, shapePaths, testItems, listItems, sumOver, formsIn, pathsIn, itemsIn}
 use Rattle.tables.specs.Layout.{cellCount, valueCount, nameCount, factCount, pathCount, formCount, itemCount, ruleCount}
 use Rattle.tables.specs.Entries.{PathEntry, inv, seq, alt, Entry}

@@ -11,7 +11,7 @@ use lib.Seq.{ext-getD, slice, length-slice, getD-take, getD-drop, getD-append-ad
 use borrow.Author.Tests.{eqb-true, ltb-true, ltb-false}
 use Rattle.base.specs.Lists.{allb, valuesFrom, values}
 use Rattle.base.specs.Columns.{Column, pad, flat, offset, column}
-use Rattle.base.proofs.Bools.{bool-cases, and-left, and-right, and-both}
+use Rattle.base.proofs.Bools.{bool-cases, and-left, and-right}
 use Rattle.base.proofs.Lists.{length-valuesFrom, at-valuesFrom, Extends}
 use Rattle.base.proofs.Columns.{at-flat, at-pad, length-pad}
 

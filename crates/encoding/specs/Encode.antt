@@ -8,9 +8,8 @@ use Rattle.text.specs.Pool.{poolOf}
 use Rattle.model.specs.Graph.{Term, Triple}
 use Rattle.model.specs.Rules.{Rule}
 use Rattle.model.specs.Books.{Book, Pool, nodes, links, types, langs, shapes, names, collect, newTerms, newTriples, newShapes, rules}
-use Rattle.tables.specs.Entries.{PathEntry, Entry}
 use Rattle.tables.specs.Layout.{linkNames, typeNames, langNames, shapeNames}
-use Rattle.encoding.specs.Rows.{NodeRow, nodeRow, PathRow, pathRow, FormRow, formRow, targetCode, targetOperand}
+use Rattle.encoding.specs.Rows.{nodeRow, PathRow, pathRow, FormRow, formRow, targetCode, targetOperand}
 use Rattle.encoding.specs.Flatten.{Entries, addShapes, rootsOf, noEntries}
 
 -- what a book's lines add up to

@@ -8,7 +8,7 @@ use lib.IntN.{ℤ}
 use Rattle.model.specs.Shapes.{Shape, conj, disj, neg}
 use Rattle.model.specs.Books.{Book}
 use Rattle.model.specs.Sizes.{pathEntries, formEntries, shapePaths, listItems}
-use Rattle.grammar.specs.Syntax.{form, path}
+use Rattle.grammar.specs.Syntax.{form}
 use Rattle.grammar.specs.Reading.{got, refused, Readers, Begun, after, argAt, closeAt}
 use Rattle.stores.specs.Entries.{putForm, shapeCells, shapeValues}
 use Rattle.itemreader.specs.Answers.{restAt}

@@ -1,35 +1,33 @@
 -- What stands after the word of a bracket: how it is written, what is asked of it, and that reading it is exact.
-use Prim.Native.Nat.{ℕ, zero, suc, _+_, _-_, _≤_, _<_, max}
-use mathlib.Core.Path.{_≡_, refl, sym, ap, ap₂, _∙_, subst}
+use Prim.Native.Nat.{ℕ, _+_, _-_, _≤_, max}
+use mathlib.Core.Path.{_≡_, refl, ap, ap₂, _∙_, subst}
 use mathlib.Core.List.{List, [], _∷_, _++_, map}
 use mathlib.Core.Bool.{Bool, true, false, not, cond, _&&_, _||_}
 use mathlib.Core.Logic.{_⊎_, inl, inr, ⊎-elim}
-use native.Mathlib.Nat.{le-refl}
 use native.Mathlib.Omega.{arith}
 use lib.Dec.{eqb, leb}
 use lib.ListN.{length, getD}
 use lib.Seq.{slice, slice-empty}
-use borrow.Author.Tests.{eqb-true, leb-true, le-leb, ltb-true, not-true}
+use borrow.Author.Tests.{ltb-true, not-true}
 use Rattle.base.specs.Range.{inRange}
 use Rattle.base.specs.Lists.{allb}
 use Rattle.base.specs.Bytes.{bytes, eql}
-use Rattle.base.proofs.Bools.{and-left, and-right, and-both, or-cases, never-both, bool-cases}
+use Rattle.base.proofs.Bools.{and-left, and-right, and-both, never-both}
 use Rattle.base.proofs.Bytes.{eql-true, eql-refl}
 use Rattle.text.specs.Items.{edge, itemEnd, isName}
 use Rattle.text.specs.Decimals.{decimal, signed}
 use Rattle.text.proofs.Spans.{Span, span-join, span-head, span-split, span-none, span-nothing}
 use Rattle.text.proofs.Items.{itemEnd-edge}
-use Rattle.text.proofs.Words.{plain, word-item, word-ends, item-span}
+use Rattle.text.proofs.Words.{word-item, word-ends, item-span}
 use Rattle.model.specs.Graph.{iri, langString}
 use Rattle.model.specs.Paths.{Path, predicate, inverse, sequence, alternative, End, self, along}
-use Rattle.model.specs.Shapes.{Kind, Upper, Shape}
-use Rattle.model.specs.Books.{Book, Pool, nodes, links, types, names, collect, newTerms}
+use Rattle.model.specs.Books.{Book, nodes, links, types, names, collect, newTerms}
 use Rattle.model.specs.Sizes.{endEntries}
 use Rattle.model.specs.Valid.{defined, hasRoom, isResource, upperOk, pathOk, endOk, shapeOk, targetOk}
 use Rattle.grammar.specs.Writing.{spaced, bracket, writeKind, writeUpper, nameOf, writePath, writeEnd, writeShape, writeTarget}
 use Rattle.grammar.specs.Valid.{pathDepth, endDepth, shapeDepth, reserved, wellNamed, newName}
 use Rattle.grammar.specs.Syntax.{Slot, used, new, subject, literalType, kindWord, value, low, high, path, end, form, target, list, Arg, Args}
-use Rattle.grammar.specs.Reading.{Read, got, refused, andThen, Begun, after, Readers, usedAt, newAt, endAt, argAt, argsAt}
+use Rattle.grammar.specs.Reading.{Read, got, andThen, Begun, after, Readers, endAt, argAt, argsAt}
 use Rattle.grammar.proofs.Exact.{Exact, Edge, one-of, thens, got-value, got-next, edge-of, edge-inside, ends-of, space-exact, exact-as}
 use Rattle.grammar.proofs.Leaves.{Pools, used-exact, new-exact, subject-exact, literalType-exact, kind-exact, value-exact, low-exact, high-exact, list-exact, named-plain}
 

@@ -1,7 +1,7 @@
 -- A reader is exact for a way of writing: what it accepts is written there, and what is written there it accepts.
-use Prim.Native.Nat.{ℕ, zero, suc, _+_, _≤_, _<_}
+use Prim.Native.Nat.{ℕ, _+_, _≤_, _<_}
 use mathlib.Core.Path.{_≡_, refl, sym, ap, ap₂, _∙_, subst}
-use mathlib.Core.List.{List, [], _∷_, _++_}
+use mathlib.Core.List.{List, _∷_}
 use mathlib.Core.Bool.{Bool, true, false, cond}
 use mathlib.Core.Logic.{_⊎_, inl, inr}
 use native.Mathlib.Omega.{arith}
@@ -14,7 +14,7 @@ use Rattle.text.specs.Items.{edge, itemEnd}
 use Rattle.text.proofs.Parts.{inside}
 use Rattle.text.proofs.Spans.{Span, span-join, span-byte, span-head}
 use Rattle.text.proofs.Words.{plain, Ends, word-ends, word-item, item-span}
-use Rattle.grammar.specs.Reading.{Read, got, refused, andThen, item, spaceAt}
+use Rattle.grammar.specs.Reading.{Read, got, refused, andThen}
 
 -- ---- what an acceptance tells of the tests that led to it
 module _ {A : Type 0} {x : A} {nx : ℕ} where
@@ -115,21 +115,4 @@ check-exact {s = s} {R = R} {W = W} {P = P} t k X =
           let u = X .sound at h x nx (r ∙ p .1) in
           (u .0, (u .1, ap t (sym i) ∙ p .0));
       complete = λ at nx x p q e. ap (λ (r : Read _). andThen r (λ x nx. cond (t x) (got x nx) (refused k))) (X .complete at nx x p (q .0) e) ∙ ap (λ (b : Bool). cond b (got x nx) (refused k)) (q .1);
-    }
-
--- what was read under another name
-pub map-exact : {A B : Type 0} {s : List ℕ} {E : ℕ → Type 0} {R : ℕ → Read A} {W : A → List ℕ} {P : A → Type 0} (f : A → B) (U : B → List ℕ) (Q : B → Type 0)
-    → ((x : A) → U (f x) ≡ W x) → ((x : A) → P x → Q (f x)) → ((y : B) → Q y → (x : A) × (y ≡ f x) × P x) → Exact s E R W P
-    → Exact s E (λ at. andThen (R at) (λ x nx. got (f x) nx)) U Q
-map-exact {s = s} {R = R} {W = W} {P = P} f U Q same to back X =
-    record {
-      sound = λ at h y nx e.
-          let (x, m, r, g) = thens (R at) (λ x nx. got (f x) nx) e in
-          let i : f x ≡ y = got-value g in
-          let j : m ≡ nx = got-next g in
-          let u = X .sound at h x m r in
-          (subst (λ (n : ℕ). Span s at n (U y)) j (subst (λ (w : List ℕ). Span s at m w) (sym (same x) ∙ ap U i) (u .0)), subst Q i (to x (u .1)));
-      complete = λ at nx y p q e.
-          let (x, i, u) = back y q in
-          ap (λ (r : Read _). andThen r (λ x nx. got (f x) nx)) (X .complete at nx x (subst (λ (w : List ℕ). Span s at nx w) (ap U i ∙ same x) p) u e) ∙ ap (λ (z : _). got z nx) (sym i);
     }

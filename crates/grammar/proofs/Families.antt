@@ -6,11 +6,10 @@ use mathlib.Core.Bool.{Bool, true, false, cond}
 use mathlib.Core.Logic.{_⊎_, inl, inr, ⊎-elim}
 use native.Mathlib.Omega.{arith}
 use lib.Dec.{eqb}
-use lib.ListN.{length, getD, length-map, List·getD-map}
+use lib.ListN.{length, getD, List·getD-map}
 use lib.Seq.{slice}
-use borrow.Author.Tests.{eqb-true, eqb-false, eq-eqb, ne-eqb}
+use borrow.Author.Tests.{eqb-true, eq-eqb, ne-eqb}
 use Rattle.base.specs.Lists.{allb}
-use Rattle.base.proofs.Bools.{never-both}
 use Rattle.text.specs.Items.{edge, itemEnd}
 use Rattle.text.specs.Pool.{indexOf}
 use Rattle.text.specs.declared.Found.{Found}
@@ -18,11 +17,11 @@ use Rattle.text.proofs.Spans.{Span, span-join, span-byte, span-head, span-split
 use Rattle.text.proofs.Words.{plain, word-ends, word-item, item-span}
 use Rattle.text.proofs.Places.{index-at}
 use Rattle.model.specs.Books.{Book}
-use Rattle.grammar.specs.Syntax.{Slot, Arg, Args, Family}
-use Rattle.grammar.specs.Reading.{Read, got, refused, andThen, Begun, after, Readers, argsAt, closeAt, bodyAt, headed, bracketAt}
-use Rattle.grammar.proofs.Exact.{Exact, Edge, never-refused, passes, fails, one-of, thens, got-value, got-next, edge-of, ends-of}
+use Rattle.grammar.specs.Syntax.{Args, Family}
+use Rattle.grammar.specs.Reading.{Read, got, refused, andThen, Begun, Readers, argsAt, closeAt, bodyAt, headed, bracketAt}
+use Rattle.grammar.proofs.Exact.{Edge, never-refused, passes, fails, one-of, thens, got-value, got-next, ends-of}
 use Rattle.grammar.proofs.Leaves.{Pools}
-use Rattle.grammar.proofs.Args.{argDepth, argsDepth, afterAll, Fit, proper, writeArgs, argOk, argsOk, Good, AllGood, Exacts, args-edge, args-sound, args-complete}
+use Rattle.grammar.proofs.Args.{Fit, proper, writeArgs, AllGood, Exacts, args-edge, args-sound, args-complete}
 
 -- within a list the default does not matter
 within-list : {A : Type 0} (l : List A) (k : ℕ) (d e : A) → k < length l → getD l k d ≡ getD l k e

@@ -1,22 +1,20 @@
 -- The readers of single items and of lists are exact.
 use Prim.Native.Nat.{ℕ, zero, suc, _+_, _≤_, _<_}
 use mathlib.Core.Path.{_≡_, refl, sym, ap, ap₂, _∙_, subst}
-use mathlib.Core.List.{List, [], _∷_, _++_, map}
+use mathlib.Core.List.{List, [], _∷_, map}
 use mathlib.Core.Bool.{Bool, true, false, not, cond, _&&_, _||_}
-use mathlib.Core.Logic.{_⊎_, inl, inr, ⊎-elim}
-use native.Mathlib.Nat.{le-refl}
+use mathlib.Core.Logic.{_⊎_, ⊎-elim}
 use native.Mathlib.Omega.{arith}
-use lib.Dec.{eqb, ltb, leb}
+use lib.Dec.{eqb, leb}
 use lib.ListN.{length, getD}
-use lib.Seq.{slice}
 use lib.IntN.{ℤ}
-use borrow.Author.Tests.{eqb-true, eqb-false, eq-eqb, ne-eqb, ltb-true, lt-ltb, le-leb, leb-true, not-true}
+use borrow.Author.Tests.{eqb-true, ltb-true, lt-ltb, le-leb, leb-true, not-true}
 use Rattle.base.specs.Range.{inRange}
 use Rattle.base.specs.Lists.{anyb, allb}
 use Rattle.base.specs.Bytes.{bytes, eql}
 use Rattle.base.proofs.Bools.{and-left, and-right, and-both, never-both, bool-cases}
 use Rattle.base.proofs.Bytes.{eql-true, eql-refl}
-use Rattle.text.specs.Items.{edge, itemEnd, isName, nameByte}
+use Rattle.text.specs.Items.{edge, isName}
 use Rattle.text.specs.Decimals.{numberOf, boundOf, decimal, signed, digit}
 use Rattle.text.specs.Pool.{indexOf, firstFrom}
 use Rattle.text.specs.declared.Found.{Found}
@@ -24,8 +22,8 @@ use Rattle.text.specs.declared.Number.{Number}
 use Rattle.text.specs.declared.Bound.{Bound}
 use Rattle.text.proofs.Spans.{Span, span-join, span-byte, span-head, span-split, span-none, span-nothing}
 use Rattle.text.proofs.Words.{plain, names-plain}
-use Rattle.text.proofs.Places.{FirstOf, NoneOf, index-at, index-nothing}
-use Rattle.text.proofs.Inverse.{number-value, bound-value, decimal-digits, decimal-plain, signed-plain, decimal-some}
+use Rattle.text.proofs.Places.{NoneOf, index-at, index-nothing}
+use Rattle.text.proofs.Inverse.{number-value, bound-value, decimal-digits, decimal-plain, signed-plain}
 use Rattle.model.specs.Graph.{iri, langString}
 use Rattle.model.specs.Shapes.{Kind, anIri, aBlank, aLiteral, Upper, atMost, unbounded}
 use Rattle.model.specs.Books.{Name, Book, Pool, nodes, types, names, collect, newTerms}
@@ -33,7 +31,7 @@ use Rattle.model.specs.Valid.{defined, hasRoom, isResource, upperOk}
 use Rattle.grammar.specs.Writing.{nameOf, writeKind, writeUpper, spaced}
 use Rattle.grammar.specs.Valid.{reserved, wellNamed, newName}
 use Rattle.grammar.specs.Reading.{Read, got, refused, andThen, known, unknown, usedAt, newAt, subjectAt, literalTypeAt, kindNumbered, kindAt, valued, valueAt, bounded, lowAt, highAt, listAt}
-use Rattle.grammar.proofs.Exact.{Exact, Edge, never-refused, passes, fails, one-of, thens, got-value, got-next, edge-of, item-exact, check-exact, map-exact, exact-as}
+use Rattle.grammar.proofs.Exact.{Exact, Edge, never-refused, passes, one-of, thens, got-value, got-next, edge-of, item-exact, check-exact, exact-as}
 
 -- the names of each pool are well made and differ
 pub record Pools (above : Book) : Type 0 where

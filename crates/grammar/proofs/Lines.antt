@@ -1,29 +1,27 @@
 -- A line is read exactly: what is accepted is a valid line written there, and a valid line written there is accepted.
-use Prim.Native.Nat.{ℕ, zero, suc, _+_, _≤_, _<_, max}
+use Prim.Native.Nat.{ℕ, suc, _+_, _≤_}
 use mathlib.Core.Path.{_≡_, refl, sym, ap, ap₂, _∙_, subst}
 use mathlib.Core.List.{List, [], _∷_, _++_}
 use mathlib.Core.Bool.{Bool, true, false, not, cond, _&&_, and-true, and-assoc, and-comm}
-use mathlib.Core.Logic.{_⊎_, inl, inr, ⊎-elim}
+use mathlib.Core.Logic.{_⊎_, ⊎-elim}
 use native.Mathlib.Omega.{arith}
 use lib.Dec.{eqb, ltb, leb}
 use lib.ListN.{length, getD}
 use borrow.Author.Tests.{eqb-true, eq-eqb, leb-true, le-leb}
 use Rattle.base.specs.Range.{inRange}
-use Rattle.base.proofs.Bools.{and-left, and-right, and-both, never-both}
+use Rattle.base.proofs.Bools.{and-left, and-right, and-both}
 use Rattle.text.proofs.Spans.{Span, span-join, span-byte, span-split, span-one}
-use Rattle.model.specs.Graph.{Term, iri, blankNode, numeric, plain, tagged, Triple, langString}
-use Rattle.model.specs.Shapes.{Shape}
-use Rattle.model.specs.Rules.{Rule}
-use Rattle.model.specs.Books.{Book, Line, link, type, lang, node, fact, shape, rule, Pool, nodes, links, types, langs, shapes, collect, newTerms, newTriples, rules}
+use Rattle.model.specs.Graph.{iri, blankNode, numeric, plain, tagged, langString}
+use Rattle.model.specs.Books.{Book, Line, link, type, lang, node, fact, shape, rule, nodes, links, types, langs, shapes, collect, newTerms, newTriples, rules}
 use Rattle.model.specs.Sizes.{formEntries, shapePaths, listItems, formsIn, pathsIn, itemsIn}
 use Rattle.model.specs.Valid.{defined, hasRoom, termOk, factOk, isResource, shapeOk, targetOk, entriesFit, lineOk}
 use Rattle.grammar.specs.Writing.{spaced, bracket, writeNode, writeLine}
-use Rattle.grammar.specs.Valid.{shapeDepth, lineDepth, newName, namesOk, validLine}
+use Rattle.grammar.specs.Valid.{lineDepth, newName, namesOk, validLine}
 use Rattle.grammar.specs.Syntax.{Args, LineCode, linkL, typeL, langL, thingL, blankL, numberL, textL, wordsL, factL, shapeL, ruleL, lineFamily}
-use Rattle.grammar.specs.Reading.{Read, got, refused, andThen, Begun, after, bracketAt, readersAt, lineRoom, begunAbove, lineAt}
+use Rattle.grammar.specs.Reading.{Read, got, refused, andThen, after, bracketAt, readersAt, lineRoom, begunAbove, lineAt}
 use Rattle.grammar.proofs.Exact.{never-refused, passes, thens, got-value, got-next}
 use Rattle.grammar.proofs.Leaves.{Pools}
-use Rattle.grammar.proofs.Args.{argsDepth, afterAll, Fit, writeArgs, argsOk, AllGood}
+use Rattle.grammar.proofs.Args.{argsDepth, afterAll, Fit, writeArgs, argsOk}
 use Rattle.grammar.proofs.Families.{Opened, bracket-sound, bracket-complete}
 use Rattle.grammar.proofs.Rows.{line-placed}
 use Rattle.grammar.proofs.Nesting.{readers-exact}

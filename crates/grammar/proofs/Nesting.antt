@@ -1,19 +1,19 @@
 -- PATH, FORM and TARGET are read exactly, whatever they nest: by induction on the brackets that are left to open.
-use Prim.Native.Nat.{ℕ, zero, suc, _+_, _≤_, _<_}
+use Prim.Native.Nat.{ℕ, zero, suc, _≤_, _<_}
 use mathlib.Core.Path.{_≡_, refl, sym, ap, ap₂, _∙_, subst}
-use mathlib.Core.List.{List, [], _∷_, _++_}
+use mathlib.Core.List.{List, [], _∷_}
 use mathlib.Core.Bool.{Bool, true, false, not, cond, _&&_}
 use mathlib.Core.Logic.{_⊎_, inl, inr, ⊎-elim}
 use native.Mathlib.Omega.{arith}
-use lib.Dec.{eqb, leb}
+use lib.Dec.{leb}
 use lib.ListN.{length, getD}
 use lib.Seq.{slice}
-use borrow.Author.Tests.{leb-true, leb-false, lt-leb, ltb-true}
+use borrow.Author.Tests.{leb-false, lt-leb, ltb-true}
 use Rattle.base.specs.Bytes.{bytes, eql}
 use Rattle.base.specs.Lists.{allb}
 use Rattle.base.proofs.Bools.{bool-cases, and-left, never-both}
 use Rattle.base.proofs.Bytes.{eql-true, eql-refl}
-use Rattle.text.specs.Items.{edge, itemEnd, isName, nameByte}
+use Rattle.text.specs.Items.{edge, itemEnd, isName}
 use Rattle.text.proofs.Items.{name-some}
 use Rattle.text.proofs.Spans.{Span, span-head}
 use Rattle.text.proofs.Words.{plain, word-item, word-ends, item-span}
@@ -29,7 +29,7 @@ use Rattle.grammar.specs.Syntax.{Slot, path, form, target, Arg, Args, Fa
 use Rattle.grammar.specs.Reading.{Read, got, refused, andThen, Begun, after, pathBegun, formBegun, Readers, usedAt, linkAt, trueAt, bracketAt, within, noReaders, readersAt}
 use Rattle.grammar.proofs.Exact.{Exact, Edge, never-refused, passes, fails, thens, got-value, got-next, ends-of}
 use Rattle.grammar.proofs.Leaves.{Pools, used-exact, named-plain}
-use Rattle.grammar.proofs.Args.{argDepth, argsDepth, afterAll, Fit, argOk, argsOk, Good, AllGood, Exacts, shrink-all}
+use Rattle.grammar.proofs.Args.{Fit, Good, AllGood, Exacts, shrink-all}
 use Rattle.grammar.proofs.Families.{Placed, Opened, bracket-sound, bracket-bare, bracket-complete}
 use Rattle.grammar.proofs.Rows.{Rows, path-rows, path-placed, form-rows, form-placed, target-rows, target-placed}
 

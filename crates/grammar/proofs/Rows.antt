@@ -1,17 +1,13 @@
 -- Each bracket of the grammar against its row in the definitions: how it is written, what is asked of it, its depth, its entries.
-use Prim.Native.Nat.{ℕ, zero, suc, _+_, _≤_, max}
-use mathlib.Core.Path.{_≡_, refl, sym, ap, ap₂, _∙_}
+use Prim.Native.Nat.{ℕ, suc, _+_}
+use mathlib.Core.Path.{_≡_, refl, sym, ap, _∙_}
 use mathlib.Core.List.{List, [], _∷_, _++_, map, append-nil}
-use mathlib.Core.Bool.{Bool, true, false, _&&_, and-true, and-assoc}
-use mathlib.Core.Logic.{_⊎_, inl, inr}
+use mathlib.Core.Bool.{Bool, true, _&&_, and-true, and-assoc}
 use native.Mathlib.Omega.{arith}
-use Rattle.base.specs.Bytes.{bytes, eql}
+use Rattle.base.specs.Bytes.{eql}
 use Rattle.base.specs.Lists.{allb}
 use Rattle.text.specs.Items.{edge}
 use Rattle.text.specs.Pool.{indexOf, firstFrom}
-use Rattle.model.specs.Paths.{Path, predicate, inverse, sequence, alternative}
-use Rattle.model.specs.Shapes.{nodeKind, datatype, languageIn, minInclusive, minExclusive, maxInclusive, maxExclusive, Shape, top, hasShape, hasValue, conj, disj, neg, test, count, forAll, equals, disjoint, closed, lessThan, lessThanEq, uniqueLang}
-use Rattle.model.specs.Rules.{Target, targetNode, subjectsOf, objectsOf, targetClass}
 use lib.Dec.{leb}
 use Rattle.model.specs.Books.{Book, links, langs}
 use Rattle.model.specs.Sizes.{pathEntries, endEntries, formEntries, shapePaths, testItems, listItems}

@@ -1,13 +1,13 @@
 -- How a book is read: item by item from the left, and at one item the lowest refusal first.
 use Prim.Native.Nat.{ℕ, zero, suc, _+_, _-_}
 use mathlib.Core.List.{List, [], _∷_, _++_, map}
-use mathlib.Core.Bool.{Bool, true, false, not, cond, _&&_}
+use mathlib.Core.Bool.{Bool, true, false, not, cond}
 use lib.Dec.{eqb, ltb, leb}
 use lib.ListN.{length, getD}
 use lib.Seq.{slice}
 use lib.IntN.{ℤ}
 use Rattle.base.specs.Bytes.{bytes, eql}
-use Rattle.text.specs.Items.{itemEnd, isName}
+use Rattle.text.specs.Items.{itemEnd}
 use Rattle.text.specs.Decimals.{numberOf, boundOf}
 use Rattle.text.specs.Pool.{indexOf}
 use Rattle.text.specs.declared.Found.{Found}

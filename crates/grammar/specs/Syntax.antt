@@ -3,10 +3,10 @@ use Prim.Native.Nat.{ℕ}
 use mathlib.Core.List.{List, [], _∷_}
 use lib.IntN.{ℤ}
 use Rattle.base.specs.Bytes.{bytes}
-use Rattle.model.specs.Graph.{iri, blankNode, numeric, plain, tagged, Triple}
+use Rattle.model.specs.Graph.{iri, blankNode, numeric, plain, tagged}
 use Rattle.model.specs.Paths.{Path, inverse, sequence, alternative, End}
 use Rattle.model.specs.Shapes.{Kind, nodeKind, datatype, languageIn, minInclusive, minExclusive, maxInclusive, maxExclusive, Upper, Shape, hasShape, hasValue, conj, disj, neg, test, count, forAll, equals, disjoint, closed, lessThan, lessThanEq, uniqueLang}
-use Rattle.model.specs.Rules.{Target, targetNode, subjectsOf, objectsOf, targetClass, Rule}
+use Rattle.model.specs.Rules.{Target, targetNode, subjectsOf, objectsOf, targetClass}
 use Rattle.model.specs.Books.{Name, Line, link, type, lang, node, fact, shape, rule, Pool, nodes, links, types, langs, shapes}
 
 -- what may stand at a place after the word

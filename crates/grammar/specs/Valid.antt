@@ -1,6 +1,6 @@
 -- When a book is valid: uses, ranges and limits (model, Valid), the spelling of new names, brackets open together, and its length.
 use Prim.Native.Nat.{ℕ, suc, max}
-use mathlib.Core.List.{List, [], _∷_, _++_}
+use mathlib.Core.List.{[], _∷_, _++_}
 use mathlib.Core.Bool.{Bool, true, false, not, _&&_}
 use lib.Dec.{leb}
 use lib.ListN.{length}

@@ -2,13 +2,12 @@
 use Prim.Native.Nat.{ℕ}
 use mathlib.Core.List.{List, [], _∷_, _++_, map}
 use lib.ListN.{getD}
-use lib.IntN.{ℤ}
 use Rattle.base.specs.Bytes.{bytes}
 use Rattle.text.specs.Decimals.{decimal, signed}
-use Rattle.model.specs.Graph.{Term, iri, blankNode, numeric, plain, tagged, Triple}
+use Rattle.model.specs.Graph.{Term, iri, blankNode, numeric, plain, tagged}
 use Rattle.model.specs.Paths.{Path, predicate, inverse, sequence, alternative, End, self, along}
 use Rattle.model.specs.Shapes.{Kind, anIri, aBlank, aLiteral, Test, nodeKind, datatype, languageIn, minInclusive, minExclusive, maxInclusive, maxExclusive, Upper, atMost, unbounded, Shape, top, hasShape, hasValue, conj, disj, neg, test, count, forAll, equals, disjoint, closed, lessThan, lessThanEq, uniqueLang}
-use Rattle.model.specs.Rules.{Target, targetNode, subjectsOf, objectsOf, targetClass, Rule}
+use Rattle.model.specs.Rules.{Target, targetNode, subjectsOf, objectsOf, targetClass}
 use Rattle.model.specs.Books.{Name, Line, link, type, lang, node, fact, shape, rule, Book, Pool, nodes, links, types, langs, shapes, names}
 
 -- items, a space before each

@@ -1,5 +1,5 @@
 -- The head of a bracket: the tests that find it, and what it says of the bracket's reading.
-use Prim.Native.Nat.{ℕ, suc, _+_, _<_, _≤_}
+use Prim.Native.Nat.{ℕ, _+_, _<_, _≤_}
 use mathlib.Core.Path.{_≡_, refl, sym, ap, _∙_}
 use mathlib.Core.List.{List, [], _∷_, map}
 use mathlib.Core.Bool.{Bool, true, false, cond}
@@ -14,7 +14,7 @@ use Rattle.text.specs.Pool.{allNames, find, indexOf}
 use Rattle.text.specs.Pool as pools
 use Rattle.text.specs.declared.Found.{Found}
 use Rattle.text.proofs.Spans.{span-whole}
-use Rattle.text.proofs.Places.{FirstOf, NoneOf, index-at, index-nothing, names-at, find-pool}
+use Rattle.text.proofs.Places.{FirstOf, index-at, index-nothing, names-at, find-pool}
 use Rattle.model.specs.Books.{Book}
 use Rattle.grammar.specs.Syntax.{Slot, Arg, Args, Family}
 use Rattle.grammar.specs.Reading.{Read, got, refused, andThen, Readers, Begun, after, argAt, argsAt, closeAt, bodyAt, bracketAt}

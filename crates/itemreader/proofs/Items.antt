@@ -5,9 +5,9 @@ use mathlib.Core.List.{List, [], _∷_, map}
 use mathlib.Core.Bool.{Bool, true, false, not, cond}
 use native.Mathlib.Omega.{arith}
 use borrow.Author.Tests.{eq-eqb, ne-eqb, le-ltb, lt-ltb, leb-true}
-use lib.Dec.{eqb, ltb, leb}
+use lib.Dec.{eqb, leb}
 use lib.IntN.{ℤ}
-use lib.ListN.{length, getD, drop, set, length-drop}
+use lib.ListN.{length, getD, set}
 use lib.Seq.{slice, length-slice}
 use Rattle.base.specs.Bytes.{bytes, eql}
 use Rattle.base.proofs.Bools.{and-left}
@@ -21,8 +21,8 @@ use Rattle.text.proofs.Parts.{inside}
 use Rattle.text.proofs.Items.{itemEnd-from, itemEnd-within, name-short}
 use Rattle.text.proofs.Places.{FirstOf, find-at, index-at}
 use Rattle.model.specs.Graph.{iri, langString}
-use Rattle.model.specs.Shapes.{Kind, anIri, aBlank, aLiteral, Upper, atMost, unbounded}
-use Rattle.model.specs.Books.{Name, Book, Pool, nodes, links, types, langs, shapes, names, collect, newTerms}
+use Rattle.model.specs.Shapes.{anIri, aBlank, aLiteral, atMost, unbounded}
+use Rattle.model.specs.Books.{Book, Pool, nodes, links, types, langs, shapes, names, collect, newTerms}
 use Rattle.model.specs.Valid.{capacity, hasRoom, isResource}
 use Rattle.tables.specs.Layout.{items}
 use Rattle.encoding.specs.Flatten.{kindCode, upperNumber}
@@ -30,7 +30,7 @@ use Rattle.stores.specs.Entries.{putItems}
 use Rattle.encoding.specs.Encode.{poolBase}
 use Rattle.grammar.specs.Writing.{writeKind}
 use Rattle.grammar.specs.Valid.{wellNamed, reserved}
-use Rattle.grammar.specs.Syntax.{Slot, used, new, subject, literalType, kindWord, value, low, high, list}
+use Rattle.grammar.specs.Syntax.{used, subject, literalType, low, high}
 use Rattle.grammar.specs.Reading.{Read, got, refused, andThen, Readers, Begun, known, usedAt, subjectAt, literalTypeAt, newAt, kindAt, valueAt, lowAt, highAt, listAt, argAt}
 use Rattle.itemreader.specs.declared.Counts.{Counts}
 use Rattle.itemreader.specs.declared.Pool as code

@@ -21,8 +21,7 @@ use Rattle.model.specs.Sizes.{pathEntries, endEntries}
 use Rattle.grammar.specs.Syntax.{Slot, Arg, list, form}
 use Rattle.grammar.specs.Reading.{Read, got, refused, Readers, Begun, after, argAt, listAt, closeAt, trueAt}
 use Rattle.stores.specs.Entries.{putForm, putItems, pathCells, endCells, endOperand, shapeCells, shapeValues}
-use Rattle.itemreader.specs.declared.Value.{Value}
-use Rattle.itemreader.specs.Answers.{valueOf, restAt}
+use Rattle.itemreader.specs.Answers.{restAt}
 use Rattle.itemreader.proofs.Heads.{rest-none, rest-got}
 use Rattle.leafreader.specs.declared.Ended.{Ended}
 use Rattle.leafreader.specs.declared.Form.{Form}

@@ -25,7 +25,7 @@ use Rattle.grammar.specs.Syntax.{Slot, Arg, Args, new, LineCode, linkL, typeL, 
 use Rattle.grammar.specs.Reading.{Read, got, refused, andThen, Readers, Begun, after, unknown, newAt, argAt, argsAt, closeAt, bodyAt, readersAt, lineRoom, begunAbove}
 use Rattle.encoding.specs.Encode.{poolBase}
 use Rattle.stores.specs.Lines.{putName, putNode, putFact, putRule, lineNames, lineCells, lineValues}
-use Rattle.itemreader.specs.Answers.{Reads, valueOf, Inside, restAt}
+use Rattle.itemreader.specs.Answers.{Reads, Inside, restAt}
 use Rattle.itemreader.specs.declared.Value.{Value}
 use Rattle.itemreader.proofs.Items.{item-within, named-short, item-got, item-refused}
 use Rattle.itemreader.proofs.Heads.{rest-got, rest-refused, close-not, close-full, close-got}

@@ -7,7 +7,7 @@ use lib.Dec.{eqb}
 use lib.ListN.{length, getD, drop, set}
 use lib.IntN.{ℤ}
 use Rattle.model.specs.Graph.{Term, iri, blankNode}
-use Rattle.model.specs.Books.{Name, Line, link, type, lang, node, fact, shape, rule, Book, Pool, nodes, links, types, langs, shapes, newNames, newTriples, newShapes, newRules}
+use Rattle.model.specs.Books.{Name, Line, link, type, lang, node, shape, Book, Pool, nodes, links, types, langs, shapes, newNames, newTriples, newShapes, newRules}
 use Rattle.model.specs.Shapes.{top}
 use Rattle.model.specs.Rules.{Target}
 use Rattle.model.specs.Sizes.{formEntries, shapePaths, listItems, sumOver}

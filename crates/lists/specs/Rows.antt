@@ -1,5 +1,5 @@
 -- The list of a rule, read off the work space; and the rows of all rules.
-use Prim.Native.Nat.{ℕ, zero, suc, _+_, _*_, _≤_}
+use Prim.Native.Nat.{ℕ, zero, suc, _+_, _*_}
 use mathlib.Core.List.{List, _++_}
 use lib.ListN.{length, take, drop, set, getD}
 use Rattle.base.specs.Bounded.{members}

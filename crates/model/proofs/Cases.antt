@@ -1,17 +1,15 @@
 -- The cases hold, by computation. `starred-hold` is the one theorem for document 01's starred cases.
-use mathlib.Core.List.{[], _∷_, List}
+use mathlib.Core.List.{[], _∷_}
 use mathlib.Core.Bool.{true}
 use mathlib.Core.Path.{_≡_, refl}
-use lib.ListN.{getD}
-use Prim.Native.Nat.{ℕ}
 use Rattle.base.specs.Bytes.{bytes}
 use Rattle.base.specs.Bounded.{some, every, one, size, members}
 use Rattle.base.specs.Lists.{anyb, allb, member}
 use Rattle.model.specs.Graph.{valueOf, datatypeOf, languageOf, holds, hasTriple}
 use Rattle.model.specs.Paths.{ends, endsOf}
 use Rattle.model.specs.Shapes.{isKind, satisfies, within, subset, noneShared, allPairs, less, lessEq, sameLang, conforms, expand}
-use Rattle.model.specs.Rules.{Rule, subjectsOf, selects, violates, violations}
-use Rattle.model.specs.Books.{newTerms, newTriples, newShapes, newNames, newRules, joins, collect, graphOf, schemaFrom, schema, listOf, builtIn, names, nodes, links, rules}
+use Rattle.model.specs.Rules.{subjectsOf, selects, violates, violations}
+use Rattle.model.specs.Books.{newTerms, newTriples, newShapes, newNames, joins, collect, graphOf, schemaFrom, schema, listOf, builtIn, names, nodes, links}
 use Rattle.model.specs.Cases.{agree, bookB, bookC, starred, rows}
 
 pub starred-hold : agree bookB starred ≡ true

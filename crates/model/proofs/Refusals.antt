@@ -1,10 +1,9 @@
 -- A refusal is known by its number and its line.
-use Prim.Native.Nat.{ℕ, _≤_}
-use mathlib.Core.Path.{_≡_, refl}
+use Prim.Native.Nat.{_≤_}
 use native.Mathlib.Omega.{arith}
 use Rattle.model.specs.declared.Refusal.{Refusal}
 use Rattle.model.specs.declared.Refusal.the-variants.{TooLong, Grammar, Range, Nesting, Undefined, Repeated, Limit, Short, Malformed, Absent}
-use Rattle.model.specs.Refusals.{codeOf, lineOf}
+use Rattle.model.specs.Refusals.{codeOf}
 
 -- there are ten numbers
 pub code-range : (r : Refusal) → (1 ≤ codeOf r) × (codeOf r ≤ 10)

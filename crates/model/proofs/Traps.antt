@@ -1,7 +1,7 @@
 -- The traps of document 01, each as a wrong reading of a row and a case in which it gives another answer than the row.
 use Prim.Native.Nat.{ℕ, zero, suc, _+_, _*_}
 use mathlib.Core.List.{List, [], _∷_}
-use mathlib.Core.Bool.{Bool, true, false, not, _&&_, _||_, Bool·beq}
+use mathlib.Core.Bool.{Bool, true, false, not, _&&_, Bool·beq}
 use mathlib.Core.Path.{_≡_, refl}
 use lib.Dec.{eqb, leb}
 use Rattle.base.specs.Bounded.{_⇒_, some, every, one, size}

@@ -4,7 +4,7 @@ use mathlib.Core.List.{List, [], _∷_}
 use mathlib.Core.Bool.{Bool, true, false, Bool·beq, _&&_}
 use lib.IntN.{pos, negsuc}
 use Rattle.base.specs.Bytes.{bytes}
-use Rattle.model.specs.Graph.{iri, blankNode, numeric, plain, tagged, Triple}
+use Rattle.model.specs.Graph.{iri, blankNode, numeric, plain, tagged}
 use Rattle.model.specs.Paths.{Path, predicate, inverse, sequence, alternative, self, along}
 use Rattle.model.specs.Shapes.{Shape, top, hasShape, hasValue, conj, disj, neg, test, count, forAll, equals, disjoint, closed, lessThan, lessThanEq, uniqueLang, nodeKind, datatype, languageIn, minInclusive, minExclusive, maxInclusive, maxExclusive, anIri, aBlank, aLiteral, atMost, unbounded, conforms, expand}
 use Rattle.model.specs.Rules.{subjectsOf}

@@ -6,7 +6,7 @@ use mathlib.Core.Bool.{Bool, not, _&&_}
 use lib.Dec.{eqb}
 use Rattle.base.specs.Bounded.{members}
 use Rattle.base.specs.Lists.{anyb}
-use Rattle.model.specs.Graph.{Triple, Graph, rdfType}
+use Rattle.model.specs.Graph.{Graph, rdfType}
 use Rattle.model.specs.Shapes.{Shape, conforms, def}
 
 -- 01: node, subjects, objects, class

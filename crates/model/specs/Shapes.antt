@@ -9,7 +9,7 @@ use lib.IntN.{ℤ}
 use lib.Signed.{ltZ, leZ}
 use Rattle.base.specs.Bounded.{_⇒_, every, size}
 use Rattle.base.specs.Lists.{member, allb}
-use Rattle.model.specs.Graph.{Term, iri, blankNode, numeric, plain, tagged, Triple, Graph, valueOf, datatypeOf, languageOf, holds, holds₂}
+use Rattle.model.specs.Graph.{Term, iri, blankNode, numeric, plain, tagged, Graph, valueOf, datatypeOf, languageOf, holds, holds₂}
 use Rattle.model.specs.Paths.{Path, predicate, End, ends, endsOf}
 
 -- 01: kind thing, blank, literal

@@ -1,7 +1,7 @@
 -- What document 01 asks of a book besides the spelling of its names: every name used is defined on a line above (so its
 -- number is below the count of its pool there), numbers are in their ranges, and no limit is passed.
 use Prim.Native.Nat.{ℕ, _+_}
-use mathlib.Core.List.{List, [], _∷_, _++_}
+use mathlib.Core.List.{[], _∷_, _++_}
 use mathlib.Core.Bool.{Bool, true, false, not, _&&_}
 use lib.Dec.{eqb, ltb, leb}
 use lib.ListN.{length, getD}
@@ -11,7 +11,7 @@ use Rattle.model.specs.Limits.{maxNodes, maxLinks, maxTypes, maxLangs, m
 use Rattle.model.specs.Graph.{Term, iri, blankNode, numeric, plain, tagged, Triple, langString}
 use Rattle.model.specs.Paths.{Path, predicate, inverse, sequence, alternative, End, self, along}
 use Rattle.model.specs.Shapes.{Test, nodeKind, datatype, languageIn, minInclusive, minExclusive, maxInclusive, maxExclusive, Upper, atMost, unbounded, Shape, top, hasShape, hasValue, conj, disj, neg, test, count, forAll, equals, disjoint, closed, lessThan, lessThanEq, uniqueLang}
-use Rattle.model.specs.Rules.{Target, targetNode, subjectsOf, objectsOf, targetClass, Rule}
+use Rattle.model.specs.Rules.{Target, targetNode, subjectsOf, objectsOf, targetClass}
 use Rattle.model.specs.Books.{Book, Line, link, type, lang, node, fact, shape, rule, Pool, nodes, links, types, langs, shapes, names, collect, newTerms, newTriples, rules}
 use Rattle.model.specs.Sizes.{formEntries, shapePaths, listItems, formsIn, pathsIn, itemsIn}
 

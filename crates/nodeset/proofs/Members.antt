@@ -17,7 +17,7 @@ use Rattle.nodeset.specs.Words.{bit, has}
 use Rattle.nodeset.specs.Members.{nextOf, nextFrom}
 use Rattle.nodeset.specs.Operations.{keeps}
 use Rattle.nodeset.specs.declared.Operation.{Operation}
-use Rattle.nodeset.proofs.Bits.{two, bit-zero}
+use Rattle.nodeset.proofs.Bits.{bit-zero}
 use Rattle.nodeset.proofs.Sets.{has-at}
 
 -- r is the least number from i on and below n that has p, or n where there is none

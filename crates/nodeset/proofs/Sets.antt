@@ -9,7 +9,7 @@ use native.Mathlib.Omega.{arith}
 use lib.Dec.{eqb, ltb, lit<}
 use lib.Pow.{pow-lt}
 use lib.ListN.{length, getD, set, take, drop, replicate, length-set, length-replicate, List·getD-eq-default}
-use lib.Seq.{getD-set-same, getD-set-other, ext-getD, getD-take, getD-drop, length-take-le}
+use lib.Seq.{getD-set-same, getD-set-other, ext-getD, getD-take, getD-drop}
 use lib.Bits.{bitOr, bitAnd, and-le-r, or-lt}
 use lib.Count.{ones}
 use borrow.Author.Tests.{eq-eqb, ne-eqb, eqb-true, eqb-false, lt-ltb, le-ltb, ltb-true, ltb-false}
@@ -107,13 +107,6 @@ module _ {ws : List ℕ} (p : ℕ → Bool) (k : ℕ) (e : ws ≡ wordsOf p k) w
 
   pub small-of : (i : ℕ) → getD ws i 0 < 2 ^ 64
   small-of i = subst (λ (v : List ℕ). getD v i 0 < 2 ^ 64) (sym e) (small-wordsOf p k i)
-
--- the first words of more
-pub first-words : (ws : List ℕ) (k : ℕ) → k ≤ length ws → ((i : ℕ) → getD ws i 0 < 2 ^ 64) → take k ws ≡ wordsOf (has ws) k
-unfolding has
-first-words ws k l small = ext-getD 0 (take k ws) (wordsOf (has ws) k) (length-take-le k ws l ∙ sym (length-wordsOf (has ws) k)) λ i r.
-    let r′ : i < k = subst (λ (n : ℕ). i < n) (length-take-le k ws l) r in
-    getD-take k ws i 0 r′ ∙ sym (wordOf-bit 64 (getD ws i 0) (small i)) ∙ wordOf-ext (bit (getD ws i 0)) (λ d. has ws (i * 64 + d)) 64 (λ d ld. sym (has-at ws i d ld)) ∙ sym (at-wordsOf (has ws) k i r′)
 
 -- ---- zeros
 

@@ -1,7 +1,7 @@
 -- PATH, case by case: what the reading gives by the tests that the code makes, and what is stored.
 use Prim.Native.Nat.{ℕ, zero, suc, _+_, _-_, _<_, _≤_}
 use mathlib.Core.Path.{_≡_, refl, sym, ap, _∙_}
-use mathlib.Core.List.{List, [], _∷_}
+use mathlib.Core.List.{List}
 use mathlib.Core.Bool.{Bool, true, false, cond, true≢false}
 use native.Mathlib.Omega.{arith}
 use native.Mathlib.Numerals.{sub-one}
@@ -16,15 +16,15 @@ use Rattle.text.proofs.Parts.{inside}
 use Rattle.model.specs.Paths.{Path, predicate, inverse, sequence, alternative, End, self, along}
 use Rattle.model.specs.Books.{Book, links}
 use Rattle.model.specs.Sizes.{pathEntries, endEntries}
-use Rattle.grammar.specs.Syntax.{Slot, used, path, end, Family, pathFamily}
+use Rattle.grammar.specs.Syntax.{used, path, end, pathFamily}
 use Rattle.grammar.specs.Reading.{Read, got, refused, andThen, Readers, Begun, pathBegun, after, spaceAt, argAt, endAt, usedAt, closeAt, bodyAt, linkAt, noReaders, within, readersAt}
 use Rattle.stores.specs.Entries.{putPath, pathCells, endCells}
 use Rattle.itemreader.specs.declared.Item.{Item}
 use Rattle.itemreader.specs.declared.Head.{Head}
-use Rattle.itemreader.specs.Answers.{itemOf, headAt, wordsOf}
+use Rattle.itemreader.specs.Answers.{headAt, wordsOf}
 use Rattle.itemreader.proofs.Items.{item-got, item-refused, then-refused, then-got}
 use Rattle.itemreader.proofs.Heads.{bracket-bare, bracket-refused, bracket-word, rest-none, rest-got, rest-refused}
-use Rattle.pathreader.specs.Paths.{pathsAfter, endsAfter, Stored, Done, PathRead, EndRead, Grown, closed}
+use Rattle.pathreader.specs.Paths.{pathsAfter, endsAfter, Done, PathRead, EndRead, Grown, closed}
 
 -- ---- answers
 module _ {A : Type 0} {count : ℕ → A → ℕ} {put : ℕ → A → List ℕ → List ℕ} {n : ℕ} {before after : List ℕ} {r : Item} where

@@ -1,5 +1,5 @@
 -- What reading a PATH or an END answers and leaves in the cells, for what the grammar's reading gives.
-use Prim.Native.Nat.{ℕ, _+_, _<_, _≤_}
+use Prim.Native.Nat.{ℕ, _+_, _≤_}
 use mathlib.Core.Path.{_≡_}
 use mathlib.Core.List.{List}
 use mathlib.Core.Bool.{cond}

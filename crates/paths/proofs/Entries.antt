@@ -1,13 +1,13 @@
 -- Path entries by their code: the path that each is, and that its parts stand before it.
 use Prim.Native.Nat.{ℕ, zero, suc, _≤_, _<_}
-use mathlib.Core.Bool.{true, false, _&&_, true≢false}
+use mathlib.Core.Bool.{true, _&&_, true≢false}
 use mathlib.Core.List.{List}
 use mathlib.Core.Path.{_≡_, refl, sym, ap, _∙_}
 use native.Mathlib.Omega.{arith}
 use lib.Dec.{ltb}
 use borrow.Author.Tests.{ltb-true}
 use Rattle.base.proofs.Bools.{and-left, and-right}
-use Rattle.model.specs.Paths.{Path, predicate, inverse, sequence, alternative}
+use Rattle.model.specs.Paths.{predicate, inverse, sequence, alternative}
 use Rattle.tables.specs.Layout.{pathCount, pathCodeAt, pathFirstAt, pathSecondAt}
 use Rattle.tables.specs.Entries.{PathEntry, link, inv, seq, alt, pathEntryOf}
 use Rattle.tables.specs.Decode.{pathOf, pathEntryAt, pathAt}

@@ -6,7 +6,7 @@ use mathlib.Core.Path.{_≡_, refl, sym, ap, ap₂, _∙_, subst}
 use native.Mathlib.Nat.{mod-lt, mod-mod, div-eq-of-lt, mul-add-div-right, mul-add-mod-self-right, add-zero, mul-le-mul-right, suc-mul}
 use native.Mathlib.Omega.{arith}
 use lib.Dec.{eqb}
-use lib.ListN.{length, getD, set, replicate, length-replicate}
+use lib.ListN.{length, getD, replicate, length-replicate}
 use Rattle.base.specs.Bounded.{some}
 use Rattle.base.proofs.Bounded.{some-ext, some-none, some-or, some-and, some-swap, some-eq}
 use Rattle.nodeset.specs.Words.{has, wordsOf}

@@ -23,9 +23,6 @@ use Rattle.plan.specs.Conditions.{lacks, otherKind, failsTest, notLess, 
 pub not-leb : (a b : ℕ) → not (leb a b) ≡ ltb b a
 not-leb a b = bool-cases (λ t. leb a b ≡ t → not t ≡ ltb b a) (leb a b) (λ _ e. sym (le-ltb b a (leb-true a b e))) (λ _ e. sym (lt-ltb b a (leb-false a b e))) refl
 
-pub not-ltb : (a b : ℕ) → not (ltb a b) ≡ leb b a
-not-ltb a b = ap not (sym (not-leb b a)) ∙ Bool·not-not (leb b a)
-
 not-leZ : (a b : ℤ) → not (leZ a b) ≡ ltZ b a
 not-leZ (pos a) (pos b) = not-leb a b
 not-leZ (pos a) (negsuc b) = refl

@@ -1,12 +1,12 @@
 -- What the code that was read says of an entry and of a step.
-use Prim.Native.Nat.{ℕ, _≤_, _<_}
-use mathlib.Core.List.{List, [], _∷_}
+use Prim.Native.Nat.{ℕ, _≤_}
+use mathlib.Core.List.{List}
 use mathlib.Core.Bool.{Bool, true, false, not, cond, _&&_, and-false}
 use mathlib.Core.Path.{_≡_, refl, sym, ap, _∙_}
 use native.Mathlib.Omega.{arith}
 use lib.Dec.{eqb, ltb, leb}
 use lib.IntN.{ℤ, pos}
-use lib.ListN.{getD, List·getD-eq-default}
+use lib.ListN.{List·getD-eq-default}
 use borrow.Author.Tests.{ne-eqb, eqb-true, lt-leb, ltb-true, ltb-false}
 use Rattle.base.specs.Bounded.{every}
 use Rattle.base.proofs.Bools.{bool-cases, and-right}
@@ -15,7 +15,7 @@ use Rattle.model.specs.Graph.{holds}
 use Rattle.tables.specs.Layout.{formCount, formCodeAt, formFirstAt, formSecondAt, formThirdAt, formFourthAt}
 use Rattle.tables.specs.Entries.{Entry, entryOf}
 use Rattle.tables.specs.Decode.{entryAt}
-use Rattle.plan.specs.Steps.{Step, stepOf}
+use Rattle.plan.specs.Steps.{stepOf}
 use Rattle.plan.specs.Layout.{stepAt, stepCodeAt, stepFirstAt, stepSecondAt, stepThirdAt, stepFourthAt}
 use Rattle.plan.specs.Sets.{testOf, linksOf}
 use Rattle.plan.specs.WellFormed.{testOk, closedOk, stepOk}

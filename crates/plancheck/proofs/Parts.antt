@@ -1,8 +1,8 @@
 -- A plan is well formed where it has no more steps than it may, and all its parts are right.
 use Prim.Native.Nat.{ℕ, _≤_, _<_}
 use mathlib.Core.List.{List}
-use mathlib.Core.Bool.{Bool, true, false, _&&_}
-use mathlib.Core.Path.{_≡_, refl}
+use mathlib.Core.Bool.{Bool, false, _&&_}
+use mathlib.Core.Path.{_≡_}
 use borrow.Author.Tests.{le-leb, lt-leb}
 use Rattle.base.specs.Bounded.{every}
 use Rattle.model.specs.Limits.{maxSteps}

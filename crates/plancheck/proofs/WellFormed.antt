@@ -1,19 +1,17 @@
 -- What a well-formed plan gives: no more steps than there may be, every step right, every rule's step one of the steps.
-use Prim.Native.Nat.{ℕ, suc, _≤_, _<_}
+use Prim.Native.Nat.{ℕ, _≤_, _<_}
 use mathlib.Core.List.{List}
-use mathlib.Core.Bool.{Bool, true, _&&_}
+use mathlib.Core.Bool.{true, _&&_}
 use mathlib.Core.Path.{_≡_}
 use lib.Dec.{ltb, leb}
 use borrow.Author.Tests.{ltb-true, leb-true}
 use Rattle.base.specs.Bounded.{every}
 use Rattle.base.proofs.Bools.{and-left, and-right}
 use Rattle.base.proofs.Bounded.{every-at}
-use Rattle.model.specs.Limits.{maxCount, maxSteps}
-use Rattle.tables.specs.Layout.{pathCount, linkCount, formCount, ruleCount}
-use Rattle.tables.specs.WellFormed.{upperOk}
-use Rattle.plan.specs.Steps.{Step}
+use Rattle.model.specs.Limits.{maxSteps}
+use Rattle.tables.specs.Layout.{ruleCount}
 use Rattle.plan.specs.Layout.{stepCount, ruleStepAt, stepAt}
-use Rattle.plan.specs.WellFormed.{testOk, closedOk, stepOk, planWellFormed}
+use Rattle.plan.specs.WellFormed.{stepOk, planWellFormed}
 
 pub record Sound (cs ps : List ℕ) : Type 0 where
   pub steps : stepCount ps ≤ maxSteps

@@ -19,7 +19,7 @@ use tables::reads::rule_count;
 use tables::reads::wide;
 ghost use mathlib.Core.Path.{_≡_};
 ghost use Rattle.base.specs.Bounded.{every};
-ghost use Rattle.tables.specs.WellFormed.{upperOk, endOk};
+ghost use Rattle.tables.specs.WellFormed.{endOk};
 ghost use Rattle.plan.specs.Steps.{Step};
 ghost use Rattle.plan.specs.Layout.{stepAt};
 ghost use Rattle.plan.specs.WellFormed.{testOk, closedOk, stepOk, planWellFormed};

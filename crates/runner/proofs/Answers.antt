@@ -2,24 +2,20 @@
 use Prim.Native.Nat.{ℕ, _≤_}
 use mathlib.Core.List.{List}
 use mathlib.Core.Option.{Option}
-use mathlib.Core.Bool.{Bool, true, false, not, cond, _&&_, true≢false}
-use mathlib.Core.Path.{_≡_, refl, sym, ap, _∙_}
+use mathlib.Core.Bool.{Bool, true, false, not, _&&_}
+use mathlib.Core.Path.{_≡_, refl, sym, _∙_}
 use lib.Dec.{leb}
 use lib.IntN.{ℤ}
 use lib.ListN.{length, take}
 use borrow.Author.Tests.{leb-true, not-true, not-false}
 use Rattle.base.proofs.Bools.{and-left, and-right}
-use Rattle.model.specs.Graph.{holds}
-use Rattle.model.specs.declared.Refusal.{Refusal}
-use Rattle.model.specs.Refusals.{codeOf}
 use Rattle.tables.specs.Layout.{cellCount, valueCount}
 use Rattle.tables.specs.Sizes.{longEnough}
 use Rattle.tables.proofs.Sizes.{Long, long}
 use Rattle.tables.specs.WellFormed.{wellFormed}
 use Rattle.plan.specs.Layout.{planCount}
 use Rattle.plan.specs.WellFormed.{planWellFormed}
-use Rattle.runner.specs.Run.{workCount, saidOf, filled, lentLong, lentRight, runSaid, workAfter}
-use Rattle.runner.specs.declared.Ran.the-variants.{Done, Refused}
+use Rattle.runner.specs.Run.{workCount, filled, lentLong, lentRight, runSaid, workAfter}
 
 module _ (ns cs : List ℕ) (vs : List ℤ) (ps ws : List ℕ) where
   -- an answer, and the work space with it
@@ -86,29 +82,3 @@ module _ (ns cs : List ℕ) (vs : List ℤ) (ps ws : List ℕ) where
   pub after-done : lentLong ns cs vs ps ws ≡ true → lentRight ns cs vs ps ws ≡ true → workAfter ns cs vs ps ws ≡ filled (take cellCount cs) (take valueCount vs) (take planCount ps) ws
   unfolding workAfter
   after-done e w = rw (e, w) refl
-
-  -- ---- the answer, by the two tests
-  abbrev said : Bool → Bool → Option (ℕ × ℕ)
-  said a b = cond a (cond b Option.none (Option.some (9, 0))) (Option.some (8, 0))
-
-  -- ---- what an answer tells: all was done only where there was no ground, and what is well formed gets no refusal but 8
-  pub told-done : saidOf Done ≡ runSaid ns cs vs ps ws → (lentLong ns cs vs ps ws ≡ true) × (lentRight ns cs vs ps ws ≡ true)
-  unfolding runSaid holds
-  told-done = by (lentLong ns cs vs ps ws) refl (lentRight ns cs vs ps ws) refl
-    where
-      by : (a : Bool) → lentLong ns cs vs ps ws ≡ a → (b : Bool) → lentRight ns cs vs ps ws ≡ b → Option.none ≡ said a b → (lentLong ns cs vs ps ws ≡ true) × (lentRight ns cs vs ps ws ≡ true)
-      by true ea true eb q = (ea, eb)
-      by true ea false eb q = absurd (true≢false (sym (ap (holds (λ x. true)) q)))
-      by false ea b eb q = absurd (true≢false (sym (ap (holds (λ x. true)) q)))
-
-  pub told-refused : (r : Refusal) → saidOf (Refused r) ≡ runSaid ns cs vs ps ws → lentRight ns cs vs ps ws ≡ true → (lentLong ns cs vs ps ws ≡ false) × (codeOf r ≡ 8)
-  unfolding runSaid holds
-  told-refused r q w = by (lentLong ns cs vs ps ws) refl (q ∙ ap (said (lentLong ns cs vs ps ws)) w)
-    where
-      by : (a : Bool) → lentLong ns cs vs ps ws ≡ a → saidOf (Refused r) ≡ said a true → (lentLong ns cs vs ps ws ≡ false) × (codeOf r ≡ 8)
-      by true ea q = absurd (true≢false (ap (holds (λ x. true)) q))
-      by false ea q = (ea, ap number q)
-        where
-          number : Option (ℕ × ℕ) → ℕ
-          number Option.none = 0
-          number (Option.some x) = x .0

@@ -1,24 +1,22 @@
 -- The step that a code and operands make, and what is known of it where it is right.
-use Prim.Native.Nat.{ℕ, suc, _≤_, _<_}
+use Prim.Native.Nat.{ℕ, suc, _<_}
 use mathlib.Core.List.{List}
-use mathlib.Core.Bool.{Bool, true, false, _&&_, _||_}
-use mathlib.Core.Path.{_≡_, refl, sym, ap, ap₂, _∙_}
-use native.Mathlib.Omega.{arith}
+use mathlib.Core.Bool.{Bool, true, _&&_, _||_}
+use mathlib.Core.Path.{_≡_, refl, ap, ap₂}
 use lib.Dec.{ltb, leb}
 use lib.IntN.{ℤ}
 use borrow.Author.Tests.{ltb-true}
-use Rattle.base.specs.Bounded.{_⇒_, every, size}
+use Rattle.base.specs.Bounded.{_⇒_, every}
 use Rattle.base.proofs.Bools.{and-left, and-right}
 use Rattle.base.proofs.Bounded.{every-ext, size-ext}
 use Rattle.model.specs.Limits.{maxCount}
 use Rattle.model.specs.Shapes.{within, from}
-use Rattle.tables.specs.Layout.{nodeCount, linkCount, pathCount}
+use Rattle.tables.specs.Layout.{nodeCount, pathCount}
 use Rattle.tables.specs.Decode.{graphAt, pathAt, upperOf}
-use Rattle.tables.specs.WellFormed.{upperOk, endOk}
-use Rattle.plan.specs.Steps.{Step, stepOf}
-use Rattle.plan.specs.Layout.{stepAt, stepCodeAt, stepFirstAt, stepSecondAt, stepThirdAt, stepFourthAt}
+use Rattle.tables.specs.WellFormed.{upperOk}
+use Rattle.plan.specs.Steps.{Step}
 use Rattle.plan.specs.Sets.{inStep}
-use Rattle.plan.specs.WellFormed.{testOk, stepOk}
+use Rattle.plan.specs.WellFormed.{stepOk}
 
 -- two lower steps; a path entry and a lower step; a path entry and a link
 pub two-low : (i j k l : ℕ) → (ltb i k && ltb j l) ≡ true → (i < k) × (j < l)

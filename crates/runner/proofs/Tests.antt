@@ -1,17 +1,16 @@
 -- Test steps and `closed` steps: what the form entry that they name says.
-use Prim.Native.Nat.{ℕ, _≤_, _<_}
-use mathlib.Core.List.{List, []}
+use Prim.Native.Nat.{ℕ}
+use mathlib.Core.List.{List}
 use mathlib.Core.Option.{Option}
-use mathlib.Core.Bool.{Bool, true, false, not, _&&_, true≢false}
+use mathlib.Core.Bool.{Bool, true, not, true≢false}
 use mathlib.Core.Path.{_≡_, refl, sym, ap, _∙_}
-use lib.Dec.{eqb, ltb}
+use lib.Dec.{eqb}
 use lib.IntN.{ℤ}
 use Rattle.base.specs.Bounded.{_⇒_}
 use Rattle.base.specs.Lists.{member, allb}
-use Rattle.base.proofs.Bools.{and-right}
-use Rattle.model.specs.Graph.{holds, Triple}
+use Rattle.model.specs.Graph.{holds}
 use Rattle.model.specs.Shapes.{Shape, Test, satisfies, conforms}
-use Rattle.tables.specs.Layout.{formCount, formCodeAt, formFirstAt, formSecondAt, formThirdAt, formFourthAt, limitAt}
+use Rattle.tables.specs.Layout.{formCodeAt, formFirstAt, formSecondAt, formThirdAt, formFourthAt, limitAt}
 use Rattle.tables.specs.Entries.{Entry, entryOf}
 use Rattle.tables.specs.Decode.{graphAt, triplesAt, itemsAt, entryAt, shapeOf, shapeAt}
 use Rattle.tables.proofs.Decode.{shape-number}

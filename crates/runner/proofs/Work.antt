@@ -1,6 +1,6 @@
 -- The work space, step by step.
 use Prim.Native.Nat.{ℕ, zero, suc, _+_, _-_, _*_, _≤_, _<_}
-use mathlib.Core.List.{List, [], _++_, append-assoc, append-nil}
+use mathlib.Core.List.{List, _++_, append-assoc, append-nil}
 use mathlib.Core.Bool.{Bool, true, false, _&&_}
 use mathlib.Core.Path.{_≡_, refl, sym, ap, ap₂, _∙_}
 use mathlib.Core.Logic.{⊎-elim}
@@ -13,9 +13,8 @@ use lib.ListN.{length, take, drop, length-append, length-drop, drop-of-length-le
 use lib.Seq.{take-all, take-at, drop-at, drop-drop}
 use borrow.Rule.Slice.PartMut.{putMid}
 use borrow.Author.Tests.{lt-ltb}
-use Rattle.base.specs.Numbered.{below, numbered}
 use Rattle.base.proofs.Numbered.{at-number, below-number}
-use Rattle.nodeset.specs.Words.{has, wordsOf, stored}
+use Rattle.nodeset.specs.Words.{has, stored}
 use Rattle.nodeset.proofs.Sets.{length-wordsOf, has-take, has-of, length-of}
 use Rattle.nodeset.proofs.Stores.{stored-whole}
 use Rattle.tables.specs.Layout.{nodeCount}

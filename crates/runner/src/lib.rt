@@ -38,7 +38,7 @@ use tables::lent::enough;
 use tables::reads::node_count;
 ghost use mathlib.Core.Path.{_≡_};
 ghost use mathlib.Core.Bool.{true, _&&_};
-ghost use Prim.Native.Nat.{_+_, _*_, _<_, _≤_};
+ghost use Prim.Native.Nat.{_*_, _<_, _≤_};
 ghost use lib.ListN.{length};
 ghost use Rattle.tables.specs.Layout.{cellCount, nodeCount};
 ghost use Rattle.tables.specs.WellFormed.{wellFormed};

@@ -1,16 +1,16 @@
 -- What is asked looks at the two sets below 1,024 only; and what it says in the words of the steps.
-use Prim.Native.Nat.{ℕ, _+_, _-_, _*_, _≤_, _<_}
+use Prim.Native.Nat.{ℕ, _-_, _≤_, _<_}
 use mathlib.Core.Bool.{Bool, true, false, not, cond, _&&_, _||_, or-true, or-false, and-true}
 use mathlib.Core.List.{List}
 use mathlib.Core.Path.{_≡_, refl, sym, ap, ap₂, _∙_}
 use native.Mathlib.Omega.{arith}
 use lib.Dec.{eqb, ltb, leb}
 use lib.IntN.{ℤ}
-use borrow.Author.Tests.{eqb-true, leb-true, lt-ltb}
-use Rattle.base.specs.Bounded.{_⇒_, every, size}
-use Rattle.base.proofs.Bools.{bool-cases, and-left, and-right}
+use borrow.Author.Tests.{leb-true, lt-ltb}
+use Rattle.base.specs.Bounded.{_⇒_, every}
+use Rattle.base.proofs.Bools.{and-left, and-right}
 use Rattle.base.proofs.Bounded.{every-ext, size-ext}
-use Rattle.model.specs.Shapes.{Upper, atMost, unbounded, within, subset, noneShared, allPairs}
+use Rattle.model.specs.Shapes.{atMost, unbounded, within, subset, noneShared, allPairs}
 use Rattle.nodeset.specs.Words.{has, wordsOf}
 use Rattle.nodeset.proofs.Sets.{has-of}
 use Rattle.tables.specs.Layout.{nodeCount, kindAt, formCodeAt, noNumber}

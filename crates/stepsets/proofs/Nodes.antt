@@ -1,16 +1,16 @@
 -- The nodes that have a property, gathered node by node, and put together from other sets.
 use Prim.Native.Nat.{ℕ, _+_, _-_, _*_, _≤_, _<_}
-use mathlib.Core.Bool.{Bool, true, false, not, cond, _&&_, _||_, and-true, and-false, or-false}
+use mathlib.Core.Bool.{Bool, true, false, not, _&&_, _||_, and-true, and-false, or-false}
 use mathlib.Core.List.{List}
-use mathlib.Core.Path.{_≡_, refl, sym, ap, ap₂, _∙_}
+use mathlib.Core.Path.{_≡_, refl, sym, ap, _∙_}
 use native.Mathlib.Omega.{arith}
 use lib.Dec.{eqb, ltb}
 use lib.ListN.{length, replicate, take, drop, length-drop, drop-of-length-le}
 use lib.Seq.{take-all}
-use borrow.Author.Tests.{eqb-true, le-ltb, lt-ltb, ltb-true}
+use borrow.Author.Tests.{eqb-true, le-ltb, ltb-true}
 use Rattle.base.proofs.Bools.{bool-cases}
-use Rattle.nodeset.specs.Words.{has, wordsOf, union, intersection, difference}
-use Rattle.nodeset.proofs.Sets.{wordsOf-ext, has-of, length-of, zeros, ltb-more, union-of, intersection-of, difference-of}
+use Rattle.nodeset.specs.Words.{has, wordsOf, intersection, difference}
+use Rattle.nodeset.proofs.Sets.{wordsOf-ext, has-of, length-of, zeros, ltb-more, intersection-of, difference-of}
 use Rattle.stepsets.specs.Asks.{nodesOf}
 
 pub nodes-ext : (p q : ℕ → Bool) (n : ℕ) → ((v : ℕ) → v < n → p v ≡ q v) → nodesOf p n ≡ nodesOf q n

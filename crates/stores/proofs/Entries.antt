@@ -15,7 +15,7 @@ use Rattle.tables.specs.Layout as Layout
 use Rattle.tables.specs.Entries.{PathEntry, inv, seq, alt, Entry}
 use Rattle.tables.specs.Entries as E
 use Rattle.encoding.specs.Rows.{pathRow, formRow, plainRow, valueRow}
-use Rattle.encoding.specs.Flatten.{last, addPath, Entries, addForm, withPath, withItems, withEnd, endNumber, kindCode, upperNumber, addTest, addShape}
+use Rattle.encoding.specs.Flatten.{last, addPath, Entries, addForm, withPath, withItems, withEnd, endNumber, kindCode, addTest, addShape}
 use Rattle.encoding.specs.Encode.{Content, cellColumns, valueColumns}
 use Rattle.encoding.proofs.Counts.{path-size, end-size, shape-size}
 use Rattle.grammar.specs.Syntax.{path, end, form}

@@ -2,7 +2,7 @@
 use Prim.Native.Nat.{ℕ}
 use mathlib.Core.List.{List}
 use mathlib.Core.Bool.{Bool, true, false, _&&_}
-use mathlib.Core.Path.{_≡_, refl}
+use mathlib.Core.Path.{_≡_}
 use Rattle.base.specs.Bounded.{every}
 use Rattle.tables.specs.Layout.{nodeCount, factCount}
 use Rattle.tables.specs.WellFormed.{countsOk, nodeOk, factOk, wellFormed}

@@ -1,12 +1,11 @@
 -- Compiled, run and read off, the list of a rule is what the tables say: the plan's theorem, put into words of lists.
-use Prim.Native.Nat.{ℕ, zero, suc, _*_, _<_, _≤_}
-use mathlib.Core.List.{List, [], _++_, append-nil}
+use Prim.Native.Nat.{ℕ, zero, suc, _*_, _<_}
+use mathlib.Core.List.{List, [], append-nil}
 use mathlib.Core.Bool.{Bool, true}
-use mathlib.Core.Path.{_≡_, refl, sym, ap, subst, _∙_}
+use mathlib.Core.Path.{_≡_, refl, ap, subst, _∙_}
 use native.Mathlib.Omega.{arith}
 use lib.IntN.{ℤ}
 use lib.ListN.{length, drop, set}
-use Rattle.base.specs.Bounded.{members}
 use Rattle.base.proofs.Bounded.{members-ext}
 use Rattle.nodeset.specs.Words.{has}
 use Rattle.model.specs.Rules.{violates, violations}

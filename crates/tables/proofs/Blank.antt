@@ -6,7 +6,7 @@ use native.Mathlib.Nat.{min-eq-left, min-eq-right, not-suc-le-zero, le-of-suc-le
 use native.Mathlib.Numerals.{add-one}
 use native.Mathlib.Omega.{arith}
 use lib.Dec.{leb}
-use lib.ListN.{length, set, drop, replicate, length-set, length-replicate, length-append, length-drop, drop-of-length-le}
+use lib.ListN.{length, set, drop, replicate, length-set, drop-of-length-le}
 use borrow.Author.Tests.{leb-true, leb-false}
 use Rattle.base.proofs.Bools.{bool-cases}
 use Rattle.tables.specs.Sizes.{blank}
@@ -46,11 +46,3 @@ module _ {A : Type 0} (z : A) where
   pub blank-front : (limit : ℕ) (l : List A) → limit ≤ length l → blank limit z l ≡ replicate limit z ++ drop limit l
   unfolding blank
   blank-front limit l h = ap (λ (j : ℕ). replicate j z ++ drop limit l) (min-eq-left h)
-
-  pub length-blank : (limit : ℕ) (l : List A) → length (blank limit z l) ≡ length l
-  unfolding blank
-  length-blank limit l = simp (length-append, length-replicate, length-drop) (omega arith)
-
-  pub blank-same : (limit : ℕ) (l m : List A) → length l ≡ length m → drop limit l ≡ drop limit m → blank limit z l ≡ blank limit z m
-  unfolding blank
-  blank-same limit l m e f = ap₂ (λ (j : ℕ) (t : List A). replicate (min limit j) z ++ t) e f

@@ -1,7 +1,7 @@
 -- What an entry means, by its parts: of right tables, each part is what its own number means.
 use Prim.Native.Nat.{ℕ, _<_}
 use mathlib.Core.List.{List}
-use mathlib.Core.Bool.{Bool, true, _&&_}
+use mathlib.Core.Bool.{true, _&&_}
 use mathlib.Core.Path.{_≡_, refl, ap, ap₂, _∙_}
 use lib.Dec.{ltb, leb}
 use lib.IntN.{ℤ}

@@ -1,10 +1,10 @@
 -- What well-formed tables give: every count within its limit, every number below its pool's count, every entry before its user.
 use Prim.Native.Nat.{ℕ, zero, suc, _≤_, _<_}
-use mathlib.Core.List.{List, [], _∷_, map}
-use mathlib.Core.Bool.{Bool, true, false, _&&_, _||_}
-use mathlib.Core.Path.{_≡_, refl, sym, ap, _∙_}
-use lib.Dec.{eqb, ltb, leb}
-use lib.IntN.{ℤ, pos}
+use mathlib.Core.List.{List, [], _∷_}
+use mathlib.Core.Bool.{Bool, true, _&&_}
+use mathlib.Core.Path.{_≡_, refl, sym, _∙_}
+use lib.Dec.{ltb, leb}
+use lib.IntN.{ℤ}
 use lib.ListN.{getD, List·getD-map}
 use borrow.Author.Tests.{ltb-true, leb-true}
 use Rattle.base.specs.Bounded.{every}

@@ -1,8 +1,8 @@
 -- Path entries and form entries, as the tables hold them: by code, their parts as numbers.
 use Prim.Native.Nat.{ℕ}
-use mathlib.Core.List.{List, [], _∷_}
+use mathlib.Core.List.{[], _∷_}
 use lib.ListN.{getD}
-use lib.IntN.{ℤ, pos}
+use lib.IntN.{ℤ}
 
 -- by code from 0: a link, inv, seq, alt; `bad` for a code that is none of these
 pub data PathEntry : Type 0 where

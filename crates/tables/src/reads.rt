@@ -24,7 +24,6 @@ use model::NodeNo;
 ghost use mathlib.Core.Path.{_≡_};
 ghost use Prim.Native.Nat.{_+_};
 ghost use lib.ListN.{getD};
-ghost use lib.IntN.{pos};
 ghost use Rattle.tables.specs.Layout.{nodeCount, linkCount, typeCount, langCount, shapeCount, factCount, pathCount, formCount, itemCount, ruleCount, kindAt, typeAt, langAt, subjectAt, predicateAt, objectAt, pathCodeAt, pathFirstAt, pathSecondAt, formCodeAt, formFirstAt, formSecondAt, formThirdAt, formFourthAt, itemAt, rootAt, ruleShapeAt, ruleTargetAt, ruleOperandAt, numberAt, limitAt};
 
 // Place i of the column that begins at base.

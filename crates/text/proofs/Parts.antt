@@ -10,7 +10,6 @@ use lib.ListN.{length, getD, take, drop, drop-of-length-le}
 use lib.Seq.{slice, slice-cons, slice-empty, drop-cons, getD-drop, getD-take}
 use Rattle.base.specs.Lists.{allb}
 use Rattle.base.specs.Bytes.{eql}
-use Rattle.base.proofs.Bools.{and-left, and-right, and-both}
 
 pub slice-at : (s : List ℕ) (f t j : ℕ) → f + j < t → getD (slice f t s) j 0 ≡ getD s (f + j) 0
 slice-at s f t j h = getD-drop f (take t s) j 0 ∙ getD-take t s (f + j) 0 h

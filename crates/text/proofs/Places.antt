@@ -1,7 +1,7 @@
 -- The number of a name in its pool: it is the first place that holds the name, and the place in the list of names.
 use Prim.Native.Nat.{ℕ, zero, suc, _+_, _-_, _*_, _<_, _≤_}
 use mathlib.Core.Path.{_≡_, refl, sym, ap, ap₂, _∙_, subst}
-use mathlib.Core.List.{List, [], _∷_, _++_, append-assoc, append-nil}
+use mathlib.Core.List.{List, [], _∷_, _++_, append-assoc}
 use mathlib.Core.Bool.{Bool, true, false, cond, _&&_, and-assoc}
 use mathlib.Core.Logic.{⊎-elim, _↔_}
 use native.Mathlib.Nat.{eq-or-lt-of-le, le-refl}
@@ -13,12 +13,12 @@ use Rattle.base.specs.Bytes.{eql}
 use Rattle.base.proofs.Bools.{bool-cases, and-left, and-right, never-both, same-test}
 use Rattle.base.proofs.Bytes.{eql-true, eql-refl}
 use Rattle.text.specs.Items.{isName, nameByte}
-use Rattle.text.specs.Pool.{padded, allNames, poolOf, firstFrom, indexOf, place, find, store}
+use Rattle.text.specs.Pool.{padded, allNames, poolOf, firstFrom, indexOf, place, find}
 use Rattle.text.specs.declared.Found.{Found}
 use Rattle.text.specs.declared.Found.the-variants.{At, Nothing}
 use Rattle.text.proofs.Items.{name-short, name-bytes}
 use Rattle.text.proofs.Pool.{padded-length}
-use Rattle.text.proofs.Spans.{Span, span-join, span-split, store-here, store-before}
+use Rattle.text.proofs.Spans.{Span, span-split}
 
 -- ---- the first number that passes
 -- k is the first of the n numbers from i on that passes
@@ -103,10 +103,6 @@ module _ (names : List ℕ) (base count : ℕ) (w : List ℕ) where
   unfolding find
   find-at k = search-at (place names base) count (padded w) k
 
-  pub find-nothing : (find names base count w ≡ Nothing) ↔ NoneOf (place names base) count (padded w)
-  unfolding find
-  find-nothing = search-nothing (place names base) count (padded w)
-
 -- and so in a list of names
 module _ (ws : List (List ℕ)) (w : List ℕ) where
   pub index-at : (k : ℕ) → (indexOf ws w ≡ At k) ↔ FirstOf (λ k. getD ws k []) (length ws) w k
@@ -190,29 +186,7 @@ find-pool ws {names} {base} {end} w a b p =
     first-ext (λ k. eql (padded w) (place names base k)) (λ k. eql w (getD ws k [])) (length ws) 0
     (λ k _ l. let h : k < length ws = omega arith in ap (eql (padded w)) (pool-place ws a p k h) ∙ eql-padded w (getD ws k []) b (names-at ws a k h))
 
--- one more name, stored after the others
-pub pool-more : (ws : List (List ℕ)) {names : List ℕ} {base end : ℕ} (w : List ℕ) → isName w ≡ true → Span names base end (poolOf ws) → end + 32 ≤ length names → Span (store names end (padded w)) base (end + 32) (poolOf (ws ++ (w ∷ [])))
-unfolding poolOf
-pool-more ws {names} {base} {end} w b p h =
-    let s = name-short w b in
-    let lw : length (padded w) ≡ 32 = padded-length w (omega arith) in
-    let fits : end + length (padded w) ≤ length names = omega arith in
-    let q = span-join (store-before names end (padded w) fits (le-refl end) p) (store-here names end (padded w) fits) in
-    let t : poolOf ws ++ padded w ≡ poolOf (ws ++ (w ∷ [])) = sym (pool-append ws (w ∷ []) ∙ ap (λ (l : List ℕ). poolOf ws ++ l) (append-nil (padded w))) in
-    subst (λ (n : ℕ). Span (store names end (padded w)) base (end + n) (poolOf (ws ++ (w ∷ [])))) lw
-    (subst (λ (l : List ℕ). Span (store names end (padded w)) base (end + length (padded w)) l) t q)
-
--- ---- a list of names that grows: what was there keeps its number, and a new name has the next
-pub index-old : (ws vs : List (List ℕ)) (w : List ℕ) (k : ℕ) → indexOf ws w ≡ At k → indexOf (ws ++ vs) w ≡ At k
-index-old ws vs w k e =
-    let f = index-at ws w k .0 e in
-    let l = f .0 in
-    index-at (ws ++ vs) w k .1 (
-      omega (arith, length-append ws vs),
-      List·getD-append ws vs [] k l ∙ f .1,
-      λ j h q. f .2 j h (sym (List·getD-append ws vs [] j (omega arith)) ∙ q),
-    )
-
+-- a new name has the next number
 pub index-new : (ws vs : List (List ℕ)) (w : List ℕ) → indexOf ws w ≡ Nothing → indexOf (ws ++ (w ∷ vs)) w ≡ At (length ws)
 index-new ws vs w e =
     index-at (ws ++ (w ∷ vs)) w (length ws) .1 (

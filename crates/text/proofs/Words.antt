@@ -1,15 +1,15 @@
 -- An item is a word without edge bytes, up to an edge byte or the end of the text; and the other way round.
 use Prim.Native.Nat.{ℕ, zero, suc, _+_, _<_, _≤_}
 use mathlib.Core.Path.{_≡_, refl, sym, ap, _∙_}
-use mathlib.Core.List.{List, [], _∷_, _++_, append-nil}
+use mathlib.Core.List.{List, [], _∷_}
 use mathlib.Core.Bool.{Bool, true, false, not}
 use mathlib.Core.Logic.{_⊎_, inl, inr, ⊎-elim}
 use native.Mathlib.Numerals.{add-one}
 use native.Mathlib.Omega.{arith}
 use borrow.Author.Tests.{eqb-true, not-true, ltb-true, ltb-false}
 use lib.Dec.{eqb, ltb}
-use lib.ListN.{length, getD, length-append}
-use lib.Seq.{slice, slice-empty, slice-cons, getD-append-seam}
+use lib.ListN.{length, getD}
+use lib.Seq.{slice, slice-empty, slice-cons}
 use Rattle.base.specs.Lists.{allb}
 use Rattle.base.proofs.Lists.{allb-weaker}
 use Rattle.base.proofs.Bools.{bool-cases, and-left, and-right, and-both, or-cases, never-both}
@@ -17,7 +17,7 @@ use Rattle.text.specs.Items.{edge, itemEnd, nameByte, isName}
 use Rattle.text.specs.Decimals.{digit}
 use Rattle.text.proofs.Parts.{inside}
 use Rattle.text.proofs.Items.{itemEnd-out, itemEnd-edge, itemEnd-step, itemEnd-from, itemEnd-within, name-bytes}
-use Rattle.text.proofs.Spans.{Span, span-head, span-none, span-in, span-of}
+use Rattle.text.proofs.Spans.{Span, span-head, span-none}
 
 -- a byte that an item can have
 abbrev pub plain : ℕ → Bool
@@ -48,22 +48,6 @@ word-ends (x ∷ w) {s} {a} {b} p e d =
 -- and what the item is
 pub word-item : (w : List ℕ) {s : List ℕ} {a b : ℕ} → Span s a b w → allb plain w ≡ true → Ends s b → slice a (itemEnd s a) s ≡ w
 word-item w {s} {a} {b} p e d = rw (word-ends w p e d) (p .text)
-
--- in a text put together
-pub itemEnd-word : (pre w : List ℕ) (e : ℕ) (post : List ℕ) → allb plain w ≡ true → edge e ≡ true → itemEnd (pre ++ (w ++ (e ∷ post))) (length pre) ≡ length pre + length w
-itemEnd-word pre w e post p q =
-    let s : List ℕ = pre ++ (w ++ (e ∷ post)) in
-    let l : length (pre ++ w) ≡ length pre + length w = length-append pre w in
-    let g : getD s (length pre + length w) 0 ≡ e =
-    ap (λ (r : List ℕ). getD r (length pre + length w) 0) (sym (mathlib.Core.List.append-assoc pre w (e ∷ post)))
-    ∙ ap (λ (n : ℕ). getD (pre ++ w ++ (e ∷ post)) n 0) (sym l)
-    ∙ getD-append-seam (pre ++ w) e post 0 in
-    let k : length pre + length w < length s = omega (arith, length-append pre (w ++ (e ∷ post)), length-append w (e ∷ post)) in
-    word-ends w (span-in pre w (e ∷ post)) p (inr (k, ap edge g ∙ q))
-
-pub itemEnd-last : (pre w : List ℕ) → allb plain w ≡ true → itemEnd (pre ++ w) (length pre) ≡ length pre + length w
-itemEnd-last pre w p =
-    word-ends w (span-of pre w [] (ap (λ (l : List ℕ). pre ++ l) (sym (append-nil w)))) p (inl (omega (arith, length-append pre w)))
 
 -- ---- from where the item ends to the word
 pub item-span : (s : List ℕ) (at : ℕ) → at ≤ length s → Span s at (itemEnd s at) (slice at (itemEnd s at) s)

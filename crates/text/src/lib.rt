@@ -11,7 +11,7 @@ ghost use Rattle.base.specs.Lists.{allb};
 ghost use Rattle.base.specs.Bytes.{eql};
 ghost use Rattle.chains.specs.Chains.{Chained};
 ghost use Rattle.text.specs.Items.{edge, itemEnd, nameByte, isName};
-ghost use Rattle.text.specs.Decimals.{digit, isMag, magOf, valueFrom, positiveOf, negativeOf, numberOf, boundOf};
+ghost use Rattle.text.specs.Decimals.{digit, isMag, magOf, positiveOf, negativeOf, numberOf, boundOf};
 ghost use Rattle.text.specs.Pool.{padded, sameAt, zeroAt, hashOf, nameKey, find, store};
 ghost use Rattle.text.specs.declared.Found.the-variants.{At};
 

@@ -1,7 +1,7 @@
 -- What the program writes for an accepted book, part after part, is the report of the book.
-use Prim.Native.Nat.{ℕ, _+_, _*_, _≤_}
-use mathlib.Core.Path.{_≡_, refl, ap, subst, _∙_}
-use mathlib.Core.List.{List, _++_}
+use Prim.Native.Nat.{ℕ, _+_}
+use mathlib.Core.Path.{_≡_, ap, _∙_}
+use mathlib.Core.List.{List}
 use mathlib.Core.Bool.{true}
 use native.Mathlib.Omega.{arith}
 use lib.ListN.{length, take, drop}
@@ -12,7 +12,7 @@ use Rattle.encoding.specs.Encode.{encodeCells}
 use Rattle.encoding.proofs.Counts.{cells-length}
 use Rattle.grammar.specs.Writing.{render}
 use Rattle.grammar.specs.Valid.{valid}
-use Rattle.grammar.specs.Reading.{accepted, reading}
+use Rattle.grammar.specs.Reading.{accepted}
 use Rattle.grammar.proofs.Books.{reading-iff, valid-admissible}
 use Rattle.validation.specs.Lent.{Lent, long}
 use Rattle.validation.specs.Whole.{left, after}

@@ -1,5 +1,4 @@
 -- Book B of document 01: its plan is Equal, Unequal, From twin, Both 2 1, and its rule's step is the last.
-use Prim.Native.Nat.{ℕ}
 use mathlib.Core.List.{[], _∷_}
 use mathlib.Core.Path.{_≡_, refl}
 use Rattle.base.specs.Lists.{valuesFrom}

@@ -1,17 +1,15 @@
 -- What the tables of a valid book say is what the book says: its lists, and how many steps its plan has.
 use Prim.Native.Nat.{ℕ, _+_, _*_, _<_, _≤_}
-use mathlib.Core.Path.{_≡_, refl, sym, ap, ap₂, subst, _∙_}
+use mathlib.Core.Path.{_≡_, ap, ap₂, subst, _∙_}
 use mathlib.Core.List.{List}
-use mathlib.Core.Bool.{Bool, true, _&&_}
+use mathlib.Core.Bool.{true}
 use native.Mathlib.Omega.{arith}
-use lib.Dec.{ltb}
 use lib.ListN.{length}
 use Rattle.base.specs.Lists.{member, ascending}
-use Rattle.base.specs.Bounded.{members}
 use Rattle.base.proofs.Bounded.{member-members, members-ascending, size-members, size-le}
 use Rattle.model.specs.Graph.{Graph}
 use Rattle.model.specs.Shapes.{Shape}
-use Rattle.model.specs.Rules.{Rule, selects, violates, violations, noRule}
+use Rattle.model.specs.Rules.{Rule, violates, violations, noRule}
 use Rattle.model.specs.Books.{Book, graphOf, schema, rules, conformsIn, listOf}
 use Rattle.model.specs.Sizes.{formsIn}
 use Rattle.model.specs.Valid.{admissible}

@@ -15,7 +15,7 @@ use Rattle.base.proofs.Bools.{bool-cases, and-left, and-right, and-both}
 use Rattle.model.specs.Limits.{maxNodes}
 use Rattle.model.specs.Books.{Book, rules, listOf}
 use Rattle.model.specs.Sizes.{formsIn}
-use Rattle.tables.specs.Layout.{cellCount, valueCount, ruleCount}
+use Rattle.tables.specs.Layout.{cellCount, ruleCount}
 use Rattle.tables.specs.Sizes.{longEnough}
 use Rattle.tables.specs.WellFormed.{wellFormed}
 use Rattle.encoding.specs.Encode.{encodeCells, encodeValues}

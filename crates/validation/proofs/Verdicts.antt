@@ -3,19 +3,17 @@
 use Prim.Native.Nat.{ℕ, _<_}
 use mathlib.Core.Path.{_≡_, refl, sym, ap, ap₂, subst, _∙_}
 use mathlib.Core.List.{List}
-use mathlib.Core.Bool.{Bool, true, false, cond, _&&_}
-use native.Mathlib.Omega.{arith}
+use mathlib.Core.Bool.{Bool, true, cond, _&&_}
 use lib.Dec.{ltb}
 use lib.IntN.{ℤ}
-use lib.ListN.{length, take, getD}
+use lib.ListN.{length, getD}
 use borrow.Author.Tests.{ltb-true}
-use Rattle.base.specs.Lists.{values}
 use Rattle.base.proofs.Bools.{bool-cases, and-right}
 use Rattle.base.proofs.Lists.{at-values}
 use Rattle.model.specs.Graph.{Graph}
 use Rattle.model.specs.Shapes.{Shape, top, conforms, def}
 use Rattle.model.specs.Books.{Book, nodes, shapes, names, graphOf, schema, conformsIn}
-use Rattle.tables.specs.Layout.{cellCount, valueCount, nodeCount, shapeCount, rootAt}
+use Rattle.tables.specs.Layout.{nodeCount, shapeCount, rootAt}
 use Rattle.tables.specs.Decode.{graphAt, shapeAt, schemaAt}
 use Rattle.tables.specs.Sizes.{longEnough}
 use Rattle.encoding.specs.Encode.{encodeCells, encodeValues}

@@ -2,7 +2,7 @@
 use Prim.Native.Nat.{ℕ, _+_, _*_, _<_, _≤_}
 use mathlib.Core.Path.{_≡_, refl, sym, ap, ap₂, subst, _∙_}
 use mathlib.Core.List.{List, [], _++_, append-nil}
-use mathlib.Core.Bool.{Bool, true, false, cond, _&&_}
+use mathlib.Core.Bool.{Bool, true, false, _&&_}
 use native.Mathlib.Omega.{arith}
 use lib.Dec.{leb}
 use lib.IntN.{ℤ}
@@ -21,7 +21,6 @@ use Rattle.tables.specs.WellFormed.{wellFormed}
 use Rattle.encoding.specs.Encode.{encodeNames, encodeCells, encodeValues}
 use Rattle.encoding.proofs.Counts.{names-length, cells-length, values-length, rules-counted}
 use Rattle.encoding.proofs.WellFormed.{well-formed}
-use Rattle.grammar.specs.Writing.{render}
 use Rattle.grammar.specs.Valid.{valid}
 use Rattle.grammar.specs.Reading.{Outcome, accepted, turnedDown, reading}
 use Rattle.grammar.proofs.Books.{reading-iff, one-book, refused-only, valid-admissible}
@@ -32,13 +31,13 @@ use Rattle.translation.proofs.Plans.{plan-count, length-planOf}
 use Rattle.reader.specs.declared.ReadAnswer.{ReadAnswer}
 use Rattle.reader.specs.declared.ReadAnswer.the-variants as answers
 use Rattle.reader.specs.Answers as reads
-use Rattle.runner.specs.Run.{workCount, setWords, filled}
+use Rattle.runner.specs.Run.{workCount, setWords}
 use Rattle.runner.proofs.Work.{filled-words}
 use Rattle.lists.specs.Rows.{listCount, lengthCount, listIn, row, withRows, withLengths}
 use Rattle.lists.proofs.ReadOff.{row-read}
 use Rattle.tablerun.specs.Lists.{listAt}
 use Rattle.tablerun.proofs.Lists.{rule-nodes, rows-same, lengths-same}
-use Rattle.validation.specs.Claim.{ruleOf, Right, Said, steps, refusal, Answers, Demand3}
+use Rattle.validation.specs.Claim.{ruleOf, Right, Said, steps, refusal, Demand3}
 use Rattle.itemreader.specs.declared.Counts.{Counts}
 use Rattle.validation.specs.Lent.{Lent, lent, long, namesIn, cellsIn, valuesIn, planIn}
 use Rattle.validation.specs.Whole.{answered, left, said, after}

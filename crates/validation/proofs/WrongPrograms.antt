@@ -1,15 +1,15 @@
 -- Document 01's wrong programs of demand 3: each with the claim is absurd. A program that answers 8 always; one whose runner
 -- touches no work space; one whose compiler has None for every rule but the first.
-use Prim.Native.Nat.{ℕ, zero, suc, _+_, _*_, _/_, _%_, _<_, _≤_}
+use Prim.Native.Nat.{ℕ, zero, suc, _+_, _*_, _/_, _%_, _<_}
 use mathlib.Core.Path.{_≡_, refl, sym, ap, subst, _∙_}
-use mathlib.Core.List.{List, [], _∷_, _++_, append-nil}
+use mathlib.Core.List.{List, [], _∷_, _++_}
 use mathlib.Core.Bool.{Bool, true, false, _&&_, and-false}
 use native.Mathlib.Omega.{arith}
 use lib.Dec.{ltb}
-use lib.ListN.{length, take, drop, getD, replicate}
+use lib.ListN.{length, drop, getD, replicate}
 use Rattle.base.specs.Range.{inRange}
 use Rattle.base.specs.Bytes.{eql}
-use Rattle.base.specs.Bounded.{some, every, one, size, members}
+use Rattle.base.specs.Bounded.{some, every, one, size}
 use Rattle.base.specs.Lists.{anyb, allb, member}
 use Rattle.base.specs.Numbered.{below}
 use Rattle.base.proofs.Bools.{and-right, never-both}
@@ -33,7 +33,6 @@ use Rattle.grammar.specs.Valid.{pathDepth, endDepth, shapeDepth, lineDepth, res
 use Rattle.grammar.proofs.BookB.{b-valid}
 use Rattle.grammar.proofs.Books.{valid-admissible}
 use Rattle.tables.specs.Layout.{nodeCount}
-use Rattle.tables.proofs.WellFormed as tables
 use Rattle.encoding.specs.Encode.{encodeCells}
 use Rattle.encoding.proofs.Counts.{rules-counted}
 use Rattle.encoding.proofs.WellFormed.{well-formed}
@@ -43,7 +42,7 @@ use Rattle.plan.specs.Sets.{inStep, setBy, setAt}
 use Rattle.plancheck.proofs.WellFormed as plans
 use Rattle.translation.specs.Compile.{planOf}
 use Rattle.runner.specs.Run.{workCount, setWords}
-use Rattle.lists.specs.Rows.{listIn, row}
+use Rattle.lists.specs.Rows.{listIn}
 use Rattle.tablerun.proofs.Lists.{bare-well-formed}
 use Rattle.validation.specs.Lent.{Lent, long, cellsIn, valuesIn, planIn}
 use Rattle.validation.specs.Claim.{ruleOf, breaks, Right, Said, steps, refusal, Answers, Demand3}

@@ -4,4 +4,3 @@ pub mod Holds
 pub mod Along
 pub mod Settling
 pub mod Answers
-pub mod Books

@@ -20,8 +20,7 @@ use Rattle.tables.specs.WellFormed.{entryOk, upperOk}
 use Rattle.paths.specs.Images.{image}
 use Rattle.paths.specs.Facts.{Tables}
 use Rattle.entries.proofs.Codes.{right-by, nodes-le, count-path, all-path}
-use Rattle.verdict.specs.Parts.{endsCode, partsCode, firstBy, secondBy, looksAtEnds, hasParts, firstPart, secondPart, looksAt, PartsKnown}
-use Rattle.verdict.proofs.Memo.{settled-grows}
+use Rattle.verdict.specs.Parts.{endsCode, partsCode, firstBy, secondBy, looksAtEnds, hasParts, firstPart, secondPart, looksAt}
 
 -- a code either is n or is not
 case : (k n : ℕ) {A : Type 0} → (k ≡ n → A) → ((k ≡ n → ⊥) → A) → A
@@ -120,7 +119,3 @@ module _ (cs : List ℕ) (e : ℕ) where
   pub asked-here : (nodes : List ℕ) → looksAtEnds cs e ≡ false → (v w : ℕ) → v < nodeCount cs → w < nodeCount cs → has nodes v ≡ true → looksAt cs e v w ≡ true → has nodes w ≡ true
   unfolding looksAt
   asked-here nodes h v w lv lw hv hw = ap (has nodes) (sym (eqb-true v w (ap (λ (b : Bool). mathlib.Core.Bool.cond b (ends (nodeCount cs) (triplesAt cs) (pathAt cs (formFirstAt cs e)) v w) (eqb v w)) (sym h) ∙ hw))) ∙ hv
-
-  -- what is known of the parts stays known
-  pub parts-grow : (before after : List ℕ) (v : ℕ) → ((m : ℕ) → has before m ≡ true → has after m ≡ true) → PartsKnown cs e before v → PartsKnown cs e after v
-  parts-grow before after v g p h w l k = let s = p h w l k in (settled-grows before after (firstPart cs e) w g (s .0), settled-grows before after (secondPart cs e) w g (s .1))

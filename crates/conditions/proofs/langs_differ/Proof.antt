@@ -11,7 +11,7 @@ use borrow.Author.Tests.{eq-eqb, ne-eqb}
 use Rattle.base.specs.Bounded.{every}
 use Rattle.base.proofs.Bounded.{every-more, every-fails}
 use Rattle.nodeset.specs.Words.{has}
-use Rattle.tables.specs.Layout.{nodeCount, langAt}
+use Rattle.tables.specs.Layout.{nodeCount}
 use Rattle.conditions.proofs.Members.{Passed, passed-none, passed-more, passed-all, passed-fails, next-after}
 use Rattle.conditions.proofs.Langs.{alone, Heard, heard-none, heard-more, heard-alone, each-alone}
 use Rattle.conditions.proofs.langs_differ.Statement.{statement}

@@ -1,6 +1,6 @@
 -- `pairs_hold` meets its contract. The invariants: each member before y passes with all its partners, and y with each partner before x.
 use mathlib.Core.Path.{_≡_, refl, sym, _∙_}
-use mathlib.Core.Bool.{true, false}
+use mathlib.Core.Bool.{true}
 use Prim.Native.Nat.{_-_}
 use native.Mathlib.Omega.{arith}
 use borrow.Author.Needs.{needs}

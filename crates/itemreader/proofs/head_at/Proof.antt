@@ -1,6 +1,5 @@
 use mathlib.Core.Path.{sym, _∙_}
 use lib.Dec.{eqb}
-use native.Mathlib.Omega.{arith}
 use Rattle.itemreader.proofs.Items.{item-within}
 use Rattle.itemreader.proofs.Heads.{head-bare, head-unknown, head-deep, head-full, head-word}
 use borrow.Author.Needs.{needs}

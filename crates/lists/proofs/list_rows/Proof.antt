@@ -1,12 +1,12 @@
-use Prim.Native.Nat.{ℕ, _-_, _*_, _≤_}
-use lib.ListN.{length, take, drop, length-take, length-drop}
+use Prim.Native.Nat.{_-_, _*_, _≤_}
+use lib.ListN.{length, drop, length-take, length-drop}
 use Rattle.tables.specs.Layout.{ruleCount}
-use mathlib.Core.Path.{_≡_, refl, ap, sym, _∙_}
+use mathlib.Core.Path.{_≡_, refl, ap, _∙_}
 use denote.Ref.{now}
 use native.Mathlib.Omega.{arith}
 use borrow.Author.Needs.{needs}
 use Rattle.lists.specs.Rows.{listIn, withRows, withLengths}
-use Rattle.lists.proofs.Rows.{Listed, listed-none, listed-more, row-tail, few, few-nodes, few-rules, step-in}
+use Rattle.lists.proofs.Rows.{Listed, listed-none, listed-more, row-tail, few-nodes, few-rules, step-in}
 use Rattle.lists.proofs.list_rows.Statement.{statement}
 use Rattle.lists.proofs.list_rows.Tie as tie
 

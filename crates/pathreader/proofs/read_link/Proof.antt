@@ -1,6 +1,5 @@
-use Prim.Native.Nat.{ℕ, _+_}
-use mathlib.Core.Path.{refl, sym, ap, _∙_}
-use mathlib.Core.Bool.{true, false}
+use Prim.Native.Nat.{_+_}
+use mathlib.Core.Path.{refl, ap, _∙_}
 use native.Mathlib.Omega.{arith}
 use borrow.Author.Tests.{le-leb, lt-leb}
 use lib.Dec.{leb}
@@ -8,7 +7,6 @@ use lib.ListN.{drop}
 use Rattle.model.specs.Books.{links}
 use Rattle.grammar.specs.Syntax.{used}
 use Rattle.grammar.specs.Reading.{Begun, noReaders, argAt}
-use Rattle.itemreader.specs.declared.Item.{Item}
 use Rattle.itemreader.specs.Answers.{same}
 use Rattle.itemreader.proofs.Items.{number-got, item-refused, below-is}
 use Rattle.pathreader.proofs.Paths.{done-no, link-refused, link-full, link-free, link-read, path-drop}

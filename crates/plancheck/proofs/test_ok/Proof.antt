@@ -1,5 +1,3 @@
-use mathlib.Core.Path.{_∙_, ap, sym}
-use mathlib.Core.Bool.{Bool}
 use denote.Ref.{now}
 use Rattle.plancheck.proofs.Codes.{test-read}
 use borrow.Author.Needs.{needs}

@@ -3,10 +3,6 @@ use mathlib.Core.Path.{ap₂}
 use borrow.Author.Needs.{needs}
 use Rattle.runner.proofs.both_right.Statement.{statement}
 use Rattle.runner.proofs.both_right.Tie as tie
-use Rattle.runner.proofs.both_right.Reads as reads
-use Rattle.runner.proofs.both_right.Lts as lts
-use Rattle.plancheck.proofs.plan_well_formed.Reads as plan-well-formed-reads
-use Rattle.tablecheck.proofs.well_formed.Reads as well-formed-reads
 
 well-formed-requires : tie.Need-well-formed-requires
 well-formed-requires c κs = search needs

@@ -8,9 +8,6 @@ use Rattle.runner.specs.Run.{workCount, lentLong}
 use borrow.Author.Needs.{needs}
 use Rattle.runner.proofs.lent_long.Statement.{statement}
 use Rattle.runner.proofs.lent_long.Tie as tie
-use Rattle.runner.proofs.lent_long.Reads as reads
-use Rattle.runner.proofs.lent_long.Lts as lts
-use Rattle.tables.proofs.lent.enough.Reads as enough-reads
 
 enough-requires : tie.Need-enough-requires
 enough-requires c κs = search needs

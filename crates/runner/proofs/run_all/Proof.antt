@@ -1,5 +1,5 @@
 -- `run_all` meets its contract. The invariant: the steps below k have their words, and the rows what they are said to hold.
-use Prim.Native.Nat.{ℕ, _*_, _-_, _≤_}
+use Prim.Native.Nat.{_*_, _-_, _≤_}
 use mathlib.Core.List.{_++_}
 use mathlib.Core.Path.{_≡_, refl, _∙_}
 use native.Mathlib.Omega.{arith}

@@ -1,6 +1,4 @@
-use mathlib.Core.Path.{_∙_, ap}
 use denote.Ref.{now}
-use native.Mathlib.Omega.{arith}
 use Rattle.stepsets.proofs.Asks.{test-named}
 use Rattle.stepsets.specs.Asks.{asked}
 use borrow.Author.Needs.{needs}

@@ -1,6 +1,5 @@
 -- `end_of` meets its contract, by the laws of numbers of ends.
 use mathlib.Core.Path.{refl, _∙_}
-use native.Mathlib.Omega.{arith}
 use Rattle.stepsets.proofs.Rows.{end-self, end-along, end-link}
 use borrow.Author.Needs.{needs}
 use Rattle.stepsets.proofs.end_of.Statement.{statement}

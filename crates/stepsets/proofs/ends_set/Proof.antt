@@ -1,5 +1,5 @@
 -- `ends_set` meets its contract, by the rows of the end and of the link.
-use Prim.Native.Nat.{ℕ, _+_, _*_}
+use Prim.Native.Nat.{ℕ, _*_}
 use mathlib.Core.Path.{sym, ap, _∙_, subst}
 use lib.ListN.{drop}
 use Rattle.nodeset.specs.Words.{has}

@@ -1,4 +1,3 @@
-use mathlib.Core.Path.{_∙_}
 use Rattle.stepsets.proofs.Asks.{within-code}
 use borrow.Author.Needs.{needs}
 use Rattle.stepsets.proofs.is_within.Statement.{statement}

@@ -1,6 +1,6 @@
 -- `link_set` meets its contract. The invariant: the walk along the chain has come to `next`.
 use Prim.Native.Nat.{ℕ, suc, _≤_, _-_}
-use mathlib.Core.Path.{_≡_, sym, _∙_}
+use mathlib.Core.Path.{_≡_, sym}
 use native.Mathlib.Omega.{arith}
 use borrow.Author.Needs.{needs}
 use Rattle.nodeset.specs.Words.{has}

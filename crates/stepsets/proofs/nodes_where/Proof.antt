@@ -1,14 +1,12 @@
-use Prim.Native.Nat.{ℕ, _≤_, _<_, _-_, _*_}
-use mathlib.Core.Bool.{Bool, cond}
+use Prim.Native.Nat.{ℕ, _≤_, _-_, _*_}
+use mathlib.Core.Bool.{cond}
 use mathlib.Core.List.{List}
-use mathlib.Core.Path.{_≡_, sym, ap, ap₂, _∙_}
+use mathlib.Core.Path.{_≡_, ap, ap₂, _∙_}
 use native.Mathlib.Omega.{arith}
 use borrow.Author.Needs.{needs}
 use denote.Ref.{now}
-use lib.Dec.{ltb}
 use lib.ListN.{drop}
 use Rattle.nodeset.specs.Words.{has}
-use Rattle.nodeset.proofs.Sets.{length-of}
 use Rattle.stepsets.specs.Asks.{nodesOf, orNot, asked}
 use Rattle.stepsets.proofs.Nodes.{nodes-none, nodes-more, nodes-done, nodes-length}
 use Rattle.stepsets.proofs.nodes_where.Statement.{statement}

@@ -1,6 +1,6 @@
-use Prim.Native.Nat.{ℕ, _*_}
-use mathlib.Core.Bool.{Bool, false, cond}
-use mathlib.Core.Path.{_∙_, ap}
+use Prim.Native.Nat.{_*_}
+use mathlib.Core.Bool.{false}
+use mathlib.Core.Path.{_∙_}
 use lib.ListN.{drop, replicate}
 use denote.Ref.{now}
 use Rattle.nodeset.specs.Words.{has}

@@ -4,7 +4,7 @@ use mathlib.Core.Bool.{_&&_}
 use lib.Dec.{ltb}
 use denote.Ref.{now}
 use Rattle.tables.specs.Entries.{entryOf}
-use Rattle.tables.specs.WellFormed.{entryOk, endOk, itemsOk}
+use Rattle.tables.specs.WellFormed.{entryOk, itemsOk}
 use Rattle.tablecheck.proofs.Codes.{next, case-is, case-in, case-past, entryBy, entry-by, entry-unknown}
 use borrow.Author.Needs.{needs}
 use Rattle.tablecheck.proofs.entry_ok.Statement.{statement}
