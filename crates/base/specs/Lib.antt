@@ -4,3 +4,4 @@ pub mod Lists
 pub mod Bytes
 pub mod Columns
 pub mod Range
+pub mod Sizes

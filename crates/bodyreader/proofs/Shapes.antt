@@ -16,7 +16,7 @@ use Rattle.grammar.specs.Reading.{Read, refused, Begun, after, begunAbove}
 use Rattle.stores.specs.Entries.{shapeCells, shapeValues}
 use Rattle.encoding.specs.Encode.{poolBase}
 use Rattle.stores.specs.Lines.{putName, lineNames, lineCells, lineValues}
-use Rattle.itemreader.specs.declared.Counts.{Counts}
+use Rattle.model.specs.declared.Counts.{Counts}
 use Rattle.itemreader.specs.Held.{Held}
 use Rattle.leafreader.specs.declared.Ended.{Ended}
 use Rattle.leafreader.specs.Forms.{begunOf, endedOf}

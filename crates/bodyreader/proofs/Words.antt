@@ -9,7 +9,7 @@ use lib.IntN.{ℤ}
 use Rattle.model.specs.Books.{Line, Book}
 use Rattle.grammar.specs.Syntax.{linkL, lineFamily}
 use Rattle.grammar.specs.Reading.{Read, refused, andThen, readersAt, lineRoom, begunAbove, lineAt}
-use Rattle.itemreader.specs.declared.Counts.{Counts}
+use Rattle.model.specs.declared.Counts.{Counts}
 use Rattle.itemreader.specs.declared.Head.{Head}
 use Rattle.itemreader.specs.Answers.{headAt, wordsOf}
 use Rattle.itemreader.proofs.Heads.{bracket-bare, bracket-refused, bracket-word}

@@ -10,7 +10,7 @@ use Rattle.tables.specs.Layout.{cellCount, valueCount}
 use Rattle.grammar.specs.Syntax.{form}
 use Rattle.grammar.specs.Reading.{after, begunAbove}
 use Rattle.stores.specs.Entries.{shapeCells, shapeValues}
-use Rattle.itemreader.specs.declared.Counts.{Counts}
+use Rattle.model.specs.declared.Counts.{Counts}
 use Rattle.leafreader.specs.declared.Ended.{Ended}
 use Rattle.leafreader.specs.Forms.{endedOf}
 

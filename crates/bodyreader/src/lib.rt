@@ -1,7 +1,6 @@
 // The reader of a line: a shape line, and any line by its word.
 // Functions for the crate above, on tables that hold the lines above. Operations: none.
 use formreader::read_form;
-use itemreader::Counts;
 use itemreader::Head;
 use itemreader::Item;
 use itemreader::Pool;
@@ -20,6 +19,7 @@ use linereader::resource_line;
 use linereader::rule_line;
 use linereader::text_line;
 use linereader::words_line;
+use model::Counts;
 use tables::layout::ROOTS;
 ghost use mathlib.Core.Path.{_≡_};
 ghost use mathlib.Core.List.{List};

@@ -2,19 +2,11 @@
 // number and one, and 0 ends a chain. What has no key of interest is never looked at.
 //
 // For the crates above, on slices that these have shown to be long enough:
-//   entry   what stands at a place
-//   link    an item joins the chain of its key
+//   link   an item joins the chain of its key
 ghost use mathlib.Core.Path.{_≡_};
 ghost use Prim.Native.Nat.{_+_, _<_};
-ghost use lib.ListN.{length, getD};
+ghost use lib.ListN.{length};
 ghost use Rattle.chains.specs.Chains.{linked};
-
-// What stands at a place, 0 past the end.
-pub fn entry(index: &[u16], i: usize) -> u16
-    ensures { λ r. ⌜ r ≡ getD (now (index .entry)) i 0 ⌝ }
-{
-    if i < index.len() { index[i] } else { 0 }
-}
 
 // Item i, of key h, joins its chain.
 pub fn link(index: &mut [u16], heads: usize, nexts: usize, h: usize, i: usize)

@@ -14,8 +14,7 @@ use Rattle.base.specs.Lists.{values}
 use Rattle.base.proofs.Lists.{length-valuesFrom, valuesFrom-snoc}
 use Rattle.tables.specs.Layout.{formCount, ruleCount, rootAt, ruleShapeAt, ruleTargetAt, ruleOperandAt}
 use Rattle.tables.specs.Decode.{entryAt, targetOf, ruleAt}
-use Rattle.tables.specs.Sizes.{blank}
-use Rattle.tables.proofs.Blank.{blank-front}
+use Rattle.tables.specs.Sizes.{cleared}
 use Rattle.plan.specs.Steps.{Step, numbersOf}
 use Rattle.plan.specs.Layout.{planCount, laid, withNumbers, withSteps, planCells}
 use Rattle.plan.proofs.Stores.{store-rule, store-count, store-steps, laid-none}
@@ -29,8 +28,9 @@ zeros zero j = refl
 zeros (suc n) zero = refl
 zeros (suc n) (suc j) = zeros n j
 
-pub blank-laid : (ps : List ℕ) → planCount ≤ length ps → blank planCount 0 ps ≡ laid (drop planCount ps) [] [] []
-blank-laid ps l = blank-front 0 planCount ps l ∙ sym (laid-none (drop planCount ps))
+pub cleared-laid : (ps : List ℕ) → cleared planCount 0 ps ≡ laid (drop planCount ps) [] [] []
+unfolding cleared
+cleared-laid ps = sym (laid-none (drop planCount ps))
 
 -- ---- a store in an array of step numbers
 put-set : (xs : List ℕ) (e x : ℕ) (f : ℕ → ℕ) → e < length xs → ((j : ℕ) → getD xs j 0 ≡ f j) → (j : ℕ) → getD (set xs e x) j 0 ≡ putAt f e x j
@@ -124,9 +124,9 @@ rule-more cs t qs rs r n b lr ln en eb f g =
     ∙ ap (λ (k : ℕ). laid t [] (values (ruleStep cs) k) (stepsTo cs k)) (sym (add-one r))
 
 -- ---- the whole plan
-pub forms-laid : (cs ps p0 p1 : List ℕ) → planCount ≤ length ps → length (made cs (formCount cs) .steps) ≤ 512 → p0 ≡ blank planCount 0 ps → p1 ≡ withSteps p0 0 (made cs (formCount cs) .steps) → p1 ≡ laid (drop planCount ps) [] [] (stepsTo cs 0)
+pub forms-laid : (cs ps p0 p1 : List ℕ) → planCount ≤ length ps → length (made cs (formCount cs) .steps) ≤ 512 → p0 ≡ cleared planCount 0 ps → p1 ≡ withSteps p0 0 (made cs (formCount cs) .steps) → p1 ≡ laid (drop planCount ps) [] [] (stepsTo cs 0)
 unfolding stepsTo
-forms-laid cs ps p0 p1 l few e f = f ∙ ap (λ (p : List ℕ). withSteps p 0 (made cs (formCount cs) .steps)) (e ∙ blank-laid ps l) ∙ store-steps (drop planCount ps) [] [] [] 0 (made cs (formCount cs) .steps) refl (omega arith)
+forms-laid cs ps p0 p1 l few e f = f ∙ ap (λ (p : List ℕ). withSteps p 0 (made cs (formCount cs) .steps)) (e ∙ cleared-laid ps) ∙ store-steps (drop planCount ps) [] [] [] 0 (made cs (formCount cs) .steps) refl (omega arith)
 
 pub plan-laid : (cs t p2 : List ℕ) (m : ℕ) → p2 ≡ laid t [] (values (ruleStep cs) (ruleCount cs)) (stepsTo cs (ruleCount cs)) → m ≡ length (stepsOf cs) → set p2 0 m ≡ planOf cs ++ t
 unfolding planOf planCells stepsOf

@@ -1,4 +1,5 @@
 // Tables to a plan: the code for the definition of translation. Operations: compile.
+use base::cell;
 use model::Refusal;
 use plan::PLAN_CELLS;
 use plan::RULE_STEPS;
@@ -48,13 +49,6 @@ fn narrow(x: usize) -> u16
     ensures { λ r. ⌜ r ≡ x ⌝ }
 {
     x as u16
-}
-
-// The number at j, 0 past the end.
-fn number_at(list: &[u16], j: usize) -> u16
-    ensures { λ r. ⌜ r ≡ getD (now (list .entry)) j 0 ⌝ }
-{
-    if j < list.len() { list[j] } else { 0 }
 }
 
 // A keeping step and a breaking one, neither of them a count.
@@ -124,10 +118,10 @@ fn joined(
 {
     let a = wide(form_first(cells, e));
     let b = wide(form_second(cells, e));
-    let x = number_at(keeps, a);
-    let y = number_at(keeps, b);
-    let z = number_at(breaks, a);
-    let w = number_at(breaks, b);
+    let x = cell(keeps, a);
+    let y = cell(keeps, b);
+    let z = cell(breaks, a);
+    let w = cell(breaks, b);
     two(plan, n, c, x, y, d, z, w)
 }
 
@@ -157,8 +151,8 @@ fn all_entry(
     ensures { λ r. ⌜ TwoAdded (now (plan .entry)) (now (plan .exit)) n (9 ∷ formFirstAt (now (cells .entry)) e ∷ getD (now (keeps .entry)) (formSecondAt (now (cells .entry)) e) 0 ∷ 0 ∷ 0 ∷ []) (8 ∷ formFirstAt (now (cells .entry)) e ∷ getD (now (breaks .entry)) (formSecondAt (now (cells .entry)) e) 0 ∷ 1 ∷ 65535 ∷ []) (r .next) (r .keep) (r .brk) ⌝ }
 {
     let a = wide(form_second(cells, e));
-    let j = number_at(keeps, a);
-    let k = number_at(breaks, a);
+    let j = cell(keeps, a);
+    let k = cell(breaks, a);
     all_steps(plan, n, form_first(cells, e), j, k)
 }
 
@@ -198,7 +192,7 @@ fn count_entry(plan: &mut [u16], cells: &[u16], keeps: &[u16], e: usize, n: usiz
     requires { ⌜ (planCount ≤ length (now plan)) × (n + 4 ≤ 512) ⌝ }
     ensures { λ r. ⌜ Added (now (plan .entry)) (now (plan .exit)) n (countPart n (formFirstAt (now (cells .entry)) e) (getD (now (keeps .entry)) (formSecondAt (now (cells .entry)) e) 0) (formThirdAt (now (cells .entry)) e) (formFourthAt (now (cells .entry)) e)) (r .next) (r .keep) (r .brk) ⌝ }
 {
-    let j = number_at(keeps, wide(form_second(cells, e)));
+    let j = cell(keeps, wide(form_second(cells, e)));
     let lo = form_third(cells, e);
     let hi = form_fourth(cells, e);
     count_steps(plan, n, form_first(cells, e), j, lo, hi)
@@ -211,8 +205,8 @@ fn swapped(cells: &[u16], keeps: &[u16], breaks: &[u16], e: usize, n: usize) -> 
     let a = wide(form_first(cells, e));
     Out {
         next: n,
-        keep: number_at(breaks, a),
-        brk: number_at(keeps, a),
+        keep: cell(breaks, a),
+        brk: cell(keeps, a),
     }
 }
 
@@ -223,8 +217,8 @@ fn same_steps(cells: &[u16], keeps: &[u16], breaks: &[u16], e: usize, n: usize) 
     let a = root(cells, wide(form_first(cells, e)));
     Out {
         next: n,
-        keep: number_at(keeps, a),
-        brk: number_at(breaks, a),
+        keep: cell(keeps, a),
+        brk: cell(breaks, a),
     }
 }
 
@@ -303,7 +297,7 @@ fn rule_steps(plan: &mut [u16], cells: &[u16], breaks: &[u16], r: usize, n: usiz
     requires { ⌜ (planCount ≤ length (now plan)) × (r < 32) × (n + 2 ≤ 512) ⌝ }
     ensures { λ _. ⌜ now (plan .exit) ≡ ruleStored (now (cells .entry)) (now (plan .entry)) r n (getD (now (breaks .entry)) (rootAt (now (cells .entry)) (ruleShapeAt (now (cells .entry)) r)) 0) ⌝ }
 {
-    let b = number_at(breaks, root(cells, rule_shape(cells, r)));
+    let b = cell(breaks, root(cells, rule_shape(cells, r)));
     target_step(plan, cells, r, n);
     put_step(plan, n + 1, 6, narrow(n), b, 0, 0);
     plan[RULE_STEPS + r] = narrow(n + 1);

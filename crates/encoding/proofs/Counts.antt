@@ -9,7 +9,7 @@ use lib.IntN.{pos}
 use Rattle.base.proofs.Columns.{at-flat, length-flat}
 use Rattle.model.specs.Paths.{Path, predicate, inverse, sequence, alternative, End, self, along}
 use Rattle.model.specs.Shapes.{Test, nodeKind, datatype, languageIn, minInclusive, minExclusive, maxInclusive, maxExclusive, Shape, top, hasShape, hasValue, conj, disj, neg, test, count, forAll, equals, disjoint, closed, lessThan, lessThanEq, uniqueLang}
-use Rattle.model.specs.Books.{Book, link, lang, shape, Pool, nodes, links, types, langs, shapes, poolNumber, newTriples, newShapes, collect, names, rules}
+use Rattle.model.specs.Books.{Book, shape, Pool, nodes, links, types, langs, shapes, poolNumber, newTriples, newShapes, collect, names, rules}
 use Rattle.model.specs.Sizes.{pathEntries, endEntries, formEntries, shapePaths, testItems, listItems, sumOver, formsIn, pathsIn, itemsIn}
 use Rattle.tables.specs.Layout.{cellCount, valueCount, nameCount, factCount, pathCount, formCount, itemCount, ruleCount}
 use Rattle.tables.specs.Entries.{PathEntry, inv, seq, alt, Entry}
@@ -164,12 +164,12 @@ entries-size b = shapes-size (collect newShapes b) noEntries
 
 pub paths-counted : (b : Book) → pathCount (encodeCells b) ≡ pathsIn b
 unfolding countsOf
-paths-counted b = count-at b 6 (omega arith) ∙ omega (arith, entries-size b)
+paths-counted b = count-at b 6 (omega arith)
 
 pub forms-counted : (b : Book) → formCount (encodeCells b) ≡ formsIn b
 unfolding countsOf
-forms-counted b = count-at b 7 (omega arith) ∙ omega (arith, entries-size b)
+forms-counted b = count-at b 7 (omega arith)
 
 pub items-counted : (b : Book) → itemCount (encodeCells b) ≡ itemsIn b
 unfolding countsOf
-items-counted b = count-at b 8 (omega arith) ∙ omega (arith, entries-size b)
+items-counted b = count-at b 8 (omega arith)

@@ -15,6 +15,7 @@ use Rattle.base.specs.Lists.{allb}
 use Rattle.base.proofs.Bools.{and-left, and-right}
 use Rattle.text.specs.Pool.{padded, poolOf}
 use Rattle.model.specs.Books.{nodes, links, types, builtIn, collect, names, rules}
+use Rattle.model.specs.Sizes.{sumOver, formsIn, pathsIn, itemsIn}
 use Rattle.model.specs.Valid.{capacity}
 use Rattle.tables.specs.Layout.{cellCount, valueCount, linkNames, typeNames}
 use Rattle.encoding.specs.Flatten.{addShapes, rootsOf}
@@ -30,7 +31,7 @@ zeros-at (x ∷ xs) h zero = eqb-true x 0 (and-left _ _ h)
 zeros-at (x ∷ xs) h (suc i) = zeros-at xs (and-right (eqb x 0) _ h) i
 
 counts-empty : (i : ℕ) → getD (countsOf []) i 0 ≡ getD (0 ∷ 1 ∷ 1 ∷ []) i 0
-unfolding countsOf entriesOf collect names builtIn rules addShapes allb
+unfolding countsOf pathsIn formsIn itemsIn sumOver collect names builtIn rules allb
 counts-empty zero = refl
 counts-empty (suc zero) = refl
 counts-empty (suc (suc zero)) = refl
@@ -38,7 +39,7 @@ counts-empty (suc (suc (suc i))) = zeros-at (drop 3 (countsOf [])) refl i
 
 -- no node, one link, one type, and no more
 pub cells-empty : (i : ℕ) → getD (encodeCells []) i 0 ≡ getD (0 ∷ 1 ∷ 1 ∷ []) i 0
-unfolding encodeCells contentOf countsOf entriesOf collect rules addShapes rootsOf allb
+unfolding encodeCells contentOf countsOf pathsIn formsIn itemsIn sumOver entriesOf collect rules addShapes rootsOf allb
 cells-empty i =
     let cs = drop 1 (cellColumns (contentOf [])) in
     at-first 0 (col 10 (countsOf [])) cs (omega arith) (at-blank 0 cs refl) i ∙ counts-empty i

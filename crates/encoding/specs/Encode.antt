@@ -1,13 +1,13 @@
 -- The three tables of a book: columns of fixed widths, what is not used being zero.
 use Prim.Native.Nat.{ℕ}
 use mathlib.Core.List.{List, [], _∷_, map}
-use lib.ListN.{length}
 use lib.IntN.{ℤ, pos}
 use Rattle.base.specs.Columns.{Column, flat}
 use Rattle.text.specs.Pool.{poolOf}
 use Rattle.model.specs.Graph.{Term, Triple}
 use Rattle.model.specs.Rules.{Rule}
 use Rattle.model.specs.Books.{Book, Pool, nodes, links, types, langs, shapes, names, collect, newTerms, newTriples, newShapes, rules}
+use Rattle.model.specs.Sizes.{countsIn, countList}
 use Rattle.tables.specs.Layout.{linkNames, typeNames, langNames, shapeNames}
 use Rattle.encoding.specs.Rows.{nodeRow, PathRow, pathRow, FormRow, formRow, targetCode, targetOperand}
 use Rattle.encoding.specs.Flatten.{Entries, addShapes, rootsOf, noEntries}
@@ -65,12 +65,7 @@ unfoldable pub entriesOf : Book → Entries
 entriesOf b = addShapes (collect newShapes b) noEntries
 
 unfoldable pub countsOf : Book → List ℕ
-countsOf b =
-    length (names nodes b) ∷ length (names links b) ∷ length (names types b) ∷ length (names langs b) ∷ length (names shapes b)
-    ∷ length (collect newTriples b)
-    ∷ length (entriesOf b .paths) ∷ length (entriesOf b .forms) ∷ length (entriesOf b .items)
-    ∷ length (rules b)
-    ∷ []
+countsOf b = countList (countsIn b)
 
 unfoldable pub contentOf : Book → Content
 contentOf b =

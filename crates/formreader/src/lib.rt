@@ -1,6 +1,6 @@
 // The reader of FORM, which calls itself with the remaining depth falling. It stores each form entry as it ends.
 // Functions for the crates above, on positions of a text that these have shown to lie within it. Operations: none.
-use itemreader::Counts;
+use base::pick_cell;
 use itemreader::Head;
 use itemreader::Item;
 use itemreader::form_head;
@@ -9,9 +9,9 @@ use itemreader::read_low;
 use leafreader::Ended;
 use leafreader::Form;
 use leafreader::close_form;
-use leafreader::pick;
 use leafreader::read_leaf;
 use leafreader::read_true;
+use model::Counts;
 use pathreader::read_path;
 use text::byte;
 ghost use mathlib.Core.Path.{_≡_};
@@ -225,8 +225,8 @@ fn close_child(cells: &mut [u16], book: &[u8], at: usize, n: Ended, front: Front
         at,
         n,
         front.code,
-        pick(lone, child, front.path),
-        pick(lone, 0, child),
+        pick_cell(lone, child, front.path),
+        pick_cell(lone, 0, child),
         front.low,
         front.high,
     )

@@ -5,29 +5,28 @@ use mathlib.Core.List.{List, [], _∷_, _++_, map}
 use mathlib.Core.Bool.{Bool, true, false, not, cond, _&&_, _||_}
 use mathlib.Core.Logic.{_⊎_, inl, inr, ⊎-elim}
 use native.Mathlib.Omega.{arith}
-use lib.Dec.{eqb, leb}
 use lib.ListN.{length, getD}
 use lib.Seq.{slice, slice-empty}
 use borrow.Author.Tests.{ltb-true, not-true}
-use Rattle.base.specs.Range.{inRange}
 use Rattle.base.specs.Lists.{allb}
 use Rattle.base.specs.Bytes.{bytes, eql}
 use Rattle.base.proofs.Bools.{and-left, and-right, and-both, never-both}
 use Rattle.base.proofs.Bytes.{eql-true, eql-refl}
 use Rattle.text.specs.Items.{edge, itemEnd, isName}
 use Rattle.text.specs.Decimals.{decimal, signed}
-use Rattle.text.proofs.Spans.{Span, span-join, span-head, span-split, span-none, span-nothing}
+use Rattle.text.specs.Spans.{Span}
+use Rattle.text.proofs.Spans.{span-join, span-head, span-split, span-none, span-nothing}
 use Rattle.text.proofs.Items.{itemEnd-edge}
 use Rattle.text.proofs.Words.{word-item, word-ends, item-span}
-use Rattle.model.specs.Graph.{iri, langString}
 use Rattle.model.specs.Paths.{Path, predicate, inverse, sequence, alternative, End, self, along}
-use Rattle.model.specs.Books.{Book, nodes, links, types, names, collect, newTerms}
+use Rattle.model.specs.Books.{Book, nodes, links, types, names}
 use Rattle.model.specs.Sizes.{endEntries}
-use Rattle.model.specs.Valid.{defined, hasRoom, isResource, upperOk, pathOk, endOk, shapeOk, targetOk}
+use Rattle.model.specs.Valid.{defined, pathOk, endOk}
 use Rattle.grammar.specs.Writing.{spaced, bracket, writeKind, writeUpper, nameOf, writePath, writeEnd, writeShape, writeTarget}
-use Rattle.grammar.specs.Valid.{pathDepth, endDepth, shapeDepth, reserved, wellNamed, newName}
+use Rattle.grammar.specs.Valid.{pathDepth, endDepth, shapeDepth, reserved, wellNamed}
 use Rattle.grammar.specs.Syntax.{Slot, used, new, subject, literalType, kindWord, value, low, high, path, end, form, target, list, Arg, Args}
 use Rattle.grammar.specs.Reading.{Read, got, andThen, Begun, after, Readers, endAt, argAt, argsAt}
+use Rattle.grammar.specs.Args.{isList, writeArg, argOk}
 use Rattle.grammar.proofs.Exact.{Exact, Edge, one-of, thens, got-value, got-next, edge-of, edge-inside, ends-of, space-exact, exact-as}
 use Rattle.grammar.proofs.Leaves.{Pools, used-exact, new-exact, subject-exact, literalType-exact, kind-exact, value-exact, low-exact, high-exact, list-exact, named-plain}
 
@@ -62,21 +61,6 @@ pub record Fit (n : Begun) : Type 0 where
   pub items : n .items ≤ 128
 
 -- a list is the last at its bracket
-abbrev pub isList : Slot → Bool
-isList (used p) = false
-isList (new p) = false
-isList subject = false
-isList literalType = false
-isList kindWord = false
-isList value = false
-isList low = false
-isList high = false
-isList path = false
-isList end = false
-isList form = false
-isList target = false
-isList (list p) = true
-
 abbrev pub isLast : List Slot → Bool
 isLast [] = true
 isLast (k ∷ ks) = false
@@ -86,48 +70,17 @@ proper [] = true
 proper (k ∷ ks) = (not (isList k) || isLast ks) && proper ks
 
 module _ (above : Book) where
-  -- with the space before it
-  abbrev pub writeArg : (k : Slot) → Arg k → List ℕ
-  writeArg (used p) a = 32 ∷ nameOf above p a
-  writeArg (new p) a = 32 ∷ a
-  writeArg subject a = 32 ∷ nameOf above nodes a
-  writeArg literalType a = 32 ∷ nameOf above types a
-  writeArg kindWord a = 32 ∷ writeKind a
-  writeArg value a = 32 ∷ signed a
-  writeArg low a = 32 ∷ decimal a
-  writeArg high a = 32 ∷ writeUpper a
-  writeArg path a = 32 ∷ writePath above a
-  writeArg end a = 32 ∷ writeEnd above a
-  writeArg form a = 32 ∷ writeShape above a
-  writeArg target a = 32 ∷ writeTarget above a
-  writeArg (list p) a = spaced (map (nameOf above p) a)
-
   abbrev pub writeArgs : (ks : List Slot) → Args ks → List ℕ
   writeArgs [] xs = []
-  writeArgs (k ∷ ks) xs = writeArg k (xs .0) ++ writeArgs ks (xs .1)
-
-  abbrev pub argOk : (k : Slot) → Arg k → Bool
-  argOk (used p) a = defined above p a
-  argOk (new p) a = newName above p a && hasRoom above p
-  argOk subject a = defined above nodes a && isResource (getD (collect newTerms above) a iri)
-  argOk literalType a = defined above types a && not (eqb a langString)
-  argOk kindWord a = true
-  argOk value a = inRange a
-  argOk low a = leb a 1024
-  argOk high a = upperOk a
-  argOk path a = pathOk above a
-  argOk end a = endOk above a
-  argOk form a = shapeOk above a
-  argOk target a = targetOk above a
-  argOk (list p) a = allb (defined above p) a
+  writeArgs (k ∷ ks) xs = writeArg above k (xs .0) ++ writeArgs ks (xs .1)
 
   abbrev pub argsOk : (ks : List Slot) → Args ks → Bool
   argsOk [] xs = true
-  argsOk (k ∷ ks) xs = argOk k (xs .0) && argsOk ks (xs .1)
+  argsOk (k ∷ ks) xs = argOk above k (xs .0) && argsOk ks (xs .1)
 
   -- within the depth that is left, and within the limits
   abbrev pub Good : ℕ → Begun → (k : Slot) → Arg k → Type 0
-  Good d n k a = (argOk k a ≡ true) × (argDepth k a ≤ d) × Fit (after k a n)
+  Good d n k a = (argOk above k a ≡ true) × (argDepth k a ≤ d) × Fit (after k a n)
 
   abbrev pub AllGood : ℕ → Begun → (ks : List Slot) → Args ks → Type 0
   AllGood d n ks xs = (argsOk ks xs ≡ true) × (argsDepth ks xs ≤ d) × Fit (afterAll ks xs n)

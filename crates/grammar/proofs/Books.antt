@@ -14,7 +14,8 @@ use Rattle.base.specs.Lists.{anyb, allb}
 use Rattle.base.specs.Bytes.{bytes, eql}
 use Rattle.base.proofs.Bools.{bool-cases, and-left, and-right, and-both}
 use Rattle.text.specs.Items.{isName, nameByte}
-use Rattle.text.proofs.Spans.{Span, span-join, span-split, span-whole, span-all, span-nothing, span-none, span-length}
+use Rattle.text.specs.Spans.{Span}
+use Rattle.text.proofs.Spans.{span-join, span-split, span-whole, span-all, span-nothing, span-none, span-length}
 use Rattle.model.specs.Books.{Name, Line, link, type, lang, node, fact, shape, rule, Book, Pool, nodes, links, types, langs, shapes, poolNumber, builtIn, joins, newNames, collect, names}
 use Rattle.model.specs.Valid.{lineOk, admissibleFrom, admissible}
 use Rattle.model.proofs.Lines.{names-snoc, same-pool, forms-within, paths-within, items-within}

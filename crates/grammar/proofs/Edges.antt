@@ -17,7 +17,8 @@ use Rattle.text.specs.Decimals.{numberOf, positiveOf, negativeOf, boundOf, isMa
 use Rattle.text.specs.Pool.{indexOf, firstFrom}
 use Rattle.text.specs.declared.Found.{Found}
 use Rattle.text.proofs.Places.{index-nothing}
-use Rattle.text.proofs.Spans.{Span, span-split, span-head, span-length, span-whole}
+use Rattle.text.specs.Spans.{Span}
+use Rattle.text.proofs.Spans.{span-split, span-head, span-length, span-whole}
 use Rattle.text.proofs.Words.{word-ends, word-item, span-ends, names-plain}
 use Rattle.model.specs.Graph.{iri}
 use Rattle.model.specs.Books.{Name, Line, node, Book, Pool, nodes, builtIn, joins, newNames, newTerms, newTriples, newShapes, newRules, collect, names, rules}

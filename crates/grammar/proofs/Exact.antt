@@ -12,7 +12,8 @@ use borrow.Author.Tests.{eqb-true, eq-eqb}
 use Rattle.base.specs.Lists.{allb}
 use Rattle.text.specs.Items.{edge, itemEnd}
 use Rattle.text.proofs.Parts.{inside}
-use Rattle.text.proofs.Spans.{Span, span-join, span-byte, span-head}
+use Rattle.text.specs.Spans.{Span}
+use Rattle.text.proofs.Spans.{span-join, span-byte, span-head}
 use Rattle.text.proofs.Words.{plain, Ends, word-ends, word-item, item-span}
 use Rattle.grammar.specs.Reading.{Read, got, refused, andThen}
 

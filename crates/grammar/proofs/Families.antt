@@ -13,7 +13,8 @@ use Rattle.base.specs.Lists.{allb}
 use Rattle.text.specs.Items.{edge, itemEnd}
 use Rattle.text.specs.Pool.{indexOf}
 use Rattle.text.specs.declared.Found.{Found}
-use Rattle.text.proofs.Spans.{Span, span-join, span-byte, span-head, span-split, span-one}
+use Rattle.text.specs.Spans.{Span}
+use Rattle.text.proofs.Spans.{span-join, span-byte, span-head, span-split, span-one}
 use Rattle.text.proofs.Words.{plain, word-ends, word-item, item-span}
 use Rattle.text.proofs.Places.{index-at}
 use Rattle.model.specs.Books.{Book}

@@ -9,37 +9,20 @@ use lib.Dec.{ltb}
 use lib.ListN.{length, length-append}
 use borrow.Author.Tests.{ltb-true, ltb-false, lt-ltb}
 use Rattle.base.proofs.Bools.{and-left, and-right}
-use Rattle.text.proofs.Spans.{Span, span-join, span-split, span-none, span-nothing, span-whole}
+use Rattle.text.specs.Spans.{Span}
+use Rattle.text.proofs.Spans.{span-join, span-split, span-none, span-nothing, span-whole}
 use Rattle.model.specs.Limits.{maxBytes}
 use Rattle.model.specs.Books.{Line, Book}
 use Rattle.grammar.specs.Writing.{writeLine, renderFrom, render}
 use Rattle.grammar.specs.Valid.{validLine, validFrom}
 use Rattle.grammar.specs.Reading.{got, refused, lineAt, accepted, turnedDown, follow, linesFrom, reading}
+use Rattle.grammar.specs.Grounds.{Grounded, NoneBegins, Agree, stop}
 use Rattle.grammar.proofs.Exact.{never-refused, got-value, got-next}
 use Rattle.grammar.proofs.Lines.{line-sound, line-complete}
 use Rattle.grammar.proofs.Books.{Sane, sane-start, sane-more, pools-of, fit-of, never-accepted, either, follows, longer}
-use Rattle.grammar.proofs.GroundsLocal.{Agree, agree-less, agree-inside, stop, stop-past}
-use Rattle.grammar.proofs.Grounds.{Ground, ground-numbered}
+use Rattle.grammar.proofs.GroundsLocal.{agree-less, agree-inside, stop-past}
+use Rattle.grammar.proofs.Grounds.{ground-numbered}
 use Rattle.grammar.proofs.GroundsReaders.{line-settled}
-
--- the text s is refused by number r at line k
-pub record Grounded (s : List ℕ) (r k : ℕ) : Type 0 where
-  -- the lines above are those of a valid book, written up to `at`
-  pub above : Book
-  pub counted : suc (length above) ≡ k
-  pub right : validFrom [] above ≡ true
-  pub at : ℕ
-  pub written : Span s 0 at (renderFrom [] above)
-  -- the line that begins there is refused, at the item at `place`
-  pub refuses : lineAt s above at ≡ refused r
-  pub place : ℕ
-  pub inside : at ≤ place
-  pub ground : Ground s above at r place
-
--- no valid book's text, of whatever length, begins with the bytes up to the end of the item at p and the byte after it. (Where
--- s ends there, its end stands for that byte: no valid book's text is s.)
-abbrev pub NoneBegins : List ℕ → ℕ → Type 0
-NoneBegins s p = (b : Book) → validFrom [] b ≡ true → Agree (stop s p) (render b) s → ⊥
 
 -- one more line
 render-snoc : (a b : Book) (l : Line) → renderFrom a (b ++ (l ∷ [])) ≡ renderFrom a b ++ (writeLine (a ++ b) l ++ (10 ∷ []))

@@ -21,7 +21,8 @@ use Rattle.text.specs.declared.Bound.{Bound}
 use Rattle.text.proofs.Items.{itemEnd-from}
 use Rattle.text.proofs.Places.{index-at, index-nothing}
 use Rattle.text.proofs.Inverse.{number-range, number-not, bound-over, bound-not}
-use Rattle.text.proofs.Spans.{Span, span-byte, span-join}
+use Rattle.text.specs.Spans.{Span}
+use Rattle.text.proofs.Spans.{span-byte, span-join}
 use Rattle.text.proofs.Words.{item-span}
 use Rattle.model.specs.Paths.{predicate}
 use Rattle.model.specs.Shapes.{Kind, anIri, aBlank, aLiteral, atMost, unbounded, top}
@@ -33,7 +34,7 @@ use Rattle.grammar.specs.Syntax.{Slot, new, kindWord, value, low, high, 
 use Rattle.grammar.specs.Reading.{Read, got, refused, andThen, Begun, known, unknown, usedAt, newAt, kindNumbered, kindAt, valued, valueAt, bounded, lowAt, highAt, listAt, trueAt}
 use Rattle.grammar.proofs.Leaves.{used-only, fresh-nothing, nothing-fresh}
 use Rattle.grammar.proofs.GroundsLocal.{stop-item, Settled, settled-got, settled-refused, settled-lower, settled-cond, settled-byte, settled-item, settled-then}
-use Rattle.grammar.proofs.Grounds.{PathSlot, NameSlot, an-item, words, Fits, Waits, item, Item, is-true, is-link, Ground, misfit, value-range, low-range, high-range, undefined, repeated, pool-full, items-full, forms-full, paths-full}
+use Rattle.grammar.specs.Grounds.{PathSlot, NameSlot, an-item, words, Fits, Waits, item, Item, is-true, is-link, Ground, misfit, value-range, low-range, high-range, undefined, repeated, pool-full, items-full, forms-full, paths-full}
 
 -- a name that is found is one of those
 found-any : (ws : List (List ℕ)) (w : List ℕ) (k : ℕ) → indexOf ws w ≡ Found.At k → anyb (eql w) ws ≡ true

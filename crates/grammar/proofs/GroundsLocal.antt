@@ -15,13 +15,10 @@ use Rattle.text.specs.Items.{edge, itemEnd}
 use Rattle.text.proofs.Items.{itemEnd-from, itemEnd-edge}
 use Rattle.text.proofs.Words.{word-ends, item-plain, item-ends}
 use Rattle.grammar.specs.Reading.{Read, got, refused, andThen}
+use Rattle.grammar.specs.Grounds.{Agree, stop}
 use Rattle.grammar.proofs.Exact.{never-refused, thens, got-next, edge-of, edge-inside}
 
 -- ---- texts that agree
--- in their first e bytes; where one has fewer, they are the same text
-abbrev pub Agree : ℕ → List ℕ → List ℕ → Type 0
-Agree e t s = take e t ≡ take e s
-
 pub agree-less : (d e : ℕ) (t s : List ℕ) → d ≤ e → Agree e t s → Agree d t s
 agree-less d e t s h g = sym (take-take d e t h) ∙ ap (λ (l : List ℕ). take d l) g ∙ take-take d e s h
 
@@ -49,10 +46,6 @@ agree-end p t s g = ⊎-elim
 
 pub agree-item : (p : ℕ) (t s : List ℕ) → Agree (itemEnd s p + 1) t s → slice p (itemEnd t p) t ≡ slice p (itemEnd s p) s
 agree-item p t s g = ap (λ (e : ℕ). slice p e t) (agree-end p t s g) ∙ ap (λ (l : List ℕ). drop p l) (agree-less (itemEnd s p) (itemEnd s p + 1) t s (omega arith) g)
-
--- ---- the bytes up to the end of an item, and the byte after it; an opening bracket and the word after it are one item
-unfoldable pub stop : List ℕ → ℕ → ℕ
-stop s p = itemEnd s (cond (eqb (getD s p 0) 40) (p + 1) p) + 1
 
 pub stop-open : (s : List ℕ) (p : ℕ) → getD s p 0 ≡ 40 → itemEnd s (p + 1) < stop s p
 unfolding stop

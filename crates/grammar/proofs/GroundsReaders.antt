@@ -15,7 +15,8 @@ use Rattle.text.specs.Items.{edge, itemEnd}
 use Rattle.text.specs.Pool.{indexOf}
 use Rattle.text.specs.declared.Found.{Found}
 use Rattle.text.proofs.Items.{itemEnd-from, itemEnd-edge}
-use Rattle.text.proofs.Spans.{Span, span-byte, span-join}
+use Rattle.text.specs.Spans.{Span}
+use Rattle.text.proofs.Spans.{span-byte, span-join}
 use Rattle.text.proofs.Words.{item-span}
 use Rattle.model.specs.Graph.{iri, langString}
 use Rattle.model.specs.Paths.{self, along}
@@ -27,12 +28,14 @@ use Rattle.grammar.specs.Syntax.{Slot, used, new, subject, literalType, 
 use Rattle.grammar.specs.Reading.{Read, got, refused, andThen, Begun, after, formBegun, pathBegun, Readers, usedAt, subjectAt, literalTypeAt, newAt, kindAt, valueAt, lowAt, highAt, endAt, argAt, argsAt, closeAt, bodyAt, headed, bracketAt, linkAt, trueAt, within, noReaders, readersAt, lineRoom, begunAbove, lineAt}
 use Rattle.grammar.proofs.Exact.{thens, got-next, edge-of, edge-inside}
 use Rattle.grammar.proofs.Leaves.{Pools}
-use Rattle.grammar.proofs.Args.{isList, Fit, Exacts, arg-exact}
+use Rattle.grammar.specs.Args.{isList}
+use Rattle.grammar.proofs.Args.{Fit, Exacts, arg-exact}
 use Rattle.grammar.proofs.Families.{word-of}
 use Rattle.grammar.proofs.Nesting.{readers-exact}
 use Rattle.grammar.proofs.Lines.{bracket-line}
 use Rattle.grammar.proofs.GroundsLocal.{stop-open, stop-item, stop-past, settled-got, settled-refused, settled-lower, settled-cond, settled-byte, settled-item, settled-then}
-use Rattle.grammar.proofs.Grounds.{PathSlot, a-path, an-end, any, a-subject, a-type, a-link, words, Fits, path-bracket, form-bracket, target-bracket, Waits, line, inner, next, Opening, Bracket, is-bracket, Ground, no-line, no-line-word, no-space, misfit, no-word, no-close, no-end, nesting, forms-full, paths-full, facts-full, rules-full, waits-inside}
+use Rattle.grammar.specs.Grounds.{PathSlot, a-path, an-end, any, a-subject, a-type, a-link, words, Fits, path-bracket, form-bracket, target-bracket, Waits, line, inner, next, Opening, Bracket, is-bracket, Ground, no-line, no-line-word, no-space, misfit, no-word, no-close, no-end, nesting, forms-full, paths-full, facts-full, rules-full}
+use Rattle.grammar.proofs.Grounds.{waits-inside}
 use Rattle.grammar.proofs.GroundsLeaves.{found-none, other-item, Settles, itemAt, name-settled, name-check, link-settled, new-settled, kind-settled, value-settled, low-settled, high-settled, true-settled, list-settled}
 
 -- where PATH or END is wanted, the words are those of paths

@@ -20,7 +20,8 @@ use Rattle.text.specs.Pool.{indexOf, firstFrom}
 use Rattle.text.specs.declared.Found.{Found}
 use Rattle.text.specs.declared.Number.{Number}
 use Rattle.text.specs.declared.Bound.{Bound}
-use Rattle.text.proofs.Spans.{Span, span-join, span-byte, span-head, span-split, span-none, span-nothing}
+use Rattle.text.specs.Spans.{Span}
+use Rattle.text.proofs.Spans.{span-join, span-byte, span-head, span-split, span-none, span-nothing}
 use Rattle.text.proofs.Words.{plain, names-plain}
 use Rattle.text.proofs.Places.{NoneOf, index-at, index-nothing}
 use Rattle.text.proofs.Inverse.{number-value, bound-value, decimal-digits, decimal-plain, signed-plain}

@@ -10,7 +10,8 @@ use lib.ListN.{length, getD}
 use borrow.Author.Tests.{eqb-true, eq-eqb, leb-true, le-leb}
 use Rattle.base.specs.Range.{inRange}
 use Rattle.base.proofs.Bools.{and-left, and-right, and-both}
-use Rattle.text.proofs.Spans.{Span, span-join, span-byte, span-split, span-one}
+use Rattle.text.specs.Spans.{Span}
+use Rattle.text.proofs.Spans.{span-join, span-byte, span-split, span-one}
 use Rattle.model.specs.Graph.{iri, blankNode, numeric, plain, tagged, langString}
 use Rattle.model.specs.Books.{Book, Line, link, type, lang, node, fact, shape, rule, nodes, links, types, langs, shapes, collect, newTerms, newTriples, rules}
 use Rattle.model.specs.Sizes.{formEntries, shapePaths, listItems, formsIn, pathsIn, itemsIn}

@@ -15,7 +15,8 @@ use Rattle.base.proofs.Bools.{bool-cases, and-left, never-both}
 use Rattle.base.proofs.Bytes.{eql-true, eql-refl}
 use Rattle.text.specs.Items.{edge, itemEnd, isName}
 use Rattle.text.proofs.Items.{name-some}
-use Rattle.text.proofs.Spans.{Span, span-head}
+use Rattle.text.specs.Spans.{Span}
+use Rattle.text.proofs.Spans.{span-head}
 use Rattle.text.proofs.Words.{plain, word-item, word-ends, item-span}
 use Rattle.model.specs.Paths.{Path, predicate, inverse, sequence, alternative}
 use Rattle.model.specs.Shapes.{Test, nodeKind, datatype, languageIn, minInclusive, minExclusive, maxInclusive, maxExclusive, Shape, top, hasShape, hasValue, conj, disj, neg, test, count, forAll, equals, disjoint, closed, lessThan, lessThanEq, uniqueLang}

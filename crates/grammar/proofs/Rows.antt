@@ -16,7 +16,8 @@ use Rattle.grammar.specs.Writing.{spaced, bracket, nameOf, writePath, wr
 use Rattle.grammar.specs.Valid.{pathDepth, shapeDepth}
 use Rattle.grammar.specs.Syntax.{Slot, path, form, target, Arg, Args, Family, PathCode, invC, seqC, altC, pathFamily, FormCode, isC, shapeC, andC, orC, notC, kindC, datatypeC, langC, fromC, aboveC, toC, belowC, countC, allC, equalC, apartC, closedC, lessC, lesseqC, onelangC, formFamily, TargetCode, nodeC, subjectsC, objectsC, classC, targetFamily, LineCode, linkL, typeL, langL, thingL, blankL, numberL, textL, wordsL, factL, shapeL, ruleL, lineFamily}
 use Rattle.grammar.specs.Reading.{Begun, after, pathBegun, formBegun}
-use Rattle.grammar.proofs.Args.{argDepth, argsDepth, afterAll, writeArgs, argOk, argsOk}
+use Rattle.grammar.specs.Args.{argOk}
+use Rattle.grammar.proofs.Args.{argDepth, argsDepth, afterAll, writeArgs, argsOk}
 use Rattle.grammar.proofs.Families.{Placed}
 
 pub record Rows (above : Book) (k : Slot) (F : Family (Arg k)) (W : Arg k → List ℕ) (begun : Begun → Begun) : Type 0 where

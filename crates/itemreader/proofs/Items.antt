@@ -32,7 +32,7 @@ use Rattle.grammar.specs.Writing.{writeKind}
 use Rattle.grammar.specs.Valid.{wellNamed, reserved}
 use Rattle.grammar.specs.Syntax.{used, subject, literalType, low, high}
 use Rattle.grammar.specs.Reading.{Read, got, refused, andThen, Readers, Begun, known, usedAt, subjectAt, literalTypeAt, newAt, kindAt, valueAt, lowAt, highAt, listAt, argAt}
-use Rattle.itemreader.specs.declared.Counts.{Counts}
+use Rattle.model.specs.declared.Counts.{Counts}
 use Rattle.itemreader.specs.declared.Pool as code
 use Rattle.itemreader.specs.declared.Item.{Item}
 use Rattle.itemreader.specs.declared.Value.{Value}

@@ -13,7 +13,7 @@ use Rattle.base.proofs.Bounded.{every-at}
 use Rattle.model.specs.Books.{Pool, nodes, links, types, langs, shapes, poolNumber}
 use Rattle.model.specs.Valid.{capacity}
 use Rattle.encoding.specs.Encode.{poolBase}
-use Rattle.itemreader.specs.declared.Counts.{Counts}
+use Rattle.model.specs.declared.Counts.{Counts}
 use Rattle.itemreader.specs.Held.{countOf, Limits}
 
 -- where each pool begins, and where the last ends

@@ -14,7 +14,7 @@ use Rattle.model.specs.Valid.{capacity, isResource}
 use Rattle.tables.specs.Layout.{nodeKinds}
 use Rattle.grammar.specs.Valid.{wellNamed}
 use Rattle.encoding.specs.Encode.{poolBase}
-use Rattle.itemreader.specs.declared.Counts.{Counts}
+use Rattle.model.specs.declared.Counts.{Counts}
 
 abbrev pub countOf : Counts → Pool → ℕ
 countOf n nodes = n .nodes

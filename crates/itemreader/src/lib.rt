@@ -1,5 +1,6 @@
 // The reader of single items: names used and new, decimals, lists, and the words after opening brackets.
 // Functions for the crates above, on positions of a text that these have shown to lie within it. Operations: none.
+use model::Counts;
 use text::Bound;
 use text::Found;
 use text::Number;
@@ -36,20 +37,6 @@ pub enum Pool {
     Types,
     Langs,
     Shapes,
-}
-
-// How many of each the lines read so far have.
-pub struct Counts {
-    pub nodes: usize,
-    pub links: usize,
-    pub types: usize,
-    pub langs: usize,
-    pub shapes: usize,
-    pub facts: usize,
-    pub paths: usize,
-    pub forms: usize,
-    pub items: usize,
-    pub rules: usize,
 }
 
 // The number of what was read and the position after it; or the number of a refusal.

@@ -1,6 +1,6 @@
 // The reader of the FORMs without a FORM within. It stores each form entry as it ends.
 // Functions for the crates above, on positions of a text that these have shown to lie within it. Operations: none.
-use itemreader::Counts;
+use base::pick_cell;
 use itemreader::Item;
 use itemreader::Pool;
 use itemreader::Value;
@@ -8,6 +8,7 @@ use itemreader::read_kind;
 use itemreader::read_list;
 use itemreader::read_used;
 use itemreader::read_value;
+use model::Counts;
 use pathreader::read_end;
 use pathreader::read_path;
 use text::byte;
@@ -87,13 +88,6 @@ pub fn close_form(
     )
 }
 
-// One of two operands.
-pub fn pick(lone: bool, a: u16, b: u16) -> u16
-    ensures { λ r. ⌜ r ≡ cond lone a b ⌝ }
-{
-    if lone { a } else { b }
-}
-
 // A form whose last item was read: its number is the form's only operand, or the second after a.
 fn item_form(
     cells: &mut [u16],
@@ -120,8 +114,8 @@ fn item_form(
                 next,
                 n,
                 code,
-                pick(lone, x, a),
-                pick(lone, 0, x),
+                pick_cell(lone, x, a),
+                pick_cell(lone, 0, x),
                 0,
                 0,
             )

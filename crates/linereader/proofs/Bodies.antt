@@ -29,7 +29,7 @@ use Rattle.itemreader.specs.Answers.{Reads, Inside, restAt}
 use Rattle.itemreader.specs.declared.Value.{Value}
 use Rattle.itemreader.proofs.Items.{item-within, named-short, item-got, item-refused}
 use Rattle.itemreader.proofs.Heads.{rest-got, rest-refused, close-not, close-full, close-got}
-use Rattle.itemreader.specs.declared.Counts.{Counts}
+use Rattle.model.specs.declared.Counts.{Counts}
 use Rattle.itemreader.specs.declared.Item.{Item}
 use Rattle.linereader.specs.declared.LineAnswer.{LineAnswer}
 use Rattle.linereader.specs.declared.Node.{Node}

@@ -16,7 +16,7 @@ use Rattle.encoding.specs.Rows.{nodeRow, targetCode, targetOperand}
 use Rattle.grammar.specs.Syntax.{LineCode, linkL, typeL, langL, thingL, blankL, shapeL, lineFamily}
 use Rattle.grammar.specs.Reading.{Read, got, refused, andThen, closeAt, bodyAt, readersAt, lineRoom, begunAbove}
 use Rattle.stores.specs.Lines.{lineNames, lineCells, lineValues}
-use Rattle.itemreader.specs.declared.Counts.{Counts}
+use Rattle.model.specs.declared.Counts.{Counts}
 use Rattle.itemreader.specs.declared.Item.{Item}
 use Rattle.linereader.specs.declared.LineAnswer.{LineAnswer}
 use Rattle.linereader.specs.declared.TargetAnswer.{TargetAnswer}

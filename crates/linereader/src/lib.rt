@@ -1,7 +1,6 @@
 // The reader of each kind of line but `shape`, from the end of its word: what stands on it, stored at its places, with the
 // counts after it; or the refusal.
 // Functions for the crate above, on tables that hold the lines above. Operations: none.
-use itemreader::Counts;
 use itemreader::Head;
 use itemreader::Item;
 use itemreader::Pool;
@@ -14,6 +13,7 @@ use itemreader::read_type;
 use itemreader::read_used;
 use itemreader::read_value;
 use itemreader::target_head;
+use model::Counts;
 use tables::layout::NODE_KINDS;
 use tables::layout::NODE_LANGS;
 use tables::layout::NODE_TYPES;

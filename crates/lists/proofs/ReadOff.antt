@@ -7,7 +7,7 @@ use native.Mathlib.Nat.{eq-or-lt-of-le, le-of-suc-le-suc}
 use native.Mathlib.Omega.{arith}
 use lib.ListN.{length, take, drop, set, getD, length-set, take-append-drop}
 use lib.Seq.{take-append-le, drop-append-le, take-append-seam, drop-at, length-take-le, getD-set-same, getD-set-other}
-use Rattle.lists.specs.Rows.{over, withRow, withRows, withLengths, row}
+use Rattle.lists.specs.Rows.{over, withRow, withRows, withLengths, rowIn}
 use Rattle.lists.proofs.Rows.{length-row}
 
 -- a part that lies within the first of two lists
@@ -66,6 +66,6 @@ module _ (list : ℕ → List ℕ) (short : (r : ℕ) → length (list r) ≤ 10
       (eq-or-lt-of-le (le-of-suc-le-suc low))
 
   -- the row, up to its length
-  pub row-read : (n : ℕ) (ls ks : List ℕ) → 1024 * n ≤ length ls → n ≤ length ks → (r : ℕ) → r < n → row (withRows list n ls) (withLengths list n ks) r ≡ list r
-  unfolding row
+  pub row-read : (n : ℕ) (ls ks : List ℕ) → 1024 * n ≤ length ls → n ≤ length ks → (r : ℕ) → r < n → rowIn (withRows list n ls) (withLengths list n ks) r ≡ list r
+  unfolding rowIn
   row-read n ls ks room more r low = ap (λ k. take k (drop (1024 * r) (withRows list n ls))) (length-read n ks more r low) ∙ nodes-read n ls room r low

@@ -37,5 +37,5 @@ withLengths list zero ls = ls
 withLengths list (suc r) ls = set (withLengths list r ls) r (length (list r))
 
 -- the list of rule r: its row, up to its length
-unfoldable pub row : (lists lengths : List ℕ) → ℕ → List ℕ
-row lists lengths r = take (getD lengths r 0) (drop (1024 * r) lists)
+unfoldable pub rowIn : (lists lengths : List ℕ) → ℕ → List ℕ
+rowIn lists lengths r = take (getD lengths r 0) (drop (1024 * r) lists)

@@ -4,11 +4,12 @@ use mathlib.Core.List.{List}
 use mathlib.Core.Bool.{Bool, true, false, not, _&&_}
 use mathlib.Core.Logic.{_↔_}
 use mathlib.Core.Path.{_≡_, refl, sym, _∙_}
-use lib.Dec.{eqb, ltb}
+use lib.Dec.{eqb}
 use lib.ListN.{length, getD}
 use borrow.Author.Tests.{eqb-true, eq-eqb, not-true}
 use Rattle.base.specs.Bounded.{_⇒_, every, size, members}
-use Rattle.base.specs.Lists.{allb, member, ascending}
+use Rattle.base.specs.Lists.{allb, member}
+use Rattle.base.specs.Sizes.{HasSize}
 use Rattle.base.proofs.Bools.{and-left, and-right, and-both, implies-true, true-implies, same-test, never-both}
 use Rattle.base.proofs.Lists.{allb-at, allb-all}
 use Rattle.base.proofs.Bounded.{every-at, every-all, size-members, member-members, members-ascending}
@@ -53,15 +54,9 @@ module _ (n : ℕ) (a b : ℕ → Bool) where
     λ f. every-all (λ x. a x ⇒ every (λ y. b y ⇒ r x y) n) n (λ x l. true-implies (a x) (every (λ y. b y ⇒ r x y) n) (λ h. every-all (λ y. b y ⇒ r x y) n (λ y m. true-implies (b y) (r x y) (λ k. f x y l m h k)))),
   )
 
--- a count is a number of different nodes: the length of a list that has each of them once and no others
-pub record Counted (p : ℕ → Bool) (n k : ℕ) : Type 0 where
-  pub nodes : List ℕ
-  pub once : ascending nodes ≡ true
-  pub those : (v : ℕ) → member v nodes ≡ (ltb v n && p v)
-  pub many : length nodes ≡ k
-
-pub size-counts : (p : ℕ → Bool) (n : ℕ) → Counted p n (size p n)
-size-counts p n = record { nodes = members p n; once = members-ascending p n; those = member-members p n; many = sym (size-members p n) }
+-- a count is a number of different nodes
+pub size-counts : (p : ℕ → Bool) (n : ℕ) → HasSize p n (size p n)
+size-counts p n = record { numbers = members p n; once = members-ascending p n; those = member-members p n; many = sym (size-members p n) }
 
 -- `closed`: every triple of the list that has v for its subject has a listed predicate
 pub closed-iff : (ts : List Triple) (v : ℕ) (ps : List ℕ) (d : Triple)

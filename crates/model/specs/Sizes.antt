@@ -5,7 +5,8 @@ use mathlib.Core.List.{List, [], _∷_}
 use lib.ListN.{length}
 use Rattle.model.specs.Paths.{Path, predicate, inverse, sequence, alternative, End, self, along}
 use Rattle.model.specs.Shapes.{Test, nodeKind, datatype, languageIn, minInclusive, minExclusive, maxInclusive, maxExclusive, Shape, top, hasShape, hasValue, conj, disj, neg, test, count, forAll, equals, disjoint, closed, lessThan, lessThanEq, uniqueLang}
-use Rattle.model.specs.Books.{Book, collect, newShapes}
+use Rattle.model.specs.Books.{Book, nodes, links, types, langs, shapes, names, collect, newTriples, newShapes, rules}
+use Rattle.model.specs.declared.Counts.{Counts}
 
 unfoldable pub pathEntries : Path → ℕ
 pathEntries (predicate p) = 1
@@ -90,3 +91,22 @@ pathsIn b = sumOver shapePaths (collect newShapes b)
 
 unfoldable pub itemsIn : Book → ℕ
 itemsIn b = sumOver listItems (collect newShapes b)
+
+-- the ten counts of a book, and these in the order of their cells
+abbrev pub countsIn : Book → Counts
+countsIn b =
+    record {
+      nodes = length (names nodes b);
+      links = length (names links b);
+      types = length (names types b);
+      langs = length (names langs b);
+      shapes = length (names shapes b);
+      facts = length (collect newTriples b);
+      paths = pathsIn b;
+      forms = formsIn b;
+      items = itemsIn b;
+      rules = length (rules b);
+    }
+
+abbrev pub countList : Counts → List ℕ
+countList n = n .nodes ∷ n .links ∷ n .types ∷ n .langs ∷ n .shapes ∷ n .facts ∷ n .paths ∷ n .forms ∷ n .items ∷ n .rules ∷ []

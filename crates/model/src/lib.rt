@@ -40,6 +40,20 @@ pub struct NodeNo(pub u16);
 // The number of a link (a predicate) in its pool.
 pub struct LinkNo(pub u16);
 
+// How many of each a book has: the ten counts of its tables.
+pub struct Counts {
+    pub nodes: usize,
+    pub links: usize,
+    pub types: usize,
+    pub langs: usize,
+    pub shapes: usize,
+    pub facts: usize,
+    pub paths: usize,
+    pub forms: usize,
+    pub items: usize,
+    pub rules: usize,
+}
+
 // Why an operation declines. The first seven are the book writer's, with the line; the others the caller's.
 pub enum Refusal {
     TooLong,

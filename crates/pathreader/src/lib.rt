@@ -1,11 +1,11 @@
 // The reader of PATH and END. It stores path entries as they end.
 // Functions for the crates above, on positions of a text that these have shown to lie within it. Operations: none.
-use itemreader::Counts;
 use itemreader::Head;
 use itemreader::Item;
 use itemreader::Pool;
 use itemreader::path_head;
 use itemreader::read_used;
+use model::Counts;
 use text::byte;
 use text::is_word;
 use text::item_end;

@@ -13,7 +13,8 @@
 //   index_table      the same for the facts of the tables
 //   last_fact        where the chain of a link begins
 //   next_fact        what follows a fact on its chain
-use chains::entry;
+use base::cell;
+use base::pick;
 use chains::link;
 use model::LinkNo;
 use model::MAX_FACTS;
@@ -73,13 +74,6 @@ fn link_at(column: &[u16], i: usize) -> LinkNo
     LinkNo(column[i])
 }
 
-// The first of two numbers, or the second.
-pub fn pick(first: bool, a: usize, b: usize) -> usize
-    ensures { λ r. ⌜ r ≡ cond first a b ⌝ }
-{
-    if first { a } else { b }
-}
-
 // Node far joins each set that near is in.
 fn join(into: &mut [u64], far: usize, many: bool, from: &[u64], near: usize)
     ensures { λ _. ⌜ now (into .exit) ≡ joined (setCount many) near far (now (from .entry)) (now (into .entry)) ⌝ }
@@ -117,7 +111,7 @@ pub fn last_fact(index: &[u16], l: LinkNo) -> usize
     ensures { λ r. ⌜ r ≡ cond (ltb (l .0) 256) (getD (now (index .entry)) (l .0) 0) 0 ⌝ }
 {
     if l.0 < 256 {
-        wide(entry(index, wide(l.0)))
+        wide(cell(index, wide(l.0)))
     } else {
         0
     }
@@ -128,7 +122,7 @@ pub fn next_fact(index: &[u16], i: usize) -> usize
     requires { ⌜ i < 4096 ⌝ }
     ensures { λ r. ⌜ r ≡ getD (now (index .entry)) (256 + i) 0 ⌝ }
 {
-    wide(entry(index, MAX_LINKS + i))
+    wide(cell(index, MAX_LINKS + i))
 }
 
 // The object of fact i joins each set that its subject is in; read backwards where back.

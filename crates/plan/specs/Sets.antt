@@ -1,4 +1,5 @@
--- What the set of each step is: which nodes are in it, over what the tables say. No step names a shape or takes a complement.
+-- What the set of each step is: which nodes are in it, over what the tables say. A step that keeps a condition has the nodes that
+-- conform to it, by Table 1; one that breaks it is said by itself. No step names a shape or takes a complement.
 use Prim.Native.Nat.{ℕ}
 use mathlib.Core.List.{List}
 use mathlib.Core.Option.{Option}
@@ -6,10 +7,9 @@ use mathlib.Core.Bool.{Bool, true, false, not, _&&_, _||_}
 use lib.Dec.{eqb}
 use lib.IntN.{ℤ}
 use Rattle.base.specs.Bounded.{_⇒_, every, size}
-use Rattle.base.specs.Lists.{member, allb}
 use Rattle.base.specs.Numbered.{numbered}
 use Rattle.model.specs.Graph.{Graph, holds}
-use Rattle.model.specs.Shapes.{Test, nodeKind, datatype, languageIn, minInclusive, minExclusive, maxInclusive, maxExclusive, satisfies, within, subset, noneShared, allPairs, less, lessEq, sameLang, from, objects, starts}
+use Rattle.model.specs.Shapes.{Test, nodeKind, datatype, languageIn, minInclusive, minExclusive, maxInclusive, maxExclusive, hasValue, test, equals, disjoint, closed, lessThan, lessThanEq, uniqueLang, within, from, objects, starts, conforms}
 use Rattle.model.specs.Rules.{subjectsOf, objectsOf, targetClass, selects}
 use Rattle.tables.specs.Entries.{Entry}
 use Rattle.tables.specs.Decode.{graphAt, pathAt, endAt, kindOf, upperOf, itemsAt, entryAt}
@@ -76,25 +76,25 @@ module _ (cs : List ℕ) (vs : List ℤ) where
   unfoldable pub inStep : Step → (ℕ → ℕ → Bool) → ℕ → Bool
   inStep Step.all sets v = true
   inStep Step.none sets v = false
-  inStep (Step.is c) sets v = eqb v c
+  inStep (Step.is c) sets v = conforms g (hasValue c) v
   inStep (Step.isnot c) sets v = not (eqb v c)
-  inStep (Step.test e) sets v = holds (λ t. satisfies t (g .term v)) (testOf cs (entryAt cs vs e))
+  inStep (Step.test e) sets v = holds (λ t. conforms g (test t) v) (testOf cs (entryAt cs vs e))
   inStep (Step.untest e) sets v = holds (λ t. failsTest t (g .term v)) (testOf cs (entryAt cs vs e))
   inStep (Step.both i j) sets v = sets i v && sets j v
   inStep (Step.either i j) sets v = sets i v || sets j v
   inStep (Step.count p j lo hi) sets v = within lo (upperOf hi) (size (λ b. from g (pathAt cs p) v b && sets j b) (g .nodes))
   inStep (Step.every p j) sets v = every (λ b. from g (pathAt cs p) v b ⇒ sets j b) (g .nodes)
-  inStep (Step.equal f l) sets v = subset (g .nodes) (starts g (endAt cs f) v) (objects g l v) && subset (g .nodes) (objects g l v) (starts g (endAt cs f) v)
+  inStep (Step.equal f l) sets v = conforms g (equals (endAt cs f) l) v
   inStep (Step.unequal f l) sets v = someInOne (g .nodes) (starts g (endAt cs f) v) (objects g l v)
-  inStep (Step.apart f l) sets v = noneShared (g .nodes) (starts g (endAt cs f) v) (objects g l v)
+  inStep (Step.apart f l) sets v = conforms g (disjoint (endAt cs f) l) v
   inStep (Step.meet f l) sets v = someShared (g .nodes) (starts g (endAt cs f) v) (objects g l v)
-  inStep (Step.closed e) sets v = holds (λ ps. allb (λ t. eqb (t .subject) v ⇒ member (t .predicate) ps) (g .triples)) (linksOf cs (entryAt cs vs e))
+  inStep (Step.closed e) sets v = holds (λ ps. conforms g (closed ps) v) (linksOf cs (entryAt cs vs e))
   inStep (Step.opened e) sets v = holds (λ ps. someUnlisted (g .triples) ps v) (linksOf cs (entryAt cs vs e))
-  inStep (Step.less p l) sets v = allPairs (g .nodes) (from g (pathAt cs p) v) (objects g l v) (λ b c. less (g .term b) (g .term c))
+  inStep (Step.less p l) sets v = conforms g (lessThan (pathAt cs p) l) v
   inStep (Step.notless p l) sets v = somePair (g .nodes) (from g (pathAt cs p) v) (objects g l v) (λ b c. notLess (g .term b) (g .term c))
-  inStep (Step.lesseq p l) sets v = allPairs (g .nodes) (from g (pathAt cs p) v) (objects g l v) (λ b c. lessEq (g .term b) (g .term c))
+  inStep (Step.lesseq p l) sets v = conforms g (lessThanEq (pathAt cs p) l) v
   inStep (Step.notlesseq p l) sets v = somePair (g .nodes) (from g (pathAt cs p) v) (objects g l v) (λ b c. notLessEq (g .term b) (g .term c))
-  inStep (Step.onelang p) sets v = allPairs (g .nodes) (from g (pathAt cs p) v) (from g (pathAt cs p) v) (λ b c. not (eqb b c) ⇒ not (sameLang (g .term b) (g .term c)))
+  inStep (Step.onelang p) sets v = conforms g (uniqueLang (pathAt cs p)) v
   inStep (Step.manylang p) sets v = somePair (g .nodes) (from g (pathAt cs p) v) (from g (pathAt cs p) v) (clash (g .term))
   inStep (Step.from l) sets v = selects g (subjectsOf l) v
   inStep (Step.into l) sets v = selects g (objectsOf l) v

@@ -4,7 +4,7 @@ ghost use mathlib.Core.Path.{_≡_};
 ghost use mathlib.Core.List.{[], _∷_};
 ghost use Prim.Native.Nat.{_<_, _≤_};
 ghost use lib.ListN.{length};
-ghost use Rattle.tables.specs.Sizes.{blank};
+ghost use Rattle.tables.specs.Sizes.{cleared};
 ghost use Rattle.plan.specs.Layout.{planCount, withNumbers};
 
 // Where each column begins and how long a plan is; specs/Layout.antt has the same numbers.
@@ -37,7 +37,7 @@ pub fn put_step(plan: &mut [u16], k: usize, code: u16, a: u16, b: u16, c: u16, d
 // Zeros in all cells of a plan; what lies past them stays.
 pub fn clear_plan(plan: &mut [u16])
     requires { ⌜ planCount ≤ length (now plan) ⌝ }
-    ensures { λ _. ⌜ now (plan .exit) ≡ blank planCount 0 (now (plan .entry)) ⌝ }
+    ensures { λ _. ⌜ now (plan .exit) ≡ cleared planCount 0 (now (plan .entry)) ⌝ }
 {
     for i in 0..PLAN_CELLS {
         plan[i] = 0;

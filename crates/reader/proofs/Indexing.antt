@@ -20,7 +20,7 @@ use Rattle.model.proofs.Lines.{names-snoc}
 use Rattle.encoding.specs.Encode.{encodeNames, poolBase}
 use Rattle.stores.proofs.Prefixes.{Prefix}
 use Rattle.stores.proofs.Lookups.{pool-held}
-use Rattle.itemreader.specs.declared.Counts.{Counts}
+use Rattle.model.specs.declared.Counts.{Counts}
 use Rattle.itemreader.specs.Held.{countOf, Limits, Indexed}
 use Rattle.itemreader.proofs.Places.{pool-inside, pools-apart, count-within}
 use Rattle.linereader.specs.Storing.{counted}

@@ -10,25 +10,26 @@ use lib.ListN.{length, drop}
 use borrow.Author.Tests.{lt-ltb, le-ltb}
 use Rattle.model.specs.Limits.{maxBytes}
 use Rattle.model.specs.Books.{Book, nodes, links, types, langs, shapes}
-use Rattle.model.specs.Sizes.{formsIn, pathsIn, itemsIn}
+use Rattle.model.specs.Sizes.{countsIn, countList}
 use Rattle.model.specs.Valid.{capacity, admissible}
 use Rattle.model.proofs.Lines.{names-within, facts-within, rules-within, forms-within, paths-within, items-within}
 use Rattle.tables.specs.Layout.{nameCount, cellCount, valueCount}
-use Rattle.encoding.specs.Encode.{entriesOf, countsOf}
-use Rattle.encoding.proofs.Counts.{entries-size}
+use Rattle.encoding.specs.Encode.{countsOf}
 use Rattle.grammar.specs.Reading.{Outcome, accepted, turnedDown, linesFrom, reading}
 use Rattle.grammar.proofs.Books.{valid-admissible, reading-sound}
 use Rattle.grammar.proofs.Grounds.{ground-numbered}
 use Rattle.grammar.proofs.GroundsBooks.{refusal-ground}
-use Rattle.stores.specs.Lines.{linesNames, linesCells, linesValues, putCounts, cleared, namesAfter, cellsAfter, valuesAfter}
+use Rattle.tables.specs.Sizes.{cleared}
+use Rattle.stores.specs.Lines.{linesNames, linesCells, linesValues, putCounts, namesAfter, cellsAfter, valuesAfter}
 use Rattle.stores.proofs.Books.{names-after, cells-after, values-after}
-use Rattle.itemreader.specs.declared.Counts.{Counts}
+use Rattle.model.specs.declared.Counts.{Counts}
 use Rattle.itemreader.specs.Held.{Limits}
 use Rattle.linereader.specs.Storing.{Fits}
 use Rattle.reader.specs.declared.LinesAnswer.{LinesAnswer}
-use Rattle.reader.specs.Answers.{countsIn, refused, taken, answered, namesLeft, cellsLeft, valuesLeft}
-use Rattle.reader.specs.Running.{Ran, countList}
-use Rattle.reader.proofs.Cleared.{cleared-past, cleared-same, builtNames, built-past}
+use Rattle.reader.specs.Answers.{refused, taken, answered, namesLeft, cellsLeft, valuesLeft}
+use Rattle.reader.specs.Running.{Ran}
+use Rattle.tables.proofs.Cleared.{cleared-past, cleared-same}
+use Rattle.reader.proofs.Cleared.{builtNames, built-past}
 
 -- ---- the counts of a book within the limits
 pub counts-limits : (b : Book) → admissible b ≡ true → Limits (countsIn b)
@@ -51,15 +52,6 @@ counts-fit b v =
       path-limit = paths-within b v;
       item-limit = items-within b v;
     }
-
-counts-listed : (b : Book) → countList (countsIn b) ≡ countsOf b
-unfolding countsOf
-counts-listed b =
-    let s = entries-size b in
-    let f : formsIn b ≡ length (entriesOf b .forms) = omega arith in
-    let p : pathsIn b ≡ length (entriesOf b .paths) = omega arith in
-    let i : itemsIn b ≡ length (entriesOf b .items) = omega arith in
-    cc
 
 -- ---- a text by its length
 pub reading-long : (s : List ℕ) → maxBytes < length s → reading s ≡ turnedDown 1 0
@@ -89,7 +81,7 @@ module _ (s : List ℕ) (h : length s ≤ maxBytes) (r : LinesAnswer) (ns ns₁ 
     pub values : vs₂ ≡ valuesLeft (reading s) vs
 
   book-read : (n : Counts) (b : Book) → linesFrom s (length s) 0 0 [] ≡ accepted b → n ≡ countsIn b → ns₂ ≡ linesNames [] b ns₁ → cs₂ ≡ linesCells [] b cs₁ → vs₂ ≡ linesValues [] b vs₁ → Whole n
-  unfolding namesAfter cellsAfter valuesAfter
+  unfolding namesAfter cellsAfter valuesAfter countsOf
   book-read n b o q i j k =
       let a : reading s ≡ accepted b = reading-short s h ∙ o in
       let v = reading-sound s b a .0 in
@@ -99,7 +91,7 @@ module _ (s : List ℕ) (h : length s ≤ maxBytes) (r : LinesAnswer) (ns ns₁ 
         fits = subst Fits (sym q) (counts-fit b ok);
         answer = ap taken q ∙ ap answered (sym a);
         names = i ∙ ap (linesNames [] b) e ∙ names-after b v ns ∙ ap (λ (o : Outcome). namesLeft o ns) (sym a);
-        cells = ap (λ (l : List ℕ). putCounts 0 l cs₂) (ap countList q ∙ counts-listed b) ∙ ap (putCounts 0 (countsOf b)) (j ∙ ap (linesCells [] b) f) ∙ cells-after b v cs ∙ ap (λ (o : Outcome). cellsLeft o cs) (sym a);
+        cells = ap (λ (l : List ℕ). putCounts 0 l cs₂) (ap countList q) ∙ ap (putCounts 0 (countsOf b)) (j ∙ ap (linesCells [] b) f) ∙ cells-after b v cs ∙ ap (λ (o : Outcome). cellsLeft o cs) (sym a);
         values = k ∙ ap (linesValues [] b) g ∙ values-after b v vs ∙ ap (λ (o : Outcome). valuesLeft o vs) (sym a);
       }
 

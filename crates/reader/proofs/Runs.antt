@@ -15,7 +15,7 @@ use Rattle.base.proofs.Bools.{bool-cases, and-left}
 use Rattle.base.proofs.Columns.{length-flat}
 use Rattle.text.specs.Items.{isName}
 use Rattle.model.specs.Books.{Line, Book, Pool, nodes, links, types, langs, shapes, builtIn, newNames, newTriples, newShapes, newRules, collect, names, rules}
-use Rattle.model.specs.Sizes.{sumOver, formEntries, shapePaths, listItems, formsIn, pathsIn, itemsIn}
+use Rattle.model.specs.Sizes.{sumOver, formEntries, shapePaths, listItems, formsIn, pathsIn, itemsIn, countsIn}
 use Rattle.model.proofs.Lines.{collect-snoc, names-snoc, sum-append}
 use Rattle.tables.specs.Layout.{nameCount, cellCount, valueCount, nodeKinds}
 use Rattle.encoding.specs.Encode.{nameColumns, cellColumns, valueColumns, encodeNames}
@@ -24,19 +24,19 @@ use Rattle.grammar.specs.Valid.{wellNamed}
 use Rattle.grammar.specs.Reading.{Read, got, refused, lineAt, Outcome, accepted, turnedDown, follow, linesFrom}
 use Rattle.grammar.proofs.Lines.{line-sound}
 use Rattle.grammar.proofs.Books.{Sane, sane-start, sane-more, pools-of, fit-of, longer}
-use Rattle.stores.specs.Lines.{lineNames, lineCells, lineValues, linesNames, linesCells, linesValues, cleared}
+use Rattle.tables.specs.Sizes.{cleared}
+use Rattle.stores.specs.Lines.{lineNames, lineCells, lineValues, linesNames, linesCells, linesValues}
 use Rattle.stores.proofs.Prefixes.{Prefix, prefix-start, prefix-more, prefix-valid}
 use Rattle.stores.proofs.Entries.{cellTable, valueTable}
 use Rattle.stores.proofs.Lines.{soFar, line-cells, line-values}
 use Rattle.stores.proofs.Names.{line-names}
 use Rattle.stores.proofs.Lookups.{find-name, resource-held}
 use Rattle.stores.proofs.Books.{lines-names, lines-cells, lines-values, cells-cleared, values-cleared}
-use Rattle.itemreader.specs.declared.Counts.{Counts}
+use Rattle.model.specs.declared.Counts.{Counts}
 use Rattle.itemreader.specs.Held.{countOf, Limits, Held, Kinds, Indexed}
 use Rattle.linereader.specs.declared.LineAnswer.{LineAnswer}
 use Rattle.linereader.specs.Storing.{counted, Fits, Done}
 use Rattle.reader.specs.declared.LinesAnswer.{LinesAnswer}
-use Rattle.reader.specs.Answers.{countsIn}
 use Rattle.reader.specs.Running.{Started, builtInCounts, Ran}
 use Rattle.reader.specs.Indexing.{joinedAll}
 use Rattle.reader.proofs.Indexing.{line-indexed}

@@ -4,34 +4,16 @@ use Prim.Native.Nat.{ℕ}
 use mathlib.Core.List.{List, _++_}
 use mathlib.Core.Bool.{cond}
 use lib.IntN.{ℤ, pos}
-use lib.ListN.{length, drop}
-use Rattle.model.specs.Books.{Book, nodes, links, types, langs, shapes, names, collect, newTriples, rules}
-use Rattle.model.specs.Sizes.{formsIn, pathsIn, itemsIn}
+use lib.ListN.{drop}
+use Rattle.model.specs.Sizes.{countsIn}
 use Rattle.model.specs.Refusals.{codeOf, lineOf}
 use Rattle.tables.specs.Layout.{nameCount, cellCount, valueCount}
-use Rattle.tables.specs.Sizes.{longEnough}
+use Rattle.tables.specs.Sizes.{longEnough, cleared}
 use Rattle.encoding.specs.Encode.{encodeNames, encodeCells, encodeValues}
 use Rattle.grammar.specs.Reading.{Outcome, accepted, turnedDown, reading}
-use Rattle.stores.specs.Lines.{cleared}
-use Rattle.itemreader.specs.declared.Counts.{Counts}
+use Rattle.model.specs.declared.Counts.{Counts}
 use Rattle.reader.specs.declared.ReadAnswer.{ReadAnswer}
 use Rattle.reader.specs.declared.ReadAnswer.the-variants.{Accepted, Refused}
-
--- the counts of a book
-abbrev pub countsIn : Book → Counts
-countsIn b =
-    record {
-      nodes = length (names nodes b);
-      links = length (names links b);
-      types = length (names types b);
-      langs = length (names langs b);
-      shapes = length (names shapes b);
-      facts = length (collect newTriples b);
-      paths = pathsIn b;
-      forms = formsIn b;
-      items = itemsIn b;
-      rules = length (rules b);
-    }
 
 abbrev pub noCounts : Counts
 noCounts = record { nodes = 0; links = 0; types = 0; langs = 0; shapes = 0; facts = 0; paths = 0; forms = 0; items = 0; rules = 0 }

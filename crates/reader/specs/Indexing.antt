@@ -8,7 +8,7 @@ use Rattle.text.specs.Pool.{nameKey}
 use Rattle.model.specs.Books.{Pool, nodes, links, types, langs, shapes}
 use Rattle.model.specs.Valid.{capacity}
 use Rattle.encoding.specs.Encode.{poolBase}
-use Rattle.itemreader.specs.declared.Counts.{Counts}
+use Rattle.model.specs.declared.Counts.{Counts}
 use Rattle.itemreader.specs.Held.{countOf}
 
 -- ns: the names; n and m: the counts before and after

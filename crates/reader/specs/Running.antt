@@ -1,16 +1,17 @@
 -- The tables while lines are read.
 use Prim.Native.Nat.{ℕ}
 use mathlib.Core.Path.{_≡_}
-use mathlib.Core.List.{List, [], _∷_, _++_}
+use mathlib.Core.List.{List, [], _++_}
 use lib.IntN.{ℤ, pos}
 use lib.ListN.{drop}
 use Rattle.tables.specs.Layout.{nameCount, cellCount, valueCount}
 use Rattle.encoding.specs.Encode.{encodeNames}
 use Rattle.grammar.specs.Reading.{Outcome, accepted, turnedDown}
-use Rattle.stores.specs.Lines.{linesNames, linesCells, linesValues, cleared}
-use Rattle.itemreader.specs.declared.Counts.{Counts}
+use Rattle.tables.specs.Sizes.{cleared}
+use Rattle.stores.specs.Lines.{linesNames, linesCells, linesValues}
+use Rattle.model.specs.Sizes.{countsIn}
+use Rattle.model.specs.declared.Counts.{Counts}
 use Rattle.reader.specs.declared.LinesAnswer.{LinesAnswer}
-use Rattle.reader.specs.Answers.{countsIn}
 
 -- tables that hold the built-in names and nothing else
 pub record Started (ns cs : List ℕ) (vs : List ℤ) : Type 0 where
@@ -27,7 +28,3 @@ builtInCounts = record { nodes = 0; links = 1; types = 1; langs = 0; shapes = 0;
 abbrev pub Ran : Outcome → LinesAnswer → (ns ns′ cs cs′ : List ℕ) (vs vs′ : List ℤ) → Type 0
 Ran (accepted b) r ns ns′ cs cs′ vs vs′ = (r ≡ LinesAnswer.Read (countsIn b)) × (ns′ ≡ linesNames [] b ns) × (cs′ ≡ linesCells [] b cs) × (vs′ ≡ linesValues [] b vs)
 Ran (turnedDown k line) r ns ns′ cs cs′ vs vs′ = (r ≡ LinesAnswer.No k line) × (drop nameCount ns′ ≡ drop nameCount ns) × (drop cellCount cs′ ≡ drop cellCount cs) × (drop valueCount vs′ ≡ drop valueCount vs)
-
--- the counts in the order of their cells
-abbrev pub countList : Counts → List ℕ
-countList n = n .nodes ∷ n .links ∷ n .types ∷ n .langs ∷ n .shapes ∷ n .facts ∷ n .paths ∷ n .forms ∷ n .items ∷ n .rules ∷ []

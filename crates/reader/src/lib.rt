@@ -2,12 +2,12 @@
 // Operation: read.
 use bodyreader::read_line;
 use chains::link;
-use itemreader::Counts;
 use itemreader::Pool;
 use itemreader::base;
 use itemreader::count;
 use itemreader::most;
 use linereader::LineAnswer;
+use model::Counts;
 use model::MAX_BYTES;
 use model::Refusal;
 use tables::layout::LINK_NAMES;
@@ -25,15 +25,17 @@ ghost use lib.IntN.{pos};
 ghost use lib.ListN.{length};
 ghost use Rattle.base.specs.Bytes.{bytes};
 ghost use Rattle.model.specs.Books.{links, types};
+ghost use Rattle.model.specs.Sizes.{countList};
 ghost use Rattle.model.specs.Refusals.{codeOf, lineOf};
 ghost use Rattle.tables.specs.Layout.{nameCount, cellCount, valueCount};
 ghost use Rattle.grammar.specs.Reading.{linesFrom, reading};
-ghost use Rattle.stores.specs.Lines.{putName, putCounts, cleared};
+ghost use Rattle.tables.specs.Sizes.{cleared};
+ghost use Rattle.stores.specs.Lines.{putName, putCounts};
 ghost use Rattle.itemreader.specs.Answers.{poolOf};
 ghost use Rattle.itemreader.specs.Held.{Limits, Indexed};
 ghost use Rattle.linereader.specs.Storing.{Fits};
 ghost use Rattle.reader.specs.Answers.{answerOf, answered, namesLeft, cellsLeft, valuesLeft, readAnswer, namesOf, cellsOf, valuesOf};
-ghost use Rattle.reader.specs.Running.{Started, builtInCounts, Ran, countList};
+ghost use Rattle.reader.specs.Running.{Started, builtInCounts, Ran};
 ghost use Rattle.reader.specs.Indexing.{joined, joinedAll};
 
 // The counts of an accepted book; or why it is refused.

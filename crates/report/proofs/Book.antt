@@ -34,11 +34,11 @@ use Rattle.encoding.proofs.Counts.{cells-length, names-length, names-counted, f
 use Rattle.encoding.proofs.Names.{short, name-at, padded-at}
 use Rattle.encoding.proofs.WellFormed.{well-formed}
 use Rattle.stores.proofs.Prefixes.{prefix-valid}
-use Rattle.lists.specs.Rows.{over, withRows, withLengths}
+use Rattle.lists.specs.Rows.{over, withRows, withLengths, rowIn}
 use Rattle.lists.proofs.ReadOff.{length-read, nodes-read}
 use Rattle.lists.proofs.Rows.{few}
 use Rattle.report.specs.Report.{headLine, breakLines, foundLine, ruleLines, found, firstLine, lastLine, report, part, joined}
-use Rattle.report.specs.Pages.{beforeZero, nameIn, rowIn, foundIn, partIn, lengthOk, rowOk, partOk}
+use Rattle.report.specs.Pages.{beforeZero, nameIn, foundIn, partIn, lengthOk, rowOk, partOk}
 use Rattle.report.specs.Answers.{refused, wrote, long, right, known, text, partSaid, partAfter}
 use Rattle.report.proofs.Report.{rule-part, last-part, next-low, next-rule, next-count, parts-joined}
 use Rattle.report.proofs.Parts.{part-rule, part-last, ok-head, ok-rule, ok-last, ok-past}

@@ -15,8 +15,9 @@ use Rattle.base.proofs.Bools.{and-left, and-right}
 use Rattle.base.proofs.Lists.{allb-weaker}
 use Rattle.model.specs.Books.{Name}
 use Rattle.tables.specs.Layout.{nodeCount, factCount, ruleCount}
+use Rattle.lists.specs.Rows.{rowIn}
 use Rattle.report.specs.Report.{headLine, breakLine, breakLines, foundLine}
-use Rattle.report.specs.Pages.{nameIn, rowIn, foundIn, partIn, lengthOk, rowOk, partOk}
+use Rattle.report.specs.Pages.{nameIn, foundIn, partIn, lengthOk, rowOk, partOk}
 
 -- ---- how many nodes are listed: one rule more
 pub found-none : (ks : List ℕ) → 0 ≡ foundIn ks 0

@@ -11,6 +11,7 @@ use Rattle.base.specs.Lists.{allb}
 use Rattle.model.specs.Limits.{maxNodes, maxName}
 use Rattle.model.specs.Books.{Name}
 use Rattle.tables.specs.Layout.{nodeCount, factCount, ruleCount}
+use Rattle.lists.specs.Rows.{rowIn}
 use Rattle.report.specs.Report.{headLine, breakLines, foundLine}
 
 -- a page holds 1,024 lines of 44 bytes: two digits of a rule, 31 bytes of a name
@@ -30,10 +31,6 @@ beforeZero (x ∷ s) = cond (eqb x 0) [] (x ∷ beforeZero s)
 -- the stored name of node v
 unfoldable pub nameIn : List ℕ → ℕ → Name
 nameIn ns v = beforeZero (take maxName (drop (32 * v) ns))
-
--- the list of rule r
-unfoldable pub rowIn : (ls ks : List ℕ) → ℕ → List ℕ
-rowIn ls ks r = take (getD ks r 0) (drop (maxNodes * r) ls)
 
 -- how many nodes the first n rules list
 unfoldable pub foundIn : List ℕ → ℕ → ℕ

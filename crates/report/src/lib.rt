@@ -26,9 +26,9 @@ ghost use Rattle.text.specs.Decimals.{decimal};
 ghost use Rattle.model.specs.Refusals.{codeOf, lineOf};
 ghost use Rattle.tables.specs.Layout.{nameCount};
 ghost use Rattle.tables.specs.WellFormed.{wellFormed};
-ghost use Rattle.lists.specs.Rows.{listCount, lengthCount};
+ghost use Rattle.lists.specs.Rows.{listCount, lengthCount, rowIn};
 ghost use Rattle.report.specs.Report.{headLine, breakLine, breakLines, foundLine, refusalReport};
-ghost use Rattle.report.specs.Pages.{pageCount, nameIn, rowIn, foundIn, partIn, lengthOk, rowOk, partOk, Put};
+ghost use Rattle.report.specs.Pages.{pageCount, nameIn, foundIn, partIn, lengthOk, rowOk, partOk, Put};
 ghost use Rattle.report.specs.Answers.{saidOf, long, partSaid, partAfter, refusalSaid, refusalAfter};
 
 // A page for 1,024 lines of 44 bytes: two digits of a rule, 31 bytes of a name.

@@ -140,7 +140,7 @@ module _ (cs index : List ℕ) (tables : Tables cs index) (vs : List ℤ) (ws : 
   by-path ask breaks p l w = ap (λ (f : model.End). nodesOf (λ v. orNot breaks (asked cs vs ask (starts (graphAt cs vs) f v) (objects (graphAt cs vs) l v) v)) n) (no-id p l w)
 
   kind-set : (s : Step) → stepOk cs k s ≡ true → kindSet cs vs ws (kindOf s) ≡ nodesOf (inStep cs vs s (λ j. has (drop (16 * j) ws))) n
-  unfolding kindSet kindOf stepOk inStep asked graphAt subset
+  unfolding kindSet kindOf stepOk inStep conforms asked graphAt subset
   kind-set Step.all w = nodes-all n
   kind-set Step.none w = zeros 16 ∙ nodes-never n
   kind-set (Step.is c) w = refl

@@ -20,7 +20,8 @@ use Rattle.tables.specs.Layout.{nameCount, cellCount, valueCount}
 use Rattle.encoding.specs.Flatten.{addShapes, rootsOf}
 use Rattle.encoding.specs.Encode.{cellColumns, valueColumns, entriesOf, countsOf, contentOf, encodeCells, encodeValues, encodeNames}
 use Rattle.grammar.specs.Valid.{validLine, validFrom, valid}
-use Rattle.stores.specs.Lines.{putName, lineNames, lineCells, lineValues, linesNames, linesCells, linesValues, putCounts, cleared, namesAfter, cellsAfter, valuesAfter}
+use Rattle.tables.specs.Sizes.{cleared}
+use Rattle.stores.specs.Lines.{putName, lineNames, lineCells, lineValues, linesNames, linesCells, linesValues, putCounts, namesAfter, cellsAfter, valuesAfter}
 use Rattle.stores.proofs.Columns.{extend, puts, blank}
 use Rattle.stores.proofs.Prefixes.{Prefix, prefix-start, prefix-more}
 use Rattle.stores.proofs.Entries.{cellTable, valueTable}

@@ -10,7 +10,7 @@ use Rattle.base.specs.Columns.{Column, flat, offset, column}
 use Rattle.base.proofs.Columns.{at-flat, length-flat}
 use Rattle.text.specs.Items.{isName}
 use Rattle.text.specs.Pool.{poolOf, indexOf, find}
-use Rattle.text.proofs.Spans.{Span}
+use Rattle.text.specs.Spans.{Span}
 use Rattle.text.proofs.Places.{pool-length, find-pool}
 use Rattle.model.specs.Graph.{Term, iri, blankNode, numeric, plain, tagged}
 use Rattle.model.specs.Books.{Book, Pool, nodes, links, types, langs, shapes, collect, newTerms, names}

@@ -2,7 +2,7 @@
 -- counts at the end.
 use Prim.Native.Nat.{ℕ, _+_, _*_, _-_}
 use mathlib.Core.List.{List, [], _∷_, _++_}
-use lib.ListN.{length, set, drop, replicate}
+use lib.ListN.{length, set}
 use lib.IntN.{ℤ, pos}
 use Rattle.base.specs.Bytes.{bytes}
 use Rattle.text.specs.Pool.{padded, store}
@@ -10,6 +10,7 @@ use Rattle.model.specs.Graph.{Term, Triple}
 use Rattle.model.specs.Rules.{Rule}
 use Rattle.model.specs.Books.{Name, Line, link, type, lang, node, fact, shape, rule, Book, Pool, nodes, links, types, langs, shapes, names, collect, newTriples, rules}
 use Rattle.tables.specs.Layout.{nodeKinds, nodeTypes, nodeLangs, subjects, predicates, objects, roots, ruleShapes, ruleTargets, ruleOperands, nameCount, cellCount, valueCount}
+use Rattle.tables.specs.Sizes.{cleared}
 use Rattle.encoding.specs.Rows.{nodeRow, targetCode, targetOperand}
 use Rattle.encoding.specs.Encode.{countsOf, poolBase}
 use Rattle.grammar.specs.Syntax.{form}
@@ -75,10 +76,6 @@ linesValues above (l ∷ b) vs = linesValues (above ++ (l ∷ [])) b (lineValues
 unfoldable pub putCounts : ℕ → List ℕ → List ℕ → List ℕ
 putCounts i [] cs = cs
 putCounts i (n ∷ ns) cs = putCounts (i + 1) ns (set cs i n)
-
--- zeros up to a limit, and past it what was there
-unfoldable pub cleared : {A : Type 0} → ℕ → A → List A → List A
-cleared limit d l = replicate limit d ++ drop limit l
 
 -- the tables that an accepted book leaves in lent slices
 unfoldable pub namesAfter : Book → List ℕ → List ℕ

@@ -1,5 +1,5 @@
 pub mod Places
-pub mod Blank
+pub mod Cleared
 pub mod WellFormed
 pub mod Decode
 pub mod Sizes

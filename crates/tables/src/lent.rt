@@ -3,10 +3,11 @@ use crate::layout::CELLS;
 use crate::layout::NAMES;
 use crate::layout::VALUES;
 ghost use mathlib.Core.Path.{_≡_};
-ghost use Prim.Native.Nat.{min};
+ghost use Prim.Native.Nat.{_≤_};
+ghost use lib.ListN.{length};
 ghost use lib.IntN.{pos};
 ghost use Rattle.tables.specs.Layout.{nameCount, cellCount, valueCount};
-ghost use Rattle.tables.specs.Sizes.{longEnough, blank};
+ghost use Rattle.tables.specs.Sizes.{longEnough, cleared};
 
 // Refusal 8 is for tables of which this is false.
 pub fn enough(names: &[u8], cells: &[u16], values: &[i64]) -> bool
@@ -15,37 +16,30 @@ pub fn enough(names: &[u8], cells: &[u16], values: &[i64]) -> bool
     (NAMES <= names.len()) & ((CELLS <= cells.len()) & (VALUES <= values.len()))
 }
 
-// The smaller of two lengths.
-fn smaller(a: usize, b: usize) -> usize
-    ensures { λ r. ⌜ r ≡ min a b ⌝ }
-{
-    if a < b { a } else { b }
-}
-
-// Zeros up to the limit, or as far as the slice goes; what lies past the limit stays.
+// Zeros up to the limit; what lies past it stays.
 pub fn clear_names(names: &mut [u8])
-    ensures { λ _. ⌜ now (names .exit) ≡ blank nameCount 0 (now (names .entry)) ⌝ }
+    requires { ⌜ nameCount ≤ length (now names) ⌝ }
+    ensures { λ _. ⌜ now (names .exit) ≡ cleared nameCount 0 (now (names .entry)) ⌝ }
 {
-    let n = smaller(NAMES, names.len());
-    for i in 0..n {
+    for i in 0..NAMES {
         names[i] = 0;
     }
 }
 
 pub fn clear_cells(cells: &mut [u16])
-    ensures { λ _. ⌜ now (cells .exit) ≡ blank cellCount 0 (now (cells .entry)) ⌝ }
+    requires { ⌜ cellCount ≤ length (now cells) ⌝ }
+    ensures { λ _. ⌜ now (cells .exit) ≡ cleared cellCount 0 (now (cells .entry)) ⌝ }
 {
-    let n = smaller(CELLS, cells.len());
-    for i in 0..n {
+    for i in 0..CELLS {
         cells[i] = 0;
     }
 }
 
 pub fn clear_values(values: &mut [i64])
-    ensures { λ _. ⌜ now (values .exit) ≡ blank valueCount (pos 0) (now (values .entry)) ⌝ }
+    requires { ⌜ valueCount ≤ length (now values) ⌝ }
+    ensures { λ _. ⌜ now (values .exit) ≡ cleared valueCount (pos 0) (now (values .entry)) ⌝ }
 {
-    let n = smaller(VALUES, values.len());
-    for i in 0..n {
+    for i in 0..VALUES {
         values[i] = 0;
     }
 }

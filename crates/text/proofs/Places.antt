@@ -18,7 +18,8 @@ use Rattle.text.specs.declared.Found.{Found}
 use Rattle.text.specs.declared.Found.the-variants.{At, Nothing}
 use Rattle.text.proofs.Items.{name-short, name-bytes}
 use Rattle.text.proofs.Pool.{padded-length}
-use Rattle.text.proofs.Spans.{Span, span-split}
+use Rattle.text.specs.Spans.{Span}
+use Rattle.text.proofs.Spans.{span-split}
 
 -- ---- the first number that passes
 -- k is the first of the n numbers from i on that passes

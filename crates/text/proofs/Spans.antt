@@ -7,13 +7,8 @@ use native.Mathlib.Nat.{le-refl}
 use native.Mathlib.Omega.{arith}
 use lib.ListN.{length, getD, take, drop, length-append, take-append-drop}
 use lib.Seq.{slice, slice-cons, slice-empty, length-slice, take-take, take-length, drop-append-le, length-take-le, take-at, drop-at}
+use Rattle.text.specs.Spans.{Span}
 use Rattle.text.proofs.Parts.{inside}
-
--- w stands from a to b
-pub record Span (s : List ℕ) (a b : ℕ) (w : List ℕ) : Type 0 where
-  pub from : a ≤ b
-  pub within : b ≤ length s
-  pub text : slice a b s ≡ w
 
 -- ---- joining
 -- a byte that is not 0

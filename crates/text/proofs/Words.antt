@@ -17,7 +17,8 @@ use Rattle.text.specs.Items.{edge, itemEnd, nameByte, isName}
 use Rattle.text.specs.Decimals.{digit}
 use Rattle.text.proofs.Parts.{inside}
 use Rattle.text.proofs.Items.{itemEnd-out, itemEnd-edge, itemEnd-step, itemEnd-from, itemEnd-within, name-bytes}
-use Rattle.text.proofs.Spans.{Span, span-head, span-none}
+use Rattle.text.specs.Spans.{Span}
+use Rattle.text.proofs.Spans.{span-head, span-none}
 
 -- a byte that an item can have
 abbrev pub plain : ℕ → Bool

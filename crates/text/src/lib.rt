@@ -1,6 +1,6 @@
 // The bytes of a book: items, names, decimals, and pools of names in 32 bytes each.
 // Functions for the crates above, on positions of a text that these have shown to lie within it. Operations: none.
-use chains::entry;
+use base::cell;
 ghost use mathlib.Core.Path.{_≡_};
 ghost use mathlib.Core.Bool.{true, cond};
 ghost use Prim.Native.Nat.{_≤_, _<_, _+_, _*_, _-_};
@@ -334,11 +334,11 @@ pub fn find_chained(
     ensures { λ r. ⌜ r ≡ find (now (names .entry)) base count (slice at end (now (book .entry))) ⌝ }
 {
     let mut found = Found::Nothing;
-    let mut e = entry(index, heads + hash(book, at, end) % slots) as usize;
+    let mut e = cell(index, heads + hash(book, at, end) % slots) as usize;
     while 0 < e {
         let i = e - 1;
         found = found_if(same_name(names, base + i * 32, book, at, end), i, found);
-        e = entry(index, nexts + i) as usize;
+        e = cell(index, nexts + i) as usize;
     }
     found
 }

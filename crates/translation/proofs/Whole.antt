@@ -139,7 +139,7 @@ module _ (cs : List ℕ) where
   has-to at (suc n) r l h = ⊎-elim (λ e. subst (λ (k : ℕ). Has at 0 (stepsTo cs k)) (sym e) h) (λ l′. has-to at n r (le-of-suc-le-suc l′) (has-left at 0 (stepsTo cs n) (ruleSteps cs n (length (stepsTo cs n))) h)) (eq-or-lt-of-le l)
 
   target-set : (vs : List ℤ) (at : ℕ → Step) (k : ℕ) (t : Target) → at k ≡ targetStep t → setBy cs vs at k ≡ selects (graphAt cs vs) t
-  unfolding targetStep inStep selects
+  unfolding targetStep inStep conforms selects
   target-set vs at k (targetNode c) e = set-at cs vs at k (Step.is c) e
   target-set vs at k (subjectsOf l) e = set-at cs vs at k (Step.from l) e
   target-set vs at k (objectsOf l) e = set-at cs vs at k (Step.into l) e

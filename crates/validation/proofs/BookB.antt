@@ -4,6 +4,7 @@ use mathlib.Core.Path.{_≡_, refl}
 use Rattle.base.specs.Lists.{valuesFrom}
 use Rattle.base.specs.Columns.{pad, flat}
 use Rattle.model.specs.Books.{builtIn, joins, newNames, newTerms, newTriples, newShapes, newRules, collect, names, rules}
+use Rattle.model.specs.Sizes.{pathEntries, endEntries, formEntries, shapePaths, testItems, listItems, sumOver, formsIn, pathsIn, itemsIn}
 use Rattle.model.specs.Cases.{bookB}
 use Rattle.tables.specs.Entries.{entryOf}
 use Rattle.tables.specs.Decode.{entryAt, targetOf, ruleAt}
@@ -14,9 +15,9 @@ use Rattle.plan.specs.Steps.{Step}
 use Rattle.translation.specs.Compile.{entryPart, putAt, more, made, targetStep, ruleSteps, stepsTo, stepsOf, ruleStep}
 
 pub plan-B : stepsOf (encodeCells bookB) ≡ Step.equal 2 1 ∷ Step.unequal 2 1 ∷ Step.from 2 ∷ Step.both 2 1 ∷ []
-unfolding valuesFrom pad flat builtIn joins newNames newTerms newTriples newShapes newRules collect names rules entryOf entryAt targetOf ruleAt nodeRow pathRow plainRow formRow targetCode targetOperand addPath withEnd endNumber addShape addShapes rootsOf entriesOf countsOf contentOf encodeCells entryPart putAt more made targetStep ruleSteps stepsTo stepsOf
+unfolding valuesFrom pad flat builtIn joins newNames newTerms newTriples newShapes newRules collect names rules pathEntries endEntries formEntries shapePaths testItems listItems sumOver formsIn pathsIn itemsIn entryOf entryAt targetOf ruleAt nodeRow pathRow plainRow formRow targetCode targetOperand addPath withEnd endNumber addShape addShapes rootsOf entriesOf countsOf contentOf encodeCells entryPart putAt more made targetStep ruleSteps stepsTo stepsOf
 plan-B = refl
 
 pub rule-B : ruleStep (encodeCells bookB) 0 ≡ 3
-unfolding valuesFrom pad flat builtIn joins newNames newTerms newTriples newShapes newRules collect names rules entryOf entryAt targetOf ruleAt nodeRow pathRow plainRow formRow targetCode targetOperand addPath withEnd endNumber addShape addShapes rootsOf entriesOf countsOf contentOf encodeCells entryPart putAt more made targetStep ruleSteps stepsTo ruleStep
+unfolding valuesFrom pad flat builtIn joins newNames newTerms newTriples newShapes newRules collect names rules pathEntries endEntries formEntries shapePaths testItems listItems sumOver formsIn pathsIn itemsIn entryOf entryAt targetOf ruleAt nodeRow pathRow plainRow formRow targetCode targetOperand addPath withEnd endNumber addShape addShapes rootsOf entriesOf countsOf contentOf encodeCells entryPart putAt more made targetStep ruleSteps stepsTo ruleStep
 rule-B = refl

@@ -10,7 +10,7 @@ use Rattle.base.proofs.Bounded.{member-members, members-ascending, size-members
 use Rattle.model.specs.Graph.{Graph}
 use Rattle.model.specs.Shapes.{Shape}
 use Rattle.model.specs.Rules.{Rule, violates, violations, noRule}
-use Rattle.model.specs.Books.{Book, graphOf, schema, rules, conformsIn, listOf}
+use Rattle.model.specs.Books.{Book, graphOf, schema, rules, listOf}
 use Rattle.model.specs.Sizes.{formsIn}
 use Rattle.model.specs.Valid.{admissible}
 use Rattle.tables.specs.Decode.{graphAt, ruleAt}
@@ -23,7 +23,7 @@ use Rattle.encoding.proofs.WellFormed.{well-formed}
 use Rattle.translation.specs.Compile.{stepsOf}
 use Rattle.translation.proofs.Plans.{plan-few}
 use Rattle.tablerun.specs.Lists.{listAt}
-use Rattle.validation.specs.Claim.{ruleOf, breaks}
+use Rattle.validation.specs.Claim.{ruleOf, violatesIn}
 
 module _ (b : Book) (ok : admissible b ≡ true) where
   -- the list of rule r
@@ -45,8 +45,8 @@ module _ (b : Book) (ok : admissible b ≡ true) where
 
 -- ---- the members of a list, in words of the claim
 module _ (b : Book) (q : Rule) where
-  pub listed-exactly : (v : ℕ) → member v (listOf b q) ≡ breaks b q v
-  unfolding listOf violations violates conformsIn
+  pub listed-exactly : (v : ℕ) → member v (listOf b q) ≡ violatesIn b q v
+  unfolding listOf violations
   listed-exactly v = member-members (violates (graphOf b) (schema b) q) (graphOf b .nodes) v
 
   pub listed-ordered : ascending (listOf b q) ≡ true

@@ -33,12 +33,12 @@ use Rattle.reader.specs.declared.ReadAnswer.the-variants as answers
 use Rattle.reader.specs.Answers as reads
 use Rattle.runner.specs.Run.{workCount, setWords}
 use Rattle.runner.proofs.Work.{filled-words}
-use Rattle.lists.specs.Rows.{listCount, lengthCount, listIn, row, withRows, withLengths}
+use Rattle.lists.specs.Rows.{listCount, lengthCount, listIn, rowIn, withRows, withLengths}
 use Rattle.lists.proofs.ReadOff.{row-read}
 use Rattle.tablerun.specs.Lists.{listAt}
 use Rattle.tablerun.proofs.Lists.{rule-nodes, rows-same, lengths-same}
 use Rattle.validation.specs.Claim.{ruleOf, Right, Said, steps, refusal, Demand3}
-use Rattle.itemreader.specs.declared.Counts.{Counts}
+use Rattle.model.specs.declared.Counts.{Counts}
 use Rattle.validation.specs.Lent.{Lent, lent, long, namesIn, cellsIn, valuesIn, planIn}
 use Rattle.validation.specs.Whole.{answered, left, said, after}
 use Rattle.validation.proofs.Books.{list-read, steps-few, few-nodes, few-rules, listed-exactly, listed-ordered, listed-few}
@@ -130,12 +130,12 @@ module _ (s : List ℕ) (l : Lent) where
           filled-words (encodeCells b) (encodeValues b) (planOf (encodeCells b)) (l .work) k (subst (λ x. k < x) (sym steps-are) low)
           ∙ (λ j. setWords (sym cells-in j) (sym values-in j) (sym plan-in j) k)
 
-      in-rows : (r : ℕ) → r < length (rules b) → row (m .lists) (m .lengths) r ≡ listOf b (ruleOf b r)
+      in-rows : (r : ℕ) → r < length (rules b) → rowIn (m .lists) (m .lengths) r ≡ listOf b (ruleOf b r)
       in-rows r low =
           row-read list short (length (rules b)) (l .lists) (l .lengths)
           (omega (arith, fits .lists, few-rules b (valid-admissible b is-valid))) (omega (arith, fits .lengths, few-rules b (valid-admissible b is-valid))) r low
 
-      rows-read-off : (r : ℕ) → r < length (rules b) → row (m .lists) (m .lengths) r ≡ listIn (cellsIn m) (planIn m) (m .work) r
+      rows-read-off : (r : ℕ) → r < length (rules b) → rowIn (m .lists) (m .lengths) r ≡ listIn (cellsIn m) (planIn m) (m .work) r
       rows-read-off r low =
           in-rows r low
           ∙ sym (rule-nodes (encodeCells b) fine (encodeValues b) (l .work) r (subst (λ x. r < x) (sym (rules-counted b)) low) ∙ list-read b (valid-admissible b is-valid) r low)

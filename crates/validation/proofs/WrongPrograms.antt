@@ -23,8 +23,8 @@ use Rattle.text.specs.Decimals.{signed, decimal, digitsOf}
 use Rattle.model.specs.Graph.{valueOf, datatypeOf, languageOf, holds, hasTriple}
 use Rattle.model.specs.Paths.{ends, endsOf}
 use Rattle.model.specs.Shapes.{isKind, satisfies, within, subset, noneShared, allPairs, less, lessEq, sameLang, conforms, expand}
-use Rattle.model.specs.Rules.{subjectsOf, selects}
-use Rattle.model.specs.Books.{Book, rule, newNames, newTerms, newTriples, newShapes, newRules, joins, collect, builtIn, names, graphOf, schemaFrom, schema, rules, conformsIn}
+use Rattle.model.specs.Rules.{subjectsOf, selects, violates}
+use Rattle.model.specs.Books.{Book, rule, newNames, newTerms, newTriples, newShapes, newRules, joins, collect, builtIn, names, graphOf, schemaFrom, schema, rules}
 use Rattle.model.specs.Sizes.{pathEntries, endEntries, formEntries, shapePaths, listItems, sumOver, formsIn, pathsIn, itemsIn}
 use Rattle.model.specs.Valid.{capacity, isResource, defined, hasRoom, termOk, factOk, pathOk, endOk, shapeOk, targetOk, entriesFit, lineOk}
 use Rattle.model.specs.Cases.{bookB}
@@ -45,7 +45,7 @@ use Rattle.runner.specs.Run.{workCount, setWords}
 use Rattle.lists.specs.Rows.{listIn}
 use Rattle.tablerun.proofs.Lists.{bare-well-formed}
 use Rattle.validation.specs.Lent.{Lent, long, cellsIn, valuesIn, planIn}
-use Rattle.validation.specs.Claim.{ruleOf, breaks, Right, Said, steps, refusal, Answers, Demand3}
+use Rattle.validation.specs.Claim.{ruleOf, violatesIn, Right, Said, steps, refusal, Answers, Demand3}
 
 -- ---- where the slices are long enough, the answer is a number of steps
 rightly : (b : Book) (before after : Lent) (a : Said) → Answers b before a after → long before ≡ true → (n : ℕ) × Right b after n
@@ -54,7 +54,7 @@ rightly b before after (refusal k line) q e = absurd (never-both e (q .0))
 
 -- what breaks a rule stands in the words of the rule's step
 module _ (b : Book) (after : Lent) (n : ℕ) (h : Right b after n) where
-  in-words : (r : ℕ) → r < length (rules b) → (v : ℕ) → breaks b (ruleOf b r) v ≡ true → has (drop (16 * ruleStepAt (planIn after) r) (after .work)) v ≡ true
+  in-words : (r : ℕ) → r < length (rules b) → (v : ℕ) → violatesIn b (ruleOf b r) v ≡ true → has (drop (16 * ruleStepAt (planIn after) r) (after .work)) v ≡ true
   unfolding listIn
   in-words r low v e =
       let s : ℕ → Bool = has (drop (16 * ruleStepAt (planIn after) r) (after .work)) in
@@ -75,8 +75,8 @@ no-member : (n i v : ℕ) → has (drop i (replicate n 0)) v ≡ false
 unfolding has
 no-member n i v = has-drop (replicate n 0) i v ∙ ap (λ (x : ℕ). bit x ((i * 64 + v) % 64)) (zeros-at n ((i * 64 + v) / 64)) ∙ bit-zero ((i * 64 + v) % 64)
 
-left-breaks : breaks bookB (ruleOf bookB 0) 0 ≡ true
-unfolding some every one size anyb allb member valueOf datatypeOf languageOf holds hasTriple ends endsOf isKind satisfies within subset noneShared allPairs less lessEq sameLang conforms expand selects newTerms newTriples newShapes newRules collect graphOf schemaFrom schema rules conformsIn
+left-breaks : violatesIn bookB (ruleOf bookB 0) 0 ≡ true
+unfolding some every one size anyb allb member valueOf datatypeOf languageOf holds hasTriple ends endsOf isKind satisfies within subset noneShared allPairs less lessEq sameLang conforms expand selects newTerms newTriples newShapes newRules collect graphOf schemaFrom schema rules violates
 left-breaks = refl
 
 one-rule : length (rules bookB) ≡ 1
@@ -99,8 +99,8 @@ twice-valid : valid twice ≡ true
 unfolding valid validFrom validLine namesOk newName wellNamed reserved isName nameByte anyb allb eql lineDepth shapeDepth endDepth pathDepth lineOk hasRoom capacity termOk factOk shapeOk endOk pathOk targetOk entriesFit defined inRange isResource names builtIn collect newNames joins newTerms newTriples newShapes newRules rules formsIn pathsIn itemsIn sumOver pathEntries endEntries formEntries shapePaths listItems render renderFrom writeLine writeNode writeShape writeTarget writeEnd writePath nameOf bracket spaced signed decimal digitsOf
 twice-valid = refl
 
-left-breaks-again : breaks twice (ruleOf twice 1) 0 ≡ true
-unfolding some every one size anyb allb member valueOf datatypeOf languageOf holds hasTriple ends endsOf isKind satisfies within subset noneShared allPairs less lessEq sameLang conforms expand selects newTerms newTriples newShapes newRules collect graphOf schemaFrom schema rules conformsIn
+left-breaks-again : violatesIn twice (ruleOf twice 1) 0 ≡ true
+unfolding some every one size anyb allb member valueOf datatypeOf languageOf holds hasTriple ends endsOf isKind satisfies within subset noneShared allPairs less lessEq sameLang conforms expand selects newTerms newTriples newShapes newRules collect graphOf schemaFrom schema rules violates
 left-breaks-again = refl
 
 two-rules : length (rules twice) ≡ 2

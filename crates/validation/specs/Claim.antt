@@ -1,16 +1,16 @@
 -- Demand 3: one claim, from the bytes of a book to the lists of all its rules.
 -- It rests on what a book says and means (model), how it is written (grammar: `render`, `valid`), its tables (encoding), the plan
 -- of tables (translation: `planOf`), the set of each step (plan: `setAt`, in words by runner: `setWords`), a list read off the
--- work space (lists: `listIn`, `row`) and how long the lent slices must be (`long`).
+-- work space (lists: `listIn`, `rowIn`) and how long the lent slices must be (`long`).
 use Prim.Native.Nat.{ℕ, _+_, _*_, _<_, _≤_}
 use mathlib.Core.Path.{_≡_}
 use mathlib.Core.List.{List}
-use mathlib.Core.Bool.{Bool, true, false, not, _&&_}
+use mathlib.Core.Bool.{Bool, true, false, _&&_}
 use lib.Dec.{ltb}
 use lib.ListN.{length, take, drop, getD}
 use Rattle.base.specs.Lists.{member, ascending}
-use Rattle.model.specs.Rules.{Rule, selects, noRule}
-use Rattle.model.specs.Books.{Book, graphOf, rules, conformsIn}
+use Rattle.model.specs.Rules.{Rule, violates, noRule}
+use Rattle.model.specs.Books.{Book, graphOf, schema, rules}
 use Rattle.model.specs.Sizes.{formsIn}
 use Rattle.model.specs.Refusals.{codeOf, lineOf}
 use Rattle.grammar.specs.Writing.{render}
@@ -19,7 +19,7 @@ use Rattle.encoding.specs.Encode.{encodeNames, encodeCells, encodeValues}
 use Rattle.plan.specs.Layout.{stepCount}
 use Rattle.translation.specs.Compile.{planOf}
 use Rattle.runner.specs.Run.{setWords}
-use Rattle.lists.specs.Rows.{listIn, row}
+use Rattle.lists.specs.Rows.{listIn, rowIn}
 use Rattle.validation.specs.Lent.{Lent, long, namesIn, cellsIn, valuesIn, planIn}
 use Rattle.validation.specs.declared.Validated.{Validated}
 use Rattle.validation.specs.declared.Validated.the-variants.{Steps, Refused}
@@ -28,9 +28,9 @@ use Rattle.validation.specs.declared.Validated.the-variants.{Steps, Refu
 abbrev pub ruleOf : Book → ℕ → Rule
 ruleOf b r = getD (rules b) r noRule
 
--- v is a node of the book that the rule selects and that does not conform to the rule's shape
-abbrev pub breaks : Book → Rule → ℕ → Bool
-breaks b q v = ltb v (graphOf b .nodes) && (selects (graphOf b) (q .target) v && not (conformsIn b v (q .shape)))
+-- v is a node of the book that violates the rule: the rule selects it, and it does not conform to the rule's shape
+abbrev pub violatesIn : Book → Rule → ℕ → Bool
+violatesIn b q v = ltb v (graphOf b .nodes) && violates (graphOf b) (schema b) q v
 
 -- what the book b should get: what is left in the slices, and the number of steps
 pub record Right (b : Book) (after : Lent) (steps : ℕ) : Type 0 where
@@ -43,11 +43,11 @@ pub record Right (b : Book) (after : Lent) (steps : ℕ) : Type 0 where
   -- each step's sixteen words of the work space are its set
   pub ran : (k : ℕ) → k < steps → take 16 (drop (16 * k) (after .work)) ≡ setWords (cellsIn after) (valuesIn after) (planIn after) k
   -- each rule's list is read off the words of the rule's step
-  pub readOff : (r : ℕ) → r < length (rules b) → row (after .lists) (after .lengths) r ≡ listIn (cellsIn after) (planIn after) (after .work) r
+  pub readOff : (r : ℕ) → r < length (rules b) → rowIn (after .lists) (after .lengths) r ≡ listIn (cellsIn after) (planIn after) (after .work) r
   -- under each rule a node is listed exactly when the rule selects it and it does not conform to the shape
-  pub exactly : (r : ℕ) → r < length (rules b) → (v : ℕ) → member v (row (after .lists) (after .lengths) r) ≡ breaks b (ruleOf b r) v
+  pub exactly : (r : ℕ) → r < length (rules b) → (v : ℕ) → member v (rowIn (after .lists) (after .lengths) r) ≡ violatesIn b (ruleOf b r) v
   -- each node once, in book order
-  pub ordered : (r : ℕ) → r < length (rules b) → ascending (row (after .lists) (after .lengths) r) ≡ true
+  pub ordered : (r : ℕ) → r < length (rules b) → ascending (rowIn (after .lists) (after .lengths) r) ≡ true
   -- the number of steps is the plan's, at most four for each form entry and two for each rule
   pub counted : stepCount (planIn after) ≡ steps
   pub few : steps ≤ 4 * formsIn b + 2 * length (rules b)

@@ -5,6 +5,7 @@
 // No pair of a form entry and a node is decided twice: settle calls itself on entries before its own, for sets of nodes, and
 // what is known is kept. Few nodes are decided one by one, each from its own ends; many from the ends of all nodes at once. Of
 // entry e, the nodes that conform stand from word 32 * e of the memo on, and those that do not from word 32 * e + 16 on.
+use base::pick;
 use conditions::closed_holds;
 use conditions::insert_if;
 use conditions::test_holds;
@@ -22,7 +23,6 @@ use nodeset::test;
 use paths::End;
 use paths::INDEX_CELLS;
 use paths::index_table;
-use paths::pick;
 use stepsets::Ask;
 use stepsets::NO_END;
 use stepsets::ends_set;

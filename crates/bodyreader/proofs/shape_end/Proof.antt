@@ -3,7 +3,7 @@ use mathlib.Core.Path.{sym, ap, _∙_}
 use mathlib.Core.Bool.{true}
 use lib.Seq.{slice}
 use Rattle.model.specs.Books.{shape, shapes}
-use Rattle.itemreader.specs.declared.Counts.{Counts}
+use Rattle.model.specs.declared.Counts.{Counts}
 use Rattle.linereader.specs.declared.LineAnswer.{LineAnswer}
 use Rattle.linereader.specs.Storing.{lineEnd}
 use Rattle.linereader.proofs.Bodies.{done-yes, ended-no, ended-yes}

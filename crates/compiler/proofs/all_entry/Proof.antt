@@ -12,11 +12,11 @@ form-second-requires c κs = search needs
 wide-requires : tie.Need-wide-requires
 wide-requires c κs = search needs
 
-number-at-requires : tie.Need-number-at-requires
-number-at-requires c κs = search needs
+cell-requires : tie.Need-cell-requires
+cell-requires c κs = search needs
 
-number-at-requires-2 : tie.Need-number-at-requires-2
-number-at-requires-2 c κs = search needs
+cell-requires-2 : tie.Need-cell-requires-2
+cell-requires-2 c κs = search needs
 
 form-first-requires : tie.Need-form-first-requires
 form-first-requires c κs = search needs
@@ -28,7 +28,7 @@ same-length : tie.Need-same-length
 same-length c = search needs
 
 returns : tie.Need-returns
-returns c = rw (← c .before .before .before .form-first .ensures, ← (c .before .before .before .before .before .before .number-at .ensures ∙ ap (λ (i : ℕ). getD (now (c .before .before .before .before .before .before .before .before .before .before .before .before .before .args .keeps)) i 0) (c .before .before .before .before .before .before .before .wide .ensures ∙ c .before .before .before .before .before .before .before .before .form-second .ensures)), ← (c .before .before .before .before .before .number-at2 .ensures ∙ ap (λ (i : ℕ). getD (now (c .before .before .before .before .before .before .before .before .before .before .before .before .before .args .breaks)) i 0) (c .before .before .before .before .before .before .before .wide .ensures ∙ c .before .before .before .before .before .before .before .before .form-second .ensures))) (c .before .before .all-steps .ensures)
+returns c = rw (← c .before .before .before .form-first .ensures, ← (c .before .before .before .before .before .before .cell .ensures ∙ ap (λ (i : ℕ). getD (now (c .before .before .before .before .before .before .before .before .before .before .before .before .before .args .keeps)) i 0) (c .before .before .before .before .before .before .before .wide .ensures ∙ c .before .before .before .before .before .before .before .before .form-second .ensures)), ← (c .before .before .before .before .before .cell2 .ensures ∙ ap (λ (i : ℕ). getD (now (c .before .before .before .before .before .before .before .before .before .before .before .before .before .args .breaks)) i 0) (c .before .before .before .before .before .before .before .wide .ensures ∙ c .before .before .before .before .before .before .before .before .form-second .ensures))) (c .before .before .all-steps .ensures)
 
 pub all-entry-spec : {M : Type 1} → statement M
 all-entry-spec =
@@ -36,8 +36,8 @@ all-entry-spec =
     (tie.spec
     form-second-requires
     wide-requires
-    number-at-requires
-    number-at-requires-2
+    cell-requires
+    cell-requires-2
     form-first-requires
     all-steps-requires
     same-length

@@ -12,8 +12,8 @@ form-second-requires c κs = search needs
 wide-requires : tie.Need-wide-requires
 wide-requires c κs = search needs
 
-number-at-requires : tie.Need-number-at-requires
-number-at-requires c κs = search needs
+cell-requires : tie.Need-cell-requires
+cell-requires c κs = search needs
 
 form-third-requires : tie.Need-form-third-requires
 form-third-requires c κs = search needs
@@ -31,7 +31,7 @@ same-length : tie.Need-same-length
 same-length c = search needs
 
 returns : tie.Need-returns
-returns c = rw (← c .before .before .before .form-first .ensures, ← (c .before .before .before .before .before .before .before .number-at .ensures ∙ ap (λ (i : ℕ). getD (now (c .before .before .before .before .before .before .before .before .before .before .before .before .before .args .keeps)) i 0) (c .before .before .before .before .before .before .before .before .wide .ensures ∙ c .before .before .before .before .before .before .before .before .before .form-second .ensures)), ← c .before .before .before .before .before .before .form-third .ensures, ← c .before .before .before .before .before .form-fourth .ensures) (c .before .before .count-steps .ensures)
+returns c = rw (← c .before .before .before .form-first .ensures, ← (c .before .before .before .before .before .before .before .cell .ensures ∙ ap (λ (i : ℕ). getD (now (c .before .before .before .before .before .before .before .before .before .before .before .before .before .args .keeps)) i 0) (c .before .before .before .before .before .before .before .before .wide .ensures ∙ c .before .before .before .before .before .before .before .before .before .form-second .ensures)), ← c .before .before .before .before .before .before .form-third .ensures, ← c .before .before .before .before .before .form-fourth .ensures) (c .before .before .count-steps .ensures)
 
 pub count-entry-spec : {M : Type 1} → statement M
 count-entry-spec =
@@ -39,7 +39,7 @@ count-entry-spec =
     (tie.spec
     form-second-requires
     wide-requires
-    number-at-requires
+    cell-requires
     form-third-requires
     form-fourth-requires
     form-first-requires

@@ -18,17 +18,17 @@ form-second-requires c κs = search needs
 wide-requires-2 : tie.Need-wide-requires-2
 wide-requires-2 c κs = search needs
 
-number-at-requires : tie.Need-number-at-requires
-number-at-requires c κs = search needs
+cell-requires : tie.Need-cell-requires
+cell-requires c κs = search needs
 
-number-at-requires-2 : tie.Need-number-at-requires-2
-number-at-requires-2 c κs = search needs
+cell-requires-2 : tie.Need-cell-requires-2
+cell-requires-2 c κs = search needs
 
-number-at-requires-3 : tie.Need-number-at-requires-3
-number-at-requires-3 c κs = search needs
+cell-requires-3 : tie.Need-cell-requires-3
+cell-requires-3 c κs = search needs
 
-number-at-requires-4 : tie.Need-number-at-requires-4
-number-at-requires-4 c κs = search needs
+cell-requires-4 : tie.Need-cell-requires-4
+cell-requires-4 c κs = search needs
 
 two-requires : tie.Need-two-requires
 two-requires c κs = search needs
@@ -37,7 +37,7 @@ same-length : tie.Need-same-length
 same-length c = search needs
 
 returns : tie.Need-returns
-returns c = rw (← (c .before .before .before .before .before .before .before .number-at .ensures ∙ ap (λ (i : ℕ). getD (now (c .before .before .before .before .before .before .before .before .before .before .before .before .before .before .before .before .args .keeps)) i 0) (c .before .before .before .before .before .before .before .before .before .before .wide .ensures ∙ c .before .before .before .before .before .before .before .before .before .before .before .form-first .ensures)), ← (c .before .before .before .before .before .before .number-at2 .ensures ∙ ap (λ (i : ℕ). getD (now (c .before .before .before .before .before .before .before .before .before .before .before .before .before .before .before .before .args .keeps)) i 0) (c .before .before .before .before .before .before .before .before .wide2 .ensures ∙ c .before .before .before .before .before .before .before .before .before .form-second .ensures)), ← (c .before .before .before .before .before .number-at3 .ensures ∙ ap (λ (i : ℕ). getD (now (c .before .before .before .before .before .before .before .before .before .before .before .before .before .before .before .before .args .breaks)) i 0) (c .before .before .before .before .before .before .before .before .before .before .wide .ensures ∙ c .before .before .before .before .before .before .before .before .before .before .before .form-first .ensures)), ← (c .before .before .before .before .number-at4 .ensures ∙ ap (λ (i : ℕ). getD (now (c .before .before .before .before .before .before .before .before .before .before .before .before .before .before .before .before .args .breaks)) i 0) (c .before .before .before .before .before .before .before .before .wide2 .ensures ∙ c .before .before .before .before .before .before .before .before .before .form-second .ensures))) (c .before .before .two .ensures)
+returns c = rw (← (c .before .before .before .before .before .before .before .cell .ensures ∙ ap (λ (i : ℕ). getD (now (c .before .before .before .before .before .before .before .before .before .before .before .before .before .before .before .before .args .keeps)) i 0) (c .before .before .before .before .before .before .before .before .before .before .wide .ensures ∙ c .before .before .before .before .before .before .before .before .before .before .before .form-first .ensures)), ← (c .before .before .before .before .before .before .cell2 .ensures ∙ ap (λ (i : ℕ). getD (now (c .before .before .before .before .before .before .before .before .before .before .before .before .before .before .before .before .args .keeps)) i 0) (c .before .before .before .before .before .before .before .before .wide2 .ensures ∙ c .before .before .before .before .before .before .before .before .before .form-second .ensures)), ← (c .before .before .before .before .before .cell3 .ensures ∙ ap (λ (i : ℕ). getD (now (c .before .before .before .before .before .before .before .before .before .before .before .before .before .before .before .before .args .breaks)) i 0) (c .before .before .before .before .before .before .before .before .before .before .wide .ensures ∙ c .before .before .before .before .before .before .before .before .before .before .before .form-first .ensures)), ← (c .before .before .before .before .cell4 .ensures ∙ ap (λ (i : ℕ). getD (now (c .before .before .before .before .before .before .before .before .before .before .before .before .before .before .before .before .args .breaks)) i 0) (c .before .before .before .before .before .before .before .before .wide2 .ensures ∙ c .before .before .before .before .before .before .before .before .before .form-second .ensures))) (c .before .before .two .ensures)
 
 pub joined-spec : {M : Type 1} → statement M
 joined-spec =
@@ -47,10 +47,10 @@ joined-spec =
     wide-requires
     form-second-requires
     wide-requires-2
-    number-at-requires
-    number-at-requires-2
-    number-at-requires-3
-    number-at-requires-4
+    cell-requires
+    cell-requires-2
+    cell-requires-3
+    cell-requires-4
     two-requires
     same-length
     returns)

@@ -14,8 +14,8 @@ rule-shape-requires c κs = search needs
 root-requires : tie.Need-root-requires
 root-requires c κs = search needs
 
-number-at-requires : tie.Need-number-at-requires
-number-at-requires c κs = search needs
+cell-requires : tie.Need-cell-requires
+cell-requires c κs = search needs
 
 target-step-requires : tie.Need-target-step-requires
 target-step-requires c κs = search needs
@@ -48,7 +48,7 @@ same-length : tie.Need-same-length
 same-length c = length-set (c .before .before .before .put-step .last .0) _ _ ∙ c .before .before .before .put-step .kept .0 ∙ c .before .before .before .before .before .before .before .before .target-step .kept .0
 
 returns : tie.Need-returns
-returns c = let a = c .before .before .before .before .before .before .before .before .before .before .before .before .before .before .before .before .args in rule-law (now (a .cells)) (now (a .plan)) (c .before .before .before .before .before .before .before .before .target-step .last .0) (c .before .before .before .put-step .last .0) (a .r) (a .n) (c .before .before .before .before .narrow .result) (c .before .before .before .before .before .before .before .before .before .before .number-at .result) (getD (now (a .breaks)) (rootAt (now (a .cells)) (ruleShapeAt (now (a .cells)) (a .r))) 0) (c .narrow2 .result) (c .before .before .before .before .before .before .before .before .target-step .ensures) (c .before .before .before .put-step .ensures) (c .before .before .before .before .narrow .ensures) (c .before .before .before .before .before .before .before .before .before .before .number-at .ensures ∙ ap (λ (i : ℕ). getD (now (a .breaks)) i 0) (c .before .before .before .before .before .before .before .before .before .before .before .root .ensures ∙ ap (rootAt (now (a .cells))) (c .before .before .before .before .before .before .before .before .before .before .before .before .rule-shape .ensures))) (c .narrow2 .ensures)
+returns c = let a = c .before .before .before .before .before .before .before .before .before .before .before .before .before .before .before .before .args in rule-law (now (a .cells)) (now (a .plan)) (c .before .before .before .before .before .before .before .before .target-step .last .0) (c .before .before .before .put-step .last .0) (a .r) (a .n) (c .before .before .before .before .narrow .result) (c .before .before .before .before .before .before .before .before .before .before .cell .result) (getD (now (a .breaks)) (rootAt (now (a .cells)) (ruleShapeAt (now (a .cells)) (a .r))) 0) (c .narrow2 .result) (c .before .before .before .before .before .before .before .before .target-step .ensures) (c .before .before .before .put-step .ensures) (c .before .before .before .before .narrow .ensures) (c .before .before .before .before .before .before .before .before .before .before .cell .ensures ∙ ap (λ (i : ℕ). getD (now (a .breaks)) i 0) (c .before .before .before .before .before .before .before .before .before .before .before .root .ensures ∙ ap (rootAt (now (a .cells))) (c .before .before .before .before .before .before .before .before .before .before .before .before .rule-shape .ensures))) (c .narrow2 .ensures)
 
 pub rule-steps-spec : {M : Type 1} → statement M
 rule-steps-spec =
@@ -56,7 +56,7 @@ rule-steps-spec =
     (tie.spec
     rule-shape-requires
     root-requires
-    number-at-requires
+    cell-requires
     target-step-requires
     add-put-step
     narrow-requires

@@ -12,16 +12,16 @@ form-first-requires c κs = search needs
 wide-requires : tie.Need-wide-requires
 wide-requires c κs = search needs
 
-number-at-requires : tie.Need-number-at-requires
-number-at-requires c κs = search needs
+cell-requires : tie.Need-cell-requires
+cell-requires c κs = search needs
 
-number-at-requires-2 : tie.Need-number-at-requires-2
-number-at-requires-2 c κs = search needs
+cell-requires-2 : tie.Need-cell-requires-2
+cell-requires-2 c κs = search needs
 
 returns : tie.Need-returns
-returns c = (refl, (c .before .number-at .ensures ∙ ap (λ (i : ℕ). getD (now (c .before .before .before .before .before .before .before .args .breaks)) i 0) (c .before .before .wide .ensures ∙ c .before .before .before .form-first .ensures)), (c .number-at2 .ensures ∙ ap (λ (i : ℕ). getD (now (c .before .before .before .before .before .before .before .args .keeps)) i 0) (c .before .before .wide .ensures ∙ c .before .before .before .form-first .ensures)))
+returns c = (refl, (c .before .cell .ensures ∙ ap (λ (i : ℕ). getD (now (c .before .before .before .before .before .before .before .args .breaks)) i 0) (c .before .before .wide .ensures ∙ c .before .before .before .form-first .ensures)), (c .cell2 .ensures ∙ ap (λ (i : ℕ). getD (now (c .before .before .before .before .before .before .before .args .keeps)) i 0) (c .before .before .wide .ensures ∙ c .before .before .before .form-first .ensures)))
 
 pub swapped-spec : {M : Type 1} → statement M
 swapped-spec =
     tie.close
-    (tie.spec form-first-requires wide-requires number-at-requires number-at-requires-2 returns)
+    (tie.spec form-first-requires wide-requires cell-requires cell-requires-2 returns)

@@ -9,11 +9,11 @@ sub-child c = search needs
 cast-child : tie.Need-cast-child
 cast-child c = search needs
 
-pick-requires : tie.Need-pick-requires
-pick-requires c κs = search needs
+pick-cell-requires : tie.Need-pick-cell-requires
+pick-cell-requires c κs = search needs
 
-pick-requires-2 : tie.Need-pick-requires-2
-pick-requires-2 c κs = search needs
+pick-cell-requires-2 : tie.Need-pick-cell-requires-2
+pick-cell-requires-2 c κs = search needs
 
 close-form-requires : tie.Need-close-form-requires
 close-form-requires c κs = search needs
@@ -25,7 +25,7 @@ returns : tie.Need-returns
 returns c =
     let s = c .before .before .before .before .before .before .before .before .before .before .args in
     let o = c .before .before .close-form in
-    (o .ensures .0, (o .ensures .1 .0 ∙ rw (c .before .before .before .before .pick .ensures, c .before .before .before .pick2 .ensures), o .ensures .1 .1))
+    (o .ensures .0, (o .ensures .1 .0 ∙ rw (c .before .before .before .before .pick-cell .ensures, c .before .before .before .pick-cell2 .ensures), o .ensures .1 .1))
 
 pub close-child-spec : {M : Type 1} → statement M
 close-child-spec =
@@ -33,8 +33,8 @@ close-child-spec =
     (tie.spec
     sub-child
     cast-child
-    pick-requires
-    pick-requires-2
+    pick-cell-requires
+    pick-cell-requires-2
     close-form-requires
     same-length
     returns)

@@ -25,11 +25,11 @@ cast-x c =
     let b = below-is _ _ (c .before .before .before .before .before .args .item) _ _ (c .before .before .before .before .before .pre .4) (c .before .item2 .given .1) .0 in
     omega arith
 
-pick-requires : tie.Need-pick-requires
-pick-requires c κs = search needs
+pick-cell-requires : tie.Need-pick-cell-requires
+pick-cell-requires c κs = search needs
 
-pick-requires-2 : tie.Need-pick-requires-2
-pick-requires-2 c κs = search needs
+pick-cell-requires-2 : tie.Need-pick-cell-requires-2
+pick-cell-requires-2 c κs = search needs
 
 close-form-requires : tie.Need-close-form-requires
 close-form-requires c κs = search needs
@@ -53,7 +53,7 @@ returns-2 c =
       λ a R b k g at e m cs vs vs' f cl.
           let y = item-got g (argAt (s .book .now) a R k b at) (s .item) (j .0 .0) next e (j .1) in
           form-is (rest-one (s .book .now) a R k f b at (y .0) next (y .1))
-          (closed-form (s .book .now) next (s .n) a (putItem (s .lone) (s .n .forms) (s .code) (s .a) (s .cells .now) (g (y .0))) (s .cells .now) (cl (y .0)) (o .ensures .0) (o .ensures .1 .0 ∙ ap (λ (q : List ℕ). cond (eqb (getD (s .book .now) next 0) 41) q (s .cells .now)) (put-item (s .lone) (s .n .forms) (s .code) (s .a) (s .cells .now) (c .before .before .before .before .pick .result) (c .before .before .before .pick2 .result) (j .0 .0) (g (y .0)) (c .before .before .before .before .pick .ensures) (c .before .before .before .pick2 .ensures) (y .2)))),
+          (closed-form (s .book .now) next (s .n) a (putItem (s .lone) (s .n .forms) (s .code) (s .a) (s .cells .now) (g (y .0))) (s .cells .now) (cl (y .0)) (o .ensures .0) (o .ensures .1 .0 ∙ ap (λ (q : List ℕ). cond (eqb (getD (s .book .now) next 0) 41) q (s .cells .now)) (put-item (s .lone) (s .n .forms) (s .code) (s .a) (s .cells .now) (c .before .before .before .before .pick-cell .result) (c .before .before .before .pick-cell2 .result) (j .0 .0) (g (y .0)) (c .before .before .before .before .pick-cell .ensures) (c .before .before .before .pick-cell2 .ensures) (y .2)))),
       (rw (o .ensures .0) (closed-within (s .book .now) next (s .n) (s .n .forms) (s .up) (omega arith) (p .0) (p .1) (p .2)), o .ensures .1 .1),
     )
 
@@ -64,8 +64,8 @@ item-form-spec =
     enum-known-item
     enum-known-item-2
     cast-x
-    pick-requires
-    pick-requires-2
+    pick-cell-requires
+    pick-cell-requires-2
     close-form-requires
     returns
     same-length

@@ -4,7 +4,7 @@ use native.Mathlib.Omega.{arith}
 use Rattle.model.specs.Books.{fact, nodes, links}
 use Rattle.grammar.specs.Syntax.{subject, used, factL, lineFamily}
 use Rattle.grammar.specs.Reading.{argAt, after, readersAt, lineRoom, begunAbove}
-use Rattle.itemreader.specs.declared.Counts.{Counts}
+use Rattle.model.specs.declared.Counts.{Counts}
 use Rattle.itemreader.specs.Answers.{same}
 use Rattle.itemreader.proofs.Items.{below-is, number-got}
 use Rattle.linereader.specs.declared.LineAnswer.{LineAnswer}

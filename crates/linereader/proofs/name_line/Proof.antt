@@ -9,7 +9,7 @@ use Rattle.itemreader.proofs.Items.{below-is}
 use Rattle.grammar.specs.Syntax.{new}
 use Rattle.grammar.specs.Reading.{begunAbove}
 use Rattle.linereader.specs.declared.LineAnswer.{LineAnswer}
-use Rattle.itemreader.specs.declared.Counts.{Counts}
+use Rattle.model.specs.declared.Counts.{Counts}
 use native.Mathlib.Omega.{arith}
 use Rattle.linereader.specs.Storing.{lineBody, lineEnd, loneCode, loneLine}
 use Rattle.linereader.proofs.Bodies.{item-stop, new-got, new-facts, new-place, done-no, done-yes, ended-no, ended-yes, lone-stop, lone-got, lone-names, lone-cells, lone-values, lone-counted}

@@ -6,7 +6,7 @@ use lib.IntN.{ℤ}
 use lib.ListN.{set}
 use mir.Facts.{toZ-ofZ}
 use Rattle.model.specs.Books.{node, nodes}
-use Rattle.itemreader.specs.declared.Counts.{Counts}
+use Rattle.model.specs.declared.Counts.{Counts}
 use Rattle.linereader.specs.declared.LineAnswer.{LineAnswer}
 use Rattle.linereader.specs.Storing.{lineEnd}
 use Rattle.linereader.proofs.Bodies.{node-counted, node-place, done-no, done-yes, ended-no, ended-yes, node-names, node-cells, node-values}

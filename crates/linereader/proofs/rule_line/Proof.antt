@@ -10,7 +10,7 @@ use Rattle.model.specs.Books.{rule, shapes}
 use Rattle.grammar.specs.Syntax.{used, target, ruleL, lineFamily}
 use Rattle.grammar.specs.Reading.{argAt, after, readersAt, lineRoom, begunAbove}
 use Rattle.stores.specs.Lines.{lineNames, lineValues}
-use Rattle.itemreader.specs.declared.Counts.{Counts}
+use Rattle.model.specs.declared.Counts.{Counts}
 use Rattle.itemreader.specs.Answers.{same}
 use Rattle.itemreader.proofs.Items.{below-is, number-got}
 use Rattle.linereader.specs.declared.LineAnswer.{LineAnswer}

@@ -19,7 +19,7 @@ use Rattle.paths.proofs.spread.Reads as spread
 use Rattle.paths.proofs.spread.Kinds as spread-kinds
 use Rattle.paths.proofs.+spread.Lts-spread as spread-lts
 use Rattle.paths.proofs.join_link.Reads as join-link-reads
-use Rattle.paths.proofs.pick.Reads as pick-reads
+use Rattle.base.proofs.pick.Reads as pick-reads
 use Rattle.tables.proofs.reads.path_code.Reads as path-code-reads
 use Rattle.tables.proofs.reads.path_first.Reads as path-first-reads
 use Rattle.tables.proofs.reads.path_link.Reads as path-link-reads

@@ -1,7 +1,3 @@
-use mathlib.Core.Path.{_∙_}
-use Rattle.tables.specs.Layout.{nameCount, cellCount, valueCount}
-use lib.IntN.{pos}
-use Rattle.reader.proofs.Cleared.{blank-long}
 use borrow.Author.Needs.{needs}
 use Rattle.reader.proofs.clear.Statement.{statement}
 use Rattle.reader.proofs.clear.Tie as tie
@@ -25,10 +21,7 @@ same-length-3 : tie.Need-same-length-3
 same-length-3 c = search needs
 
 returns : tie.Need-returns
-returns c =
-    let s = c .before .before .before .before .before .before .before .before .before .before .before .before .before .args in
-    let p = c .before .before .before .before .before .before .before .before .before .before .before .before .before .pre in
-    (c .before .before .before .before .before .before .before .before .before .clear-names .ensures ∙ blank-long nameCount 0 (s .names .now) (p .0), (c .before .before .before .before .before .clear-cells .ensures ∙ blank-long cellCount 0 (s .cells .now) (p .1), c .before .clear-values .ensures ∙ blank-long valueCount (pos 0) (s .values .now) (p .2)))
+returns c = (c .before .before .before .before .before .before .before .before .before .clear-names .ensures, (c .before .before .before .before .before .clear-cells .ensures, c .before .clear-values .ensures))
 
 pub clear-spec : {M : Type 1} → statement M
 clear-spec =

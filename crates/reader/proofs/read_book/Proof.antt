@@ -5,7 +5,7 @@ use native.Mathlib.Omega.{arith}
 use Rattle.base.specs.Bytes.{bytes}
 use Rattle.model.specs.Books.{links, types}
 use Rattle.stores.specs.Lines.{putName}
-use Rattle.itemreader.specs.declared.Counts.{Counts}
+use Rattle.model.specs.declared.Counts.{Counts}
 use Rattle.reader.specs.declared.LinesAnswer.{LinesAnswer}
 use Rattle.reader.proofs.Cleared.{builtNames, started}
 use Rattle.reader.proofs.Outcomes.{Whole, Turned, was-read, was-turned}

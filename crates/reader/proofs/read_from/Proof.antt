@@ -2,7 +2,7 @@ use Prim.Native.Nat.{_-_}
 use mathlib.Core.Path.{_≡_, refl, sym, _∙_, subst}
 use native.Mathlib.Omega.{arith}
 use lib.ListN.{length}
-use Rattle.itemreader.specs.declared.Counts.{Counts}
+use Rattle.model.specs.declared.Counts.{Counts}
 use Rattle.itemreader.specs.Held.{Indexed}
 use Rattle.reader.proofs.Runs.{Runs, runs-start, runs-held, runs-kinds, runs-limits, runs-fits, runs-more, runs-stop, runs-end}
 use borrow.Author.Needs.{needs}

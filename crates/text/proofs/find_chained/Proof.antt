@@ -22,17 +22,17 @@ abbrev μ-loop : tie.MeasureT-loop
 hash-requires : tie.Need-hash-requires Inv-loop μ-loop
 hash-requires c κs = search needs
 
-rem-entry : tie.Need-rem-entry Inv-loop μ-loop
-rem-entry c = search needs
+rem-cell : tie.Need-rem-cell Inv-loop μ-loop
+rem-cell c = search needs
 
-add-entry : tie.Need-add-entry Inv-loop μ-loop
-add-entry c =
+add-cell : tie.Need-add-cell Inv-loop μ-loop
+add-cell c =
     let s = c .before .before .before .before in
     let m = mod-lt (c .hash .result) (s .pre .6) in
     omega arith
 
-entry-requires : tie.Need-entry-requires Inv-loop μ-loop
-entry-requires c κs = search needs
+cell-requires : tie.Need-cell-requires Inv-loop μ-loop
+cell-requires c κs = search needs
 
 cast-e : tie.Need-cast-e Inv-loop μ-loop
 cast-e c = search needs
@@ -41,8 +41,8 @@ loop-holds : tie.Need-loop-holds Inv-loop μ-loop
 loop-holds c =
     let s = c .before .before .before .before .before in
     let a = s .args in
-    walk-begins (a .names .now) (a .base) (a .count) (a .slots) (slice (a .at) (a .end) (a .book .now)) (s .pre .7) (c .entry .result) (s .pre .6)
-    (c .entry .ensures ∙ ap (λ (h : ℕ). getD (a .index .now) (a .heads + h % a .slots) 0) (c .before .hash .ensures))
+    walk-begins (a .names .now) (a .base) (a .count) (a .slots) (slice (a .at) (a .end) (a .book .now)) (s .pre .7) (c .cell .result) (s .pre .6)
+    (c .cell .ensures ∙ ap (λ (h : ℕ). getD (a .index .now) (a .heads + h % a .slots) 0) (c .before .hash .ensures))
 
 sub-i : tie.Need-sub-i Inv-loop μ-loop
 sub-i c = search needs
@@ -59,25 +59,25 @@ same-name-requires c κs = search needs
 found-if-requires : tie.Need-found-if-requires Inv-loop μ-loop
 found-if-requires c κs = search needs
 
-add-entry-2 : tie.Need-add-entry-2 Inv-loop μ-loop
-add-entry-2 c = search needs
+add-cell-2 : tie.Need-add-cell-2 Inv-loop μ-loop
+add-cell-2 c = search needs
 
-entry-requires-2 : tie.Need-entry-requires-2 Inv-loop μ-loop
-entry-requires-2 c κs = search needs
+cell-requires-2 : tie.Need-cell-requires-2 Inv-loop μ-loop
+cell-requires-2 c κs = search needs
 
 cast-e-2 : tie.Need-cast-e-2 Inv-loop μ-loop
 cast-e-2 c = search needs
 
 -- what the loop holds after one item more
-more : (c : tie.After-entry2 Inv-loop μ-loop)
+more : (c : tie.After-cell2 Inv-loop μ-loop)
     → let l = c .before .before .before .before .loop in
     let a = c .before .before .before .before .before .before .before .before .before .before .args in
-    (c .entry2 .result ≤ l .e - 1) × Walk (a .names .now) (a .base) (a .count) (a .slots) (slice (a .at) (a .end) (a .book .now)) (c .entry2 .result) (cond (eql (padded (slice (a .at) (a .end) (a .book .now))) (place (a .names .now) (a .base) (l .e - 1))) (At (l .e - 1)) (l .found))
+    (c .cell2 .result ≤ l .e - 1) × Walk (a .names .now) (a .base) (a .count) (a .slots) (slice (a .at) (a .end) (a .book .now)) (c .cell2 .result) (cond (eql (padded (slice (a .at) (a .end) (a .book .now))) (place (a .names .now) (a .base) (l .e - 1))) (At (l .e - 1)) (l .found))
 more c =
     let l = c .before .before .before .before .loop in
     let s = c .before .before .before .before .before .before .before .before .before .before in
     let a = s .args in
-    walk-more (a .names .now) (a .base) (a .count) (a .slots) (slice (a .at) (a .end) (a .book .now)) (s .pre .7) (l .e) (l .e - 1) (c .entry2 .result) (l .found) (omega (arith, c .before .before .before .loop-test .taken)) (l .inv) (c .entry2 .ensures)
+    walk-more (a .names .now) (a .base) (a .count) (a .slots) (slice (a .at) (a .end) (a .book .now)) (s .pre .7) (l .e) (l .e - 1) (c .cell2 .result) (l .found) (omega (arith, c .before .before .before .loop-test .taken)) (l .inv) (c .cell2 .ensures)
 
 loop-less : tie.Need-loop-less Inv-loop μ-loop
 loop-less c =
@@ -90,7 +90,7 @@ loop-again c =
     let l = c .before .before .before .before .loop in
     let a = c .before .before .before .before .before .before .before .before .before .before .args in
     let e = c .before .found-if .ensures ∙ ap (λ (b : Bool). cond b (At (l .e - 1)) (l .found)) (c .before .before .same-name .ensures) in
-    subst (Walk (a .names .now) (a .base) (a .count) (a .slots) (slice (a .at) (a .end) (a .book .now)) (c .entry2 .result)) (sym e) (more c .1)
+    subst (Walk (a .names .now) (a .base) (a .count) (a .slots) (slice (a .at) (a .end) (a .book .now)) (c .cell2 .result)) (sym e) (more c .1)
 
 returns : tie.Need-returns Inv-loop μ-loop
 returns c =
@@ -106,9 +106,9 @@ find-chained-spec =
     Inv-loop
     μ-loop
     hash-requires
-    rem-entry
-    add-entry
-    entry-requires
+    rem-cell
+    add-cell
+    cell-requires
     cast-e
     loop-holds
     sub-i
@@ -116,8 +116,8 @@ find-chained-spec =
     add-same-name
     same-name-requires
     found-if-requires
-    add-entry-2
-    entry-requires-2
+    add-cell-2
+    cell-requires-2
     cast-e-2
     loop-less
     loop-again

@@ -3,21 +3,18 @@ use native.Mathlib.Omega.{arith}
 use denote.Ref.{now}
 use borrow.Author.Needs.{needs}
 use Rattle.tables.specs.Layout.{cellCount}
-use Rattle.tables.proofs.Blank.{Filled, filled-none, filled-more, filled-all}
+use Rattle.tables.proofs.Cleared.{Filled, filled-none, filled-more, filled-all}
 use Rattle.tables.proofs.lent.clear_cells.Statement.{statement}
 use Rattle.tables.proofs.lent.clear_cells.Tie as tie
 
 abbrev Inv-loop : tie.InvT-loop
-Inv-loop cells₀ n i₀ cells i = Filled 0 cells₀ n cells i
+Inv-loop cells₀ i₀ cells i = Filled 0 cells₀ cellCount cells i
 
 abbrev μ-loop : tie.MeasureT-loop
-μ-loop cells₀ n i₀ cells i = n - i
-
-smaller-requires : tie.Need-smaller-requires Inv-loop μ-loop
-smaller-requires c κs = search needs
+μ-loop cells₀ i₀ cells i = cellCount - i
 
 loop-holds : tie.Need-loop-holds Inv-loop μ-loop
-loop-holds c = filled-none 0 (now (c .before .before .args .cells)) (c .smaller .result)
+loop-holds c = filled-none 0 (now (c .args .cells)) cellCount
 
 mul-cells : tie.Need-mul-cells Inv-loop μ-loop
 mul-cells c = omega arith
@@ -32,13 +29,13 @@ loop-less : tie.Need-loop-less Inv-loop μ-loop
 loop-less c = omega arith
 
 loop-again : tie.Need-loop-again Inv-loop μ-loop
-loop-again c = filled-more 0 (now (c .before .before .before .before .args .cells)) (c .before .loop .cells) (c .before .before .smaller .result) (c .before .loop .i) (c .before .loop .inv) (c .loop-test .taken) (omega arith)
+loop-again c = filled-more 0 (now (c .before .before .args .cells)) (c .before .loop .cells) cellCount (c .before .loop .i) (c .before .loop .inv) (omega arith) (omega arith)
 
 same-length : tie.Need-same-length Inv-loop μ-loop
 same-length c = omega arith
 
 returns : tie.Need-returns Inv-loop μ-loop
-returns c = filled-all 0 cellCount (now (c .before .before .before .before .args .cells)) (c .before .loop .cells) (c .before .loop .i) (rw (c .before .before .smaller .ensures) at (c .before .loop .inv)) (omega (arith, c .before .before .smaller .ensures))
+returns c = filled-all 0 cellCount (now (c .before .before .args .cells)) (c .before .loop .cells) (c .before .loop .i) (c .before .loop .inv) (omega arith)
 
 pub clear-cells-spec : {M : Type 1} → statement M
 clear-cells-spec =
@@ -46,7 +43,6 @@ clear-cells-spec =
     (tie.spec
     Inv-loop
     μ-loop
-    smaller-requires
     loop-holds
     mul-cells
     slice-write-cells

@@ -3,8 +3,8 @@ use denote.Ref.{now}
 use native.Mathlib.Omega.{arith}
 use lib.ListN.{List·getD-eq-default}
 use borrow.Author.Needs.{needs}
-use Rattle.compiler.proofs.number_at.Statement.{statement}
-use Rattle.compiler.proofs.number_at.Tie as tie
+use Rattle.base.proofs.cell.Statement.{statement}
+use Rattle.base.proofs.cell.Tie as tie
 
 mul-result : tie.Need-mul-result
 mul-result c = search needs
@@ -18,5 +18,5 @@ returns c = search needs
 returns-2 : tie.Need-returns-2
 returns-2 c = sym (List·getD-eq-default (now (c .before .args .list)) 0 (omega arith))
 
-pub number-at-spec : {M : Type 1} → statement M
-number-at-spec = tie.close (tie.spec mul-result shared-slice-read-result returns returns-2)
+pub cell-spec : {M : Type 1} → statement M
+cell-spec = tie.close (tie.spec mul-result shared-slice-read-result returns returns-2)
