@@ -3,3 +3,4 @@ pub mod Blank
 pub mod WellFormed
 pub mod Decode
 pub mod Sizes
+pub mod Beside
