@@ -16,12 +16,14 @@ use Rattle.base.proofs.Bools.{bool-cases, and-left, and-right, and-both}
 use Rattle.text.specs.Items.{isName, nameByte}
 use Rattle.text.specs.Spans.{Span}
 use Rattle.text.proofs.Spans.{span-join, span-split, span-whole, span-all, span-nothing, span-none, span-length}
+use Rattle.model.specs.Answers.{Answer, value, refusal}
 use Rattle.model.specs.Books.{Name, Line, link, type, lang, node, fact, shape, rule, Book, Pool, nodes, links, types, langs, shapes, poolNumber, builtIn, joins, newNames, collect, names}
 use Rattle.model.specs.Valid.{lineOk, admissibleFrom, admissible}
 use Rattle.model.proofs.Lines.{names-snoc, same-pool, forms-within, paths-within, items-within}
+use Rattle.model.proofs.Answers.{same-value, not-refused}
 use Rattle.grammar.specs.Writing.{nameOf, writeLine, renderFrom, render}
 use Rattle.grammar.specs.Valid.{lineDepth, reserved, wellNamed, newName, namesOk, validLine, validFrom, valid}
-use Rattle.grammar.specs.Reading.{Read, got, refused, begunAbove, lineAt, Outcome, accepted, turnedDown, follow, linesFrom, reading}
+use Rattle.grammar.specs.Reading.{Read, got, refused, begunAbove, lineAt, follow, linesFrom, reading}
 use Rattle.grammar.proofs.Leaves.{Pools, fresh-nothing}
 use Rattle.grammar.proofs.Args.{Fit}
 use Rattle.grammar.proofs.Lines.{line-sound, line-complete}
@@ -129,18 +131,12 @@ fit-of a S =
     record { forms = forms-within a e; paths = paths-within a e; items = items-within a e }
 
 -- ---- line after line
-accepted-book : {a b : Book} → accepted a ≡ accepted b → a ≡ b
-accepted-book e = cc
-
-pub never-accepted : {b : Book} {r k : ℕ} → accepted b ≡ turnedDown r k → ⊥
-never-accepted e = let z : _≡_ {A = ℕ} 0 1 = cc in omega arith
-
--- where an outcome comes from
-pub either : (t : Bool) (x y o : Outcome) → cond t x y ≡ o → ((t ≡ true) × (x ≡ o)) ⊎ ((t ≡ false) × (y ≡ o))
+-- where an answer comes from
+pub either : (t : Bool) (x y o : Answer Book) → cond t x y ≡ o → ((t ≡ true) × (x ≡ o)) ⊎ ((t ≡ false) × (y ≡ o))
 either true x y o e = inl (refl, e)
 either false x y o e = inr (refl, e)
 
-pub follows : (line : ℕ) (m : Read Line) (f : Line → ℕ → Outcome) (o : Outcome) → follow line m f ≡ o → ((r : ℕ) × (m ≡ refused r) × (turnedDown r line ≡ o)) ⊎ ((l : Line) × (next : ℕ) × (m ≡ got l next) × (f l next ≡ o))
+pub follows : (line : ℕ) (m : Read Line) (f : Line → ℕ → Answer Book) (o : Answer Book) → follow line m f ≡ o → ((r : ℕ) × (m ≡ refused r) × (refusal r line ≡ o)) ⊎ ((l : Line) × (next : ℕ) × (m ≡ got l next) × (f l next ≡ o))
 follows line (got l next) f o e = inr (l, next, refl, e)
 follows line (refused r) f o e = inl (r, refl, e)
 
@@ -149,9 +145,9 @@ module _ (s : List ℕ) where
   abbrev Rest : ℕ → Book → Book → Type 0
   Rest at a b = (c : Book) × (b ≡ a ++ c) × (validFrom a c ≡ true) × Span s at (length s) (renderFrom a c)
 
-  ended : (at : ℕ) (a b : Book) → at ≤ length s → length s ≤ at → accepted a ≡ accepted b → Rest at a b
+  ended : (at : ℕ) (a b : Book) → at ≤ length s → length s ≤ at → value a ≡ value b → Rest at a b
   unfolding validFrom renderFrom
-  ended at a b h k e = ([], sym (accepted-book e) ∙ sym (append-nil a), refl, subst (λ (n : ℕ). Span s at n []) (let z : at ≡ length s = omega arith in z) (span-nothing s at h))
+  ended at a b h k e = ([], sym (same-value e) ∙ sym (append-nil a), refl, subst (λ (n : ℕ). Span s at n []) (let z : at ≡ length s = omega arith in z) (span-nothing s at h))
 
   one-more : (at nx : ℕ) (a b : Book) (l : Line) → Span s at nx (writeLine a l ++ (10 ∷ [])) → validLine a l ≡ true → Rest nx (a ++ (l ∷ [])) b → Rest at a b
   unfolding validFrom renderFrom
@@ -165,20 +161,20 @@ module _ (s : List ℕ) where
   pub longer : (at nx : ℕ) (w : List ℕ) → Span s at nx (w ++ (10 ∷ [])) → at < nx
   longer at nx w p = omega (arith, span-length p, length-append w (10 ∷ []), p .from)
 
-  lines-sound : (fuel at line : ℕ) (a : Book) → Sane a → at ≤ length s → length s ≤ at + fuel → (b : Book) → linesFrom s fuel at line a ≡ accepted b → Rest at a b
+  lines-sound : (fuel at line : ℕ) (a : Book) → Sane a → at ≤ length s → length s ≤ at + fuel → (b : Book) → linesFrom s fuel at line a ≡ value b → Rest at a b
   unfolding linesFrom
   lines-sound zero at line a S h f b e = ended at a b h (omega arith) e
   lines-sound (suc fuel) at line a S h f b e = ⊎-elim
       (λ t. ⊎-elim
-      (λ q. absurd (never-accepted (sym (q .2))))
+      (λ q. absurd (not-refused (sym (q .2))))
       (λ q.
       let (l, nx, r, g) = q in
       let u = line-sound s a (pools-of a S) (fit-of a S) at h l nx r in
       let m = longer at nx (writeLine a l) (u .0) in
       one-more at nx a b l (u .0) (u .1) (lines-sound fuel nx (line + 1) (a ++ (l ∷ [])) (sane-more a l S (u .1)) (u .0 .within) (omega arith) b g))
-      (follows (line + 1) (lineAt s a at) (λ l next. linesFrom s fuel next (line + 1) (a ++ (l ∷ []))) (accepted b) (t .1)))
+      (follows (line + 1) (lineAt s a at) (λ l next. linesFrom s fuel next (line + 1) (a ++ (l ∷ []))) (value b) (t .1)))
       (λ t. ended at a b h (ltb-false at (length s) (t .0)) (t .1))
-      (either (ltb at (length s)) (follow (line + 1) (lineAt s a at) (λ l next. linesFrom s fuel next (line + 1) (a ++ (l ∷ [])))) (accepted a) (accepted b) e)
+      (either (ltb at (length s)) (follow (line + 1) (lineAt s a at) (λ l next. linesFrom s fuel next (line + 1) (a ++ (l ∷ [])))) (value a) (value b) e)
 
   -- each line has a byte at least
   few-lines : (a c : Book) → length c ≤ length (renderFrom a c)
@@ -198,64 +194,64 @@ module _ (s : List ℕ) where
       let m = longer at mid (writeLine a l) (sp .0) in
       let w = sp .0 .within in
       let ok = and-left (validLine a l) (validFrom (a ++ (l ∷ [])) c) v in
-      ap₂ (λ (t : Bool) (r : Read Line). cond t (follow (line + 1) r (λ l next. linesFrom s fuel next (line + 1) (a ++ (l ∷ [])))) (accepted a)) (lt-ltb at (length s) (omega arith)) (line-complete s a (pools-of a S) (fit-of a S) at mid l (sp .0) ok)
+      ap₂ (λ (t : Bool) (r : Read Line). cond t (follow (line + 1) r (λ l next. linesFrom s fuel next (line + 1) (a ++ (l ∷ [])))) (value a)) (lt-ltb at (length s) (omega arith)) (line-complete s a (pools-of a S) (fit-of a S) at mid l (sp .0) ok)
       ∙ lines-read c fuel rest mid nx (line + 1) (a ++ (l ∷ [])) (sane-more a l S ok) (omega arith) (and-right (validLine a l) (validFrom (a ++ (l ∷ [])) c) v) (sp .1)
       ∙ ap₂ (λ (n : ℕ) (b : Book). linesFrom s rest nx n b) (let z : line + 1 + length c ≡ line + suc (length c) = omega arith in z) (append-assoc a (l ∷ []) c)
 
-  lines-end : (fuel line : ℕ) (a : Book) → linesFrom s fuel (length s) line a ≡ accepted a
+  lines-end : (fuel line : ℕ) (a : Book) → linesFrom s fuel (length s) line a ≡ value a
   unfolding linesFrom
   lines-end zero line a = refl
-  lines-end (suc fuel) line a = ap (λ (t : Bool). cond t (follow (line + 1) (lineAt s a (length s)) (λ l next. linesFrom s fuel next (line + 1) (a ++ (l ∷ [])))) (accepted a)) (le-ltb (length s) (length s) (le-refl (length s)))
+  lines-end (suc fuel) line a = ap (λ (t : Bool). cond t (follow (line + 1) (lineAt s a (length s)) (λ l next. linesFrom s fuel next (line + 1) (a ++ (l ∷ [])))) (value a)) (le-ltb (length s) (length s) (le-refl (length s)))
 
-  lines-complete : (c : Book) (fuel at line : ℕ) (a : Book) → Sane a → length s ≤ at + fuel → validFrom a c ≡ true → Span s at (length s) (renderFrom a c) → linesFrom s fuel at line a ≡ accepted (a ++ c)
+  lines-complete : (c : Book) (fuel at line : ℕ) (a : Book) → Sane a → length s ≤ at + fuel → validFrom a c ≡ true → Span s at (length s) (renderFrom a c) → linesFrom s fuel at line a ≡ value (a ++ c)
   lines-complete c fuel at line a S f v p =
       lines-read c fuel (fuel - length c) at (length s) line a S (omega (arith, few-lines a c, span-length p, p .from)) v p ∙ lines-end (fuel - length c) (line + length c) (a ++ c)
 
-  lines-refused : (fuel at line r : ℕ) (a : Book) → 0 < fuel → at < length s → lineAt s a at ≡ refused r → linesFrom s fuel at line a ≡ turnedDown r (line + 1)
+  lines-refused : (fuel at line r : ℕ) (a : Book) → 0 < fuel → at < length s → lineAt s a at ≡ refused r → linesFrom s fuel at line a ≡ refusal r (line + 1)
   unfolding linesFrom
   lines-refused zero at line r a z h q = absurd (omega arith)
   lines-refused (suc fuel) at line r a z h q =
-      ap₂ (λ (t : Bool) (m : Read Line). cond t (follow (line + 1) m (λ l next. linesFrom s fuel next (line + 1) (a ++ (l ∷ [])))) (accepted a)) (lt-ltb at (length s) h) q
+      ap₂ (λ (t : Bool) (m : Read Line). cond t (follow (line + 1) m (λ l next. linesFrom s fuel next (line + 1) (a ++ (l ∷ [])))) (value a)) (lt-ltb at (length s) h) q
 
 -- ---- the theorems
 -- what is accepted is a valid book, written so
-pub reading-sound : (s : List ℕ) (b : Book) → reading s ≡ accepted b → (valid b ≡ true) × (render b ≡ s)
+pub reading-sound : (s : List ℕ) (b : Book) → reading s ≡ value b → (valid b ≡ true) × (render b ≡ s)
 unfolding reading valid render
 reading-sound s b e = ⊎-elim
-    (λ t. absurd (never-accepted (sym (t .1))))
+    (λ t. absurd (not-refused (sym (t .1))))
     (λ t.
     let (c, q, v, p) = lines-sound s (length s) 0 0 [] sane-start (omega arith) (omega arith) b (t .1) in
     let r : renderFrom [] b ≡ s = ap (renderFrom []) q ∙ sym (span-all p) in
     (and-both (validFrom [] b) (leb (length (renderFrom [] b)) 65536) (ap (validFrom []) q ∙ v) (le-leb (length (renderFrom [] b)) 65536 (let l : length s ≤ 65536 = ltb-false 65536 (length s) (t .0) in omega (arith, ap length r))), r))
-    (either (ltb 65536 (length s)) (turnedDown 1 0) (linesFrom s (length s) 0 0 []) (accepted b) e)
+    (either (ltb 65536 (length s)) (refusal 1 0) (linesFrom s (length s) 0 0 []) (value b) e)
 
 -- and a valid book is accepted as it is written
-pub reading-complete : (b : Book) → valid b ≡ true → reading (render b) ≡ accepted b
+pub reading-complete : (b : Book) → valid b ≡ true → reading (render b) ≡ value b
 unfolding reading valid render
 reading-complete b v =
     let s = renderFrom [] b in
-    ap (λ (t : Bool). cond t (turnedDown 1 0) (linesFrom (renderFrom [] b) (length (renderFrom [] b)) 0 0 [])) (le-ltb 65536 (length (renderFrom [] b)) (leb-true (length (renderFrom [] b)) 65536 (and-right (validFrom [] b) (leb (length (renderFrom [] b)) 65536) v)))
+    ap (λ (t : Bool). cond t (refusal 1 0) (linesFrom (renderFrom [] b) (length (renderFrom [] b)) 0 0 [])) (le-ltb 65536 (length (renderFrom [] b)) (leb-true (length (renderFrom [] b)) 65536 (and-right (validFrom [] b) (leb (length (renderFrom [] b)) 65536) v)))
     ∙ lines-complete (renderFrom [] b) b (length (renderFrom [] b)) 0 0 [] sane-start (omega arith) (and-left (validFrom [] b) (leb (length (renderFrom [] b)) 65536) v) (span-whole (renderFrom [] b))
 
 -- the reading accepts s as b exactly when b is valid and renders to s
-pub reading-iff : (s : List ℕ) (b : Book) → (reading s ≡ accepted b) ↔ ((valid b ≡ true) × (render b ≡ s))
+pub reading-iff : (s : List ℕ) (b : Book) → (reading s ≡ value b) ↔ ((valid b ≡ true) × (render b ≡ s))
 reading-iff s b = (reading-sound s b, λ p. ap reading (sym (p .1)) ∙ reading-complete b (p .0))
 
 -- so a text is read in one way only
 pub one-book : (a b : Book) → valid a ≡ true → valid b ≡ true → render a ≡ render b → a ≡ b
-one-book a b v w e = accepted-book (sym (reading-complete a v) ∙ ap reading e ∙ reading-complete b w)
+one-book a b v w e = same-value (sym (reading-complete a v) ∙ ap reading e ∙ reading-complete b w)
 
 -- and a refusal is given only where no valid book renders to s
-pub refused-only : (s : List ℕ) (k line : ℕ) → reading s ≡ turnedDown k line → (b : Book) → valid b ≡ true → render b ≡ s → ⊥
-refused-only s k line e b v r = never-accepted (sym (reading-complete b v) ∙ ap reading r ∙ e)
+pub refused-only : (s : List ℕ) (k line : ℕ) → reading s ≡ refusal k line → (b : Book) → valid b ≡ true → render b ≡ s → ⊥
+refused-only s k line e b v r = not-refused (sym (reading-complete b v) ∙ ap reading r ∙ e)
 
 -- after the lines of a valid book, the refusal of the next line is the text's
-pub refused-after : (s : List ℕ) (b : Book) (at r : ℕ) → validFrom [] b ≡ true → Span s 0 at (renderFrom [] b) → at < length s → length s ≤ 65536 → lineAt s b at ≡ refused r → reading s ≡ turnedDown r (suc (length b))
+pub refused-after : (s : List ℕ) (b : Book) (at r : ℕ) → validFrom [] b ≡ true → Span s 0 at (renderFrom [] b) → at < length s → length s ≤ 65536 → lineAt s b at ≡ refused r → reading s ≡ refusal r (suc (length b))
 unfolding reading
 refused-after s b at r v p i l q =
     let n = few-lines s [] b in
     let m = span-length p in
-    ap (λ (t : Bool). cond t (turnedDown 1 0) (linesFrom s (length s) 0 0 [])) (le-ltb 65536 (length s) l)
+    ap (λ (t : Bool). cond t (refusal 1 0) (linesFrom s (length s) 0 0 [])) (le-ltb 65536 (length s) l)
     ∙ lines-read s b (length s) (length s - length b) 0 at 0 [] sane-start (omega arith) v p
     ∙ lines-refused s (length s - length b) at (0 + length b) r b (omega arith) i q
-    ∙ ap (turnedDown r) (let z : 0 + length b + 1 ≡ suc (length b) = omega arith in z)
+    ∙ ap (refusal r) (let z : 0 + length b + 1 ≡ suc (length b) = omega arith in z)

@@ -20,6 +20,7 @@ use Rattle.text.proofs.Places.{index-nothing}
 use Rattle.text.specs.Spans.{Span}
 use Rattle.text.proofs.Spans.{span-split, span-head, span-length, span-whole}
 use Rattle.text.proofs.Words.{word-ends, word-item, span-ends, names-plain}
+use Rattle.model.specs.Answers.{refusal}
 use Rattle.model.specs.Graph.{iri}
 use Rattle.model.specs.Books.{Name, Line, node, Book, Pool, nodes, builtIn, joins, newNames, newTerms, newTriples, newShapes, newRules, collect, names, rules}
 use Rattle.model.specs.Sizes.{pathEntries, endEntries, formEntries, shapePaths, testItems, listItems, sumOver, formsIn, pathsIn, itemsIn}
@@ -27,14 +28,14 @@ use Rattle.model.specs.Valid.{capacity, hasRoom, isResource}
 use Rattle.grammar.specs.Writing.{spaced, bracket, writeNode, writeLine, renderFrom, render}
 use Rattle.grammar.specs.Valid.{reserved, wellNamed, newName, validFrom}
 use Rattle.grammar.specs.Syntax.{Slot, new, Args, LineCode, thingL, lineFamily}
-use Rattle.grammar.specs.Reading.{Read, got, refused, andThen, item, unknown, after, usedAt, newAt, subjectAt, literalTypeAt, kindAt, valueAt, lowAt, highAt, listAt, endAt, argAt, argsAt, closeAt, bodyAt, headed, bracketAt, linkAt, trueAt, within, readersAt, lineRoom, begunAbove, lineAt, turnedDown, linesFrom, reading}
+use Rattle.grammar.specs.Reading.{Read, got, refused, andThen, item, unknown, after, usedAt, newAt, subjectAt, literalTypeAt, kindAt, valueAt, lowAt, highAt, listAt, endAt, argAt, argsAt, closeAt, bodyAt, headed, bracketAt, linkAt, trueAt, within, readersAt, lineRoom, begunAbove, lineAt, linesFrom, reading}
 use Rattle.grammar.specs.Cases.{Case, edges}
 use Rattle.grammar.proofs.Leaves.{fresh-nothing, nothing-fresh}
 use Rattle.grammar.proofs.Rows.{line-placed}
 use Rattle.grammar.proofs.Books.{refused-after}
 
 -- ---- computed
-pub edges-hold : map (λ (c : Case). reading (c .text)) edges ≡ map (λ (c : Case). c .outcome) edges
+pub edges-hold : map (λ (c : Case). reading (c .text)) edges ≡ map (λ (c : Case). c .answer) edges
 unfolding reading linesFrom lineAt bracketAt bodyAt closeAt argsAt argAt endAt after readersAt within linkAt trueAt lineRoom begunAbove usedAt newAt subjectAt literalTypeAt kindAt valueAt lowAt highAt listAt wellNamed reserved isName allb nameByte itemEnd itemLen edge eql indexOf firstFrom names builtIn collect newNames joins newTerms newTriples newShapes newRules rules hasRoom capacity isResource formsIn pathsIn itemsIn sumOver pathEntries endEntries formEntries shapePaths testItems listItems numberOf positiveOf negativeOf boundOf isMag valueFrom digit
 edges-hold = refl
 
@@ -99,7 +100,7 @@ module _ (b : Book) (n : Name) where
       let i = word-ends (bytes "thing") (sp .0) refl e in
       (h .1, word-item (bytes "thing") (sp .0) refl e, ap (λ (j : ℕ). getD s j 0) i ∙ k .1, ap (λ (j : ℕ). slice (j + 1) (itemEnd s (j + 1)) s) i ∙ word-item n (u .0) (names-plain n w) (span-ends (u .1) refl))
 
-  pub node-1025 : validFrom [] b ≡ true → length (names nodes b) ≡ 1024 → newName b nodes n ≡ true → length (render b ++ oneMore) ≤ 65536 → reading (render b ++ oneMore) ≡ turnedDown 7 (suc (length b))
+  pub node-1025 : validFrom [] b ≡ true → length (names nodes b) ≡ 1024 → newName b nodes n ≡ true → length (render b ++ oneMore) ≤ 65536 → reading (render b ++ oneMore) ≡ refusal 7 (suc (length b))
   unfolding render newName wellNamed
   node-1025 v l w m =
       let s : List ℕ = renderFrom [] b ++ oneMore in

@@ -11,15 +11,17 @@ use borrow.Author.Tests.{ltb-true, ltb-false, lt-ltb}
 use Rattle.base.proofs.Bools.{and-left, and-right}
 use Rattle.text.specs.Spans.{Span}
 use Rattle.text.proofs.Spans.{span-join, span-split, span-none, span-nothing, span-whole}
+use Rattle.model.specs.Answers.{value, refusal}
 use Rattle.model.specs.Limits.{maxBytes}
 use Rattle.model.specs.Books.{Line, Book}
+use Rattle.model.proofs.Answers.{same-refusal, not-refused}
 use Rattle.grammar.specs.Writing.{writeLine, renderFrom, render}
 use Rattle.grammar.specs.Valid.{validLine, validFrom}
-use Rattle.grammar.specs.Reading.{got, refused, lineAt, accepted, turnedDown, follow, linesFrom, reading}
+use Rattle.grammar.specs.Reading.{got, refused, lineAt, follow, linesFrom, reading}
 use Rattle.grammar.specs.Grounds.{Grounded, NoneBegins, Agree, stop}
 use Rattle.grammar.proofs.Exact.{never-refused, got-value, got-next}
 use Rattle.grammar.proofs.Lines.{line-sound, line-complete}
-use Rattle.grammar.proofs.Books.{Sane, sane-start, sane-more, pools-of, fit-of, never-accepted, either, follows, longer}
+use Rattle.grammar.proofs.Books.{Sane, sane-start, sane-more, pools-of, fit-of, either, follows, longer}
 use Rattle.grammar.proofs.GroundsLocal.{agree-less, agree-inside, stop-past}
 use Rattle.grammar.proofs.Grounds.{ground-numbered}
 use Rattle.grammar.proofs.GroundsReaders.{line-settled}
@@ -31,10 +33,6 @@ render-snoc a [] l = ap (λ (c : Book). writeLine c l ++ (10 ∷ [])) (sym (appe
 render-snoc a (k ∷ b) l =
     ap (λ (w : List ℕ). writeLine a k ++ (10 ∷ w)) (render-snoc (a ++ (k ∷ [])) b l ∙ ap (λ (c : Book). renderFrom (a ++ (k ∷ [])) b ++ (writeLine c l ++ (10 ∷ []))) (append-assoc a (k ∷ []) b))
     ∙ sym (append-assoc (writeLine a k) (10 ∷ renderFrom (a ++ (k ∷ [])) b) (writeLine (a ++ (k ∷ b)) l ++ (10 ∷ [])))
-
--- what a refusal tells of the tests that led to it
-refusal-number : {q r j k : ℕ} → turnedDown q j ≡ turnedDown r k → (q ≡ r) × (j ≡ k)
-refusal-number e = (cc, cc)
 
 module _ (s : List ℕ) where
   -- from `at` on, after the book a: no text that agrees with s up to e goes on as valid lines
@@ -50,13 +48,13 @@ module _ (s : List ℕ) where
       let nx : ℕ = at + length (writeLine a l ++ (10 ∷ [])) in
       f t g l nx (line-complete t a (pools-of a S) (fit-of a S) at nx l (sp .0) (and-left (validLine a l) (validFrom (a ++ (l ∷ [])) c) v)) c (and-right (validLine a l) (validFrom (a ++ (l ∷ [])) c) v) (sp .1)
 
-  lines-grounds : (fuel at line : ℕ) (a : Book) → Sane a → at ≤ length s → Span s 0 at (renderFrom [] a) → length a ≡ line → (r k : ℕ) → linesFrom s fuel at line a ≡ turnedDown r k → (G : Grounded s r k) × (at ≤ G .place) × NoneFrom at a (stop s (G .place))
+  lines-grounds : (fuel at line : ℕ) (a : Book) → Sane a → at ≤ length s → Span s 0 at (renderFrom [] a) → length a ≡ line → (r k : ℕ) → linesFrom s fuel at line a ≡ refusal r k → (G : Grounded s r k) × (at ≤ G .place) × NoneFrom at a (stop s (G .place))
   unfolding linesFrom
-  lines-grounds zero at line a S h w n r k e = absurd (never-accepted e)
+  lines-grounds zero at line a S h w n r k e = absurd (not-refused e)
   lines-grounds (suc fuel) at line a S h w n r k e = ⊎-elim
       (λ t. ⊎-elim
       (λ u.
-      let (j, z) = refusal-number (u .2) in
+      let (j, z) = same-refusal (u .2) in
       let q : lineAt s a at ≡ refused r = u .1 ∙ ap refused j in
       let (p, g, lt, f) = line-settled s a at (pools-of a S) (fit-of a S) h .ground r q in
       let i = ground-numbered s a at g .from in (
@@ -78,29 +76,25 @@ module _ (s : List ℕ) where
             let x = sym (f t (agree-less (nx + 1) (stop s (G .place)) t s (omega arith) g)) ∙ q′ in
             none t g c (subst (λ (l : Line). validFrom (a ++ (l ∷ [])) c ≡ true) (sym (got-value x)) v′) (subst (λ (j : ℕ). Span t j (length t) (renderFrom (a ++ (l ∷ [])) c)) (sym (got-next x)) (subst (λ (l : Line). Span t nx′ (length t) (renderFrom (a ++ (l ∷ [])) c)) (sym (got-value x)) p))),
       ))
-      (follows (line + 1) (lineAt s a at) (λ l next. linesFrom s fuel next (line + 1) (a ++ (l ∷ []))) (turnedDown r k) (t .1)))
-      (λ t. absurd (never-accepted (t .1)))
-      (either (ltb at (length s)) (follow (line + 1) (lineAt s a at) (λ l next. linesFrom s fuel next (line + 1) (a ++ (l ∷ [])))) (accepted a) (turnedDown r k) e)
+      (follows (line + 1) (lineAt s a at) (λ l next. linesFrom s fuel next (line + 1) (a ++ (l ∷ []))) (refusal r k) (t .1)))
+      (λ t. absurd (not-refused (t .1)))
+      (either (ltb at (length s)) (follow (line + 1) (lineAt s a at) (λ l next. linesFrom s fuel next (line + 1) (a ++ (l ∷ [])))) (value a) (refusal r k) e)
 
 -- ---- the theorems
 -- a text is refused because it is too long, by 1 at line 0; or at an item of a line, with its ground
-pub refusal-ground : (s : List ℕ) (r k : ℕ) → reading s ≡ turnedDown r k → ((r ≡ 1) × (k ≡ 0) × (maxBytes < length s)) ⊎ ((length s ≤ maxBytes) × (G : Grounded s r k) × NoneBegins s (G .place))
+pub refusal-ground : (s : List ℕ) (r k : ℕ) → reading s ≡ refusal r k → ((r ≡ 1) × (k ≡ 0) × (maxBytes < length s)) ⊎ ((length s ≤ maxBytes) × (G : Grounded s r k) × NoneBegins s (G .place))
 unfolding reading render renderFrom
 refusal-ground s r k e = ⊎-elim
-    (λ t. let z = refusal-number (t .1) in inl (sym (z .0), sym (z .1), ltb-true 65536 (length s) (t .0)))
+    (λ t. let z = same-refusal (t .1) in inl (sym (z .0), sym (z .1), ltb-true 65536 (length s) (t .0)))
     (λ t.
     let (G, _, none) = lines-grounds s (length s) 0 0 [] sane-start (omega arith) (span-nothing s 0 (omega arith)) refl r k (t .1) in
     inr (ltb-false 65536 (length s) (t .0), G, λ b v g. none (renderFrom [] b) g b v (span-whole (renderFrom [] b))))
-    (either (ltb 65536 (length s)) (turnedDown 1 0) (linesFrom s (length s) 0 0 []) (turnedDown r k) e)
+    (either (ltb 65536 (length s)) (refusal 1 0) (linesFrom s (length s) 0 0 []) (refusal r k) e)
 
 -- 1 exactly when the text is longer than 65,536 bytes, and at line 0
-pub too-long : (s : List ℕ) (k : ℕ) → (reading s ≡ turnedDown 1 k) ↔ ((k ≡ 0) × (maxBytes < length s))
+pub too-long : (s : List ℕ) (k : ℕ) → (reading s ≡ refusal 1 k) ↔ ((k ≡ 0) × (maxBytes < length s))
 unfolding reading
 too-long s k = (
   λ e. ⊎-elim (λ t. (t .1, t .2)) (λ t. absurd (let G = t .1 in let z = ground-numbered s (G .above) (G .at) (G .ground) .least in let y : ⊥ = omega arith in y)) (refusal-ground s 1 k e),
-  λ p. ap (λ (b : Bool). cond b (turnedDown 1 0) (linesFrom s (length s) 0 0 [])) (lt-ltb 65536 (length s) (p .1)) ∙ ap (turnedDown 1) (sym (p .0)),
+  λ p. ap (λ (b : Bool). cond b (refusal 1 0) (linesFrom s (length s) 0 0 [])) (lt-ltb 65536 (length s) (p .1)) ∙ ap (refusal 1) (sym (p .0)),
 )
-
--- every other refusal is 2 to 7
-pub other-refusals : (s : List ℕ) (r k : ℕ) → reading s ≡ turnedDown r k → (r ≡ 1 → ⊥) → (2 ≤ r) × (r ≤ 7)
-other-refusals s r k e n = ⊎-elim (λ t. absurd (n (t .0))) (λ t. let G = t .1 in let z = ground-numbered s (G .above) (G .at) (G .ground) in (z .least, z .greatest)) (refusal-ground s r k e)

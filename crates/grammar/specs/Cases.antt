@@ -4,11 +4,11 @@ use Prim.Native.String.{String}
 use mathlib.Core.List.{List, [], _∷_, _++_, map}
 use lib.IntN.{pos, negsuc}
 use Rattle.base.specs.Bytes.{bytes}
+use Rattle.model.specs.Answers.{Answer, value, refusal}
 use Rattle.model.specs.Graph.{iri, numeric}
 use Rattle.model.specs.Paths.{Path, predicate, inverse}
 use Rattle.model.specs.Shapes.{Shape, top, neg, uniqueLang}
 use Rattle.model.specs.Books.{Book, type, node, shape, rules, listOf}
-use Rattle.grammar.specs.Reading.{Outcome, accepted, turnedDown}
 
 -- lines, each ended by LF
 abbrev pub textOf : List String → List ℕ
@@ -36,13 +36,13 @@ textB =
 -- ---- edges
 pub record Case : Type 0 where
   pub text : List ℕ
-  pub outcome : Outcome
+  pub answer : Answer Book
 
 abbrev pub reads : List String → Book → Case
-reads ls b = record { text = textOf ls; outcome = accepted b }
+reads ls b = record { text = textOf ls; answer = value b }
 
 abbrev pub gives : List String → ℕ → ℕ → Case
-gives ls r line = record { text = textOf ls; outcome = turnedDown r line }
+gives ls r line = record { text = textOf ls; answer = refusal r line }
 
 -- n times `not` before `true`, and `inv` before the link `a`
 abbrev pub nots : ℕ → List ℕ
@@ -78,10 +78,10 @@ edges =
     ∷ gives ("(link mount)" ∷ "(thing left)" ∷ "(fact left mount h999)" ∷ []) 5 3
     ∷ gives ("(thing left)" ∷ "(thing left)" ∷ []) 6 2
     -- 32 brackets open together, and 33
-    ∷ record { text = shapeLine (nots 31); outcome = accepted (shape (bytes "x") (negations 31) ∷ []) }
-    ∷ record { text = shapeLine (nots 32); outcome = turnedDown 4 1 }
-    ∷ record { text = shapeLine (bytes "(onelang " ++ (invs 30 ++ bytes ")")); outcome = accepted (shape (bytes "x") (uniqueLang (inverses 30)) ∷ []) }
-    ∷ record { text = shapeLine (bytes "(onelang " ++ (invs 31 ++ bytes ")")); outcome = turnedDown 4 1 }
+    ∷ record { text = shapeLine (nots 31); answer = value (shape (bytes "x") (negations 31) ∷ []) }
+    ∷ record { text = shapeLine (nots 32); answer = refusal 4 1 }
+    ∷ record { text = shapeLine (bytes "(onelang " ++ (invs 30 ++ bytes ")")); answer = value (shape (bytes "x") (uniqueLang (inverses 30)) ∷ []) }
+    ∷ record { text = shapeLine (bytes "(onelang " ++ (invs 31 ++ bytes ")")); answer = refusal 4 1 }
     ∷ []
 
 -- ---- the rig of docs/BOOK.md: its nodes 1 and 2 are left and right
@@ -120,6 +120,6 @@ rig =
     ∷ [])
 
 -- the rules' lists of what was read
-abbrev pub listsOf : Outcome → List (List ℕ)
-listsOf (accepted b) = map (listOf b) (rules b)
-listsOf (turnedDown r line) = []
+abbrev pub listsOf : Answer Book → List (List ℕ)
+listsOf (value b) = map (listOf b) (rules b)
+listsOf (refusal r line) = []

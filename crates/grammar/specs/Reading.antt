@@ -14,6 +14,7 @@ use Rattle.text.specs.declared.Found.{Found}
 use Rattle.text.specs.declared.Number.{Number}
 use Rattle.text.specs.declared.Bound.{Bound}
 use Rattle.model.specs.Limits.{maxBytes, maxRules, maxFacts, maxForms, maxPaths, maxItems}
+use Rattle.model.specs.Answers.{Answer, refusal}
 use Rattle.model.specs.Graph.{iri, langString}
 use Rattle.model.specs.Paths.{Path, predicate, End, self, along}
 use Rattle.model.specs.Shapes.{Kind, anIri, aBlank, aLiteral, Upper, atMost, unbounded, Shape, top}
@@ -218,25 +219,20 @@ module _ (s : List ℕ) (above : Book) where
   unfoldable pub lineAt : ℕ → Read Line
   lineAt at = andThen (bracketAt lineFamily (readersAt 31) false false lineRoom (refused 2) (begunAbove above) at) (λ l next. cond (eqb (getD s next 0) 10) (got l (next + 1)) (refused 2))
 
--- a book, or the refusal's number and line
-pub data Outcome : Type 0 where
-  accepted : Book → Outcome
-  turnedDown : ℕ → ℕ → Outcome
-
 -- a line was read, and what follows it; or the refusal at that line
-abbrev pub follow : ℕ → Read Line → (Line → ℕ → Outcome) → Outcome
+abbrev pub follow : ℕ → Read Line → (Line → ℕ → Answer Book) → Answer Book
 follow line (got l next) k = k l next
-follow line (refused r) k = turnedDown r line
+follow line (refused r) k = refusal r line
 
 module _ (s : List ℕ) where
   -- the lines from a position on, after the book above, of which there are line; at most fuel of them
-  unfoldable pub linesFrom : ℕ → ℕ → ℕ → Book → Outcome
-  linesFrom zero at line above = accepted above
+  unfoldable pub linesFrom : ℕ → ℕ → ℕ → Book → Answer Book
+  linesFrom zero at line above = Answer.value above
   linesFrom (suc fuel) at line above =
       cond (ltb at (length s))
       (follow (line + 1) (lineAt s above at) (λ l next. linesFrom fuel next (line + 1) (above ++ (l ∷ []))))
-      (accepted above)
+      (Answer.value above)
 
 -- each line has at least a byte, so a text has no more lines than bytes
-unfoldable pub reading : List ℕ → Outcome
-reading s = cond (ltb maxBytes (length s)) (turnedDown 1 0) (linesFrom s (length s) 0 0 [])
+unfoldable pub reading : List ℕ → Answer Book
+reading s = cond (ltb maxBytes (length s)) (refusal 1 0) (linesFrom s (length s) 0 0 [])

@@ -4,16 +4,15 @@ use model::MAX_NODES;
 use model::Refusal;
 use nodeset::next_member;
 use plan::PLAN_CELLS;
-use plancheck::plan_well_formed;
+use plancheck::both_well_formed;
 use plancheck::reads::rule_step;
 use runner::WORK_WORDS;
-use tablecheck::well_formed;
 use tables::layout::CELLS;
 use tables::lent::enough;
 use tables::reads::node_count;
 use tables::reads::rule_count;
 ghost use mathlib.Core.Path.{_≡_};
-ghost use mathlib.Core.Bool.{true, _&&_};
+ghost use mathlib.Core.Bool.{true};
 ghost use Prim.Native.Nat.{_+_, _*_, _<_, _≤_};
 ghost use lib.ListN.{length};
 ghost use Rattle.base.specs.Bounded.{members};
@@ -24,7 +23,7 @@ ghost use Rattle.plan.specs.Layout.{ruleStepAt};
 ghost use Rattle.plan.specs.WellFormed.{planWellFormed};
 ghost use Rattle.runner.specs.Run.{workCount};
 ghost use Rattle.lists.specs.Rows.{listCount, lengthCount, over, listIn, withRows, withLengths};
-ghost use Rattle.lists.specs.Answers.{saidOf, long, listSaid, rowAfter};
+ghost use Rattle.lists.specs.Answers.{answerOf, listLong, listAnswer, rowAfter};
 
 // How long the lists and their lengths must be: a row of 1,024 places and a length for each of 32 rules.
 pub const LIST_PLACES: usize = 32768;
@@ -87,17 +86,10 @@ fn long_enough(
     work: &[u64],
     row: &[u16],
 ) -> bool
-    ensures { λ r. ⌜ r ≡ long (now (names .entry)) (now (cells .entry)) (now (values .entry)) (now (plan .entry)) (now (work .entry)) (now (row .entry)) ⌝ }
+    ensures { λ r. ⌜ r ≡ listLong (now (names .entry)) (now (cells .entry)) (now (values .entry)) (now (plan .entry)) (now (work .entry)) (now (row .entry)) ⌝ }
 {
     enough(names, cells, values)
         & ((PLAN_CELLS <= plan.len()) & ((WORK_WORDS <= work.len()) & (MAX_NODES <= row.len())))
-}
-
-// Refusal 9 is for tables and a plan of which this is false.
-fn both_well_formed(cells: &[u16], plan: &[u16]) -> bool
-    ensures { λ r. ⌜ r ≡ (wellFormed (now (cells .entry)) && planWellFormed (now (cells .entry)) (now (plan .entry))) ⌝ }
-{
-    well_formed(cells) & plan_well_formed(cells, plan)
 }
 
 // The operation: the list of one rule, at the front of a lent row; what lies past the list stays. Refused: a slice too short,
@@ -111,7 +103,7 @@ pub fn list(
     rule: usize,
     row: &mut [u16],
 ) -> Listed
-    ensures { λ r. ⌜ saidOf r ≡ listSaid (now (names .entry)) (now (cells .entry)) (now (values .entry)) (now (plan .entry)) (now (work .entry)) rule (now (row .entry)) ⌝ }
+    ensures { λ r. ⌜ answerOf r ≡ listAnswer (now (names .entry)) (now (cells .entry)) (now (values .entry)) (now (plan .entry)) (now (work .entry)) rule (now (row .entry)) ⌝ }
     ensures { λ _. ⌜ now (row .exit) ≡ rowAfter (now (names .entry)) (now (cells .entry)) (now (values .entry)) (now (plan .entry)) (now (work .entry)) rule (now (row .entry)) ⌝ }
 {
     if !long_enough(names, cells, values, plan, work, &row[..]) {

@@ -17,20 +17,22 @@ use runner::Ran;
 use runner::run;
 use validation::Validated;
 use validation::validate;
-use verdict::Answer;
+use verdict::Judged;
 use verdict::verdict;
 ghost use mathlib.Core.Path.{_≡_};
+ghost use mathlib.Core.Bool.{false};
 ghost use Rattle.model.specs.Refusals.{codeOf, lineOf};
-ghost use Rattle.reader.specs.Answers.{readAnswer, namesOf, cellsOf, valuesOf};
-ghost use Rattle.verdict.specs.Answers.{judged, tallied};
+ghost use Rattle.model.specs.Answers.{refusalNumber, refusalLine, valueOr};
+ghost use Rattle.reader.specs.Answers.{noCounts, readAnswer, namesOf, cellsOf, valuesOf};
+ghost use Rattle.verdict.specs.Answers.{verdictAnswer, tallied};
 ghost use Rattle.compiler.specs.Answers.{compileAnswer, planAfter};
-ghost use Rattle.runner.specs.Run.{runSaid, workAfter};
-ghost use Rattle.lists.specs.Answers.{listSaid, rowAfter};
+ghost use Rattle.runner.specs.Run.{runAnswer, workAfter};
+ghost use Rattle.lists.specs.Answers.{listAnswer, rowAfter};
 ghost use Rattle.validation.specs.Claim.{Demand3};
 ghost use Rattle.validation.specs.Lent.{lent};
-ghost use Rattle.validation.specs.Whole.{said, after};
-ghost use Rattle.report.specs.Answers.{partSaid, partAfter};
-ghost use Rattle.melivanoup.specs.Numbers.{verdictNumber, verdictConforms, runNumber, wholeNumber, wholeLine, wholeSteps, saidBy};
+ghost use Rattle.validation.specs.Whole.{validateAnswer, after};
+ghost use Rattle.report.specs.Answers.{partAnswer, partAfter};
+ghost use Rattle.melivanoup.specs.Numbers.{oneIf, answerBy};
 
 // The number of a refusal.
 fn number(r: Refusal) -> u32
@@ -62,11 +64,11 @@ pub extern "C" fn melivanoup_read(
     facts: &mut usize,
     rules: &mut usize,
 ) -> u32
-    ensures { λ r. ⌜ r ≡ readAnswer (now (book .entry)) (now (names .entry)) (now (cells .entry)) (now (values .entry)) .refusal ⌝ }
-    ensures { λ _. ⌜ now (line .exit) ≡ readAnswer (now (book .entry)) (now (names .entry)) (now (cells .entry)) (now (values .entry)) .line ⌝ }
-    ensures { λ _. ⌜ now (nodes .exit) ≡ readAnswer (now (book .entry)) (now (names .entry)) (now (cells .entry)) (now (values .entry)) .counts .nodes ⌝ }
-    ensures { λ _. ⌜ now (facts .exit) ≡ readAnswer (now (book .entry)) (now (names .entry)) (now (cells .entry)) (now (values .entry)) .counts .facts ⌝ }
-    ensures { λ _. ⌜ now (rules .exit) ≡ readAnswer (now (book .entry)) (now (names .entry)) (now (cells .entry)) (now (values .entry)) .counts .rules ⌝ }
+    ensures { λ r. ⌜ r ≡ refusalNumber (readAnswer (now (book .entry)) (now (names .entry)) (now (cells .entry)) (now (values .entry))) ⌝ }
+    ensures { λ _. ⌜ now (line .exit) ≡ refusalLine (readAnswer (now (book .entry)) (now (names .entry)) (now (cells .entry)) (now (values .entry))) ⌝ }
+    ensures { λ _. ⌜ now (nodes .exit) ≡ valueOr noCounts (readAnswer (now (book .entry)) (now (names .entry)) (now (cells .entry)) (now (values .entry))) .nodes ⌝ }
+    ensures { λ _. ⌜ now (facts .exit) ≡ valueOr noCounts (readAnswer (now (book .entry)) (now (names .entry)) (now (cells .entry)) (now (values .entry))) .facts ⌝ }
+    ensures { λ _. ⌜ now (rules .exit) ≡ valueOr noCounts (readAnswer (now (book .entry)) (now (names .entry)) (now (cells .entry)) (now (values .entry))) .rules ⌝ }
     ensures { λ _. ⌜ now (names .exit) ≡ namesOf (now (book .entry)) (now (names .entry)) (now (cells .entry)) (now (values .entry)) ⌝ }
     ensures { λ _. ⌜ now (cells .exit) ≡ cellsOf (now (book .entry)) (now (names .entry)) (now (cells .entry)) (now (values .entry)) ⌝ }
     ensures { λ _. ⌜ now (values .exit) ≡ valuesOf (now (book .entry)) (now (names .entry)) (now (cells .entry)) (now (values .entry)) ⌝ }
@@ -99,23 +101,23 @@ pub extern "C" fn melivanoup_verdict(
     conforms: &mut u32,
     tally: &mut u32,
 ) -> u32
-    ensures { λ r. ⌜ r ≡ verdictNumber (judged (now (names .entry)) (now (cells .entry)) (now (values .entry)) node shape) ⌝ }
-    ensures { λ _. ⌜ now (conforms .exit) ≡ verdictConforms (judged (now (names .entry)) (now (cells .entry)) (now (values .entry)) node shape) ⌝ }
-    ensures { λ _. ⌜ now (tally .exit) ≡ tallied (judged (now (names .entry)) (now (cells .entry)) (now (values .entry)) node shape) (now (tally .entry)) ⌝ }
+    ensures { λ r. ⌜ r ≡ refusalNumber (verdictAnswer (now (names .entry)) (now (cells .entry)) (now (values .entry)) node shape) ⌝ }
+    ensures { λ _. ⌜ now (conforms .exit) ≡ oneIf (valueOr false (verdictAnswer (now (names .entry)) (now (cells .entry)) (now (values .entry)) node shape)) ⌝ }
+    ensures { λ _. ⌜ now (tally .exit) ≡ tallied (verdictAnswer (now (names .entry)) (now (cells .entry)) (now (values .entry)) node shape) (now (tally .entry)) ⌝ }
 {
     let outcome = verdict(names, cells, values, node, shape, *tally);
     *tally = outcome.tally;
     let answer = outcome.answer;
     match answer {
-        Answer::Yes => {
+        Judged::Yes => {
             *conforms = 1;
             0
         }
-        Answer::No => {
+        Judged::No => {
             *conforms = 0;
             0
         }
-        Answer::Refused(r) => {
+        Judged::Refused(r) => {
             *conforms = 0;
             number(r)
         }
@@ -131,13 +133,13 @@ pub extern "C" fn melivanoup_compile(
     plan: &mut [u16],
     steps: &mut usize,
 ) -> u32
-    ensures { λ r. ⌜ r ≡ compileAnswer (now (names .entry)) (now (cells .entry)) (now (values .entry)) (now (plan .entry)) .refusal ⌝ }
-    ensures { λ _. ⌜ now (steps .exit) ≡ compileAnswer (now (names .entry)) (now (cells .entry)) (now (values .entry)) (now (plan .entry)) .steps ⌝ }
+    ensures { λ r. ⌜ r ≡ refusalNumber (compileAnswer (now (names .entry)) (now (cells .entry)) (now (values .entry)) (now (plan .entry))) ⌝ }
+    ensures { λ _. ⌜ now (steps .exit) ≡ valueOr 0 (compileAnswer (now (names .entry)) (now (cells .entry)) (now (values .entry)) (now (plan .entry))) ⌝ }
     ensures { λ _. ⌜ now (plan .exit) ≡ planAfter (now (names .entry)) (now (cells .entry)) (now (values .entry)) (now (plan .entry)) ⌝ }
 {
     match compile(names, cells, values, plan) {
-        Compiled::Steps(n) => {
-            *steps = n;
+        Compiled::Steps(count) => {
+            *steps = count;
             0
         }
         Compiled::Refused(r) => {
@@ -156,7 +158,7 @@ pub extern "C" fn melivanoup_run(
     plan: &[u16],
     work: &mut [u64],
 ) -> u32
-    ensures { λ r. ⌜ r ≡ runNumber (runSaid (now (names .entry)) (now (cells .entry)) (now (values .entry)) (now (plan .entry)) (now (work .entry))) ⌝ }
+    ensures { λ r. ⌜ r ≡ refusalNumber (runAnswer (now (names .entry)) (now (cells .entry)) (now (values .entry)) (now (plan .entry)) (now (work .entry))) ⌝ }
     ensures { λ _. ⌜ now (work .exit) ≡ workAfter (now (names .entry)) (now (cells .entry)) (now (values .entry)) (now (plan .entry)) (now (work .entry)) ⌝ }
 {
     match run(names, cells, values, plan, work) {
@@ -177,8 +179,8 @@ pub extern "C" fn melivanoup_list(
     row: &mut [u16],
     nodes: &mut usize,
 ) -> u32
-    ensures { λ r. ⌜ r ≡ listSaid (now (names .entry)) (now (cells .entry)) (now (values .entry)) (now (plan .entry)) (now (work .entry)) rule (now (row .entry)) .refusal ⌝ }
-    ensures { λ _. ⌜ now (nodes .exit) ≡ listSaid (now (names .entry)) (now (cells .entry)) (now (values .entry)) (now (plan .entry)) (now (work .entry)) rule (now (row .entry)) .nodes ⌝ }
+    ensures { λ r. ⌜ r ≡ refusalNumber (listAnswer (now (names .entry)) (now (cells .entry)) (now (values .entry)) (now (plan .entry)) (now (work .entry)) rule (now (row .entry))) ⌝ }
+    ensures { λ _. ⌜ now (nodes .exit) ≡ valueOr 0 (listAnswer (now (names .entry)) (now (cells .entry)) (now (values .entry)) (now (plan .entry)) (now (work .entry)) rule (now (row .entry))) ⌝ }
     ensures { λ _. ⌜ now (row .exit) ≡ rowAfter (now (names .entry)) (now (cells .entry)) (now (values .entry)) (now (plan .entry)) (now (work .entry)) rule (now (row .entry)) ⌝ }
 {
     match list(names, cells, values, plan, work, rule, row) {
@@ -207,10 +209,10 @@ pub extern "C" fn melivanoup_validate(
     line: &mut usize,
     steps: &mut usize,
 ) -> u32
-    ensures { λ r. ⌜ Demand3 (now (book .entry)) (lent (now (names .entry)) (now (cells .entry)) (now (values .entry)) (now (plan .entry)) (now (work .entry)) (now (lists .entry)) (now (lengths .entry))) (saidBy r (now (line .exit)) (now (steps .exit))) (lent (now (names .exit)) (now (cells .exit)) (now (values .exit)) (now (plan .exit)) (now (work .exit)) (now (lists .exit)) (now (lengths .exit))) ⌝ }
-    ensures { λ r. ⌜ r ≡ wholeNumber (said (now (book .entry)) (lent (now (names .entry)) (now (cells .entry)) (now (values .entry)) (now (plan .entry)) (now (work .entry)) (now (lists .entry)) (now (lengths .entry)))) ⌝ }
-    ensures { λ _. ⌜ now (line .exit) ≡ wholeLine (said (now (book .entry)) (lent (now (names .entry)) (now (cells .entry)) (now (values .entry)) (now (plan .entry)) (now (work .entry)) (now (lists .entry)) (now (lengths .entry)))) ⌝ }
-    ensures { λ _. ⌜ now (steps .exit) ≡ wholeSteps (said (now (book .entry)) (lent (now (names .entry)) (now (cells .entry)) (now (values .entry)) (now (plan .entry)) (now (work .entry)) (now (lists .entry)) (now (lengths .entry)))) ⌝ }
+    ensures { λ r. ⌜ Demand3 (now (book .entry)) (lent (now (names .entry)) (now (cells .entry)) (now (values .entry)) (now (plan .entry)) (now (work .entry)) (now (lists .entry)) (now (lengths .entry))) (answerBy r (now (line .exit)) (now (steps .exit))) (lent (now (names .exit)) (now (cells .exit)) (now (values .exit)) (now (plan .exit)) (now (work .exit)) (now (lists .exit)) (now (lengths .exit))) ⌝ }
+    ensures { λ r. ⌜ r ≡ refusalNumber (validateAnswer (now (book .entry)) (lent (now (names .entry)) (now (cells .entry)) (now (values .entry)) (now (plan .entry)) (now (work .entry)) (now (lists .entry)) (now (lengths .entry)))) ⌝ }
+    ensures { λ _. ⌜ now (line .exit) ≡ refusalLine (validateAnswer (now (book .entry)) (lent (now (names .entry)) (now (cells .entry)) (now (values .entry)) (now (plan .entry)) (now (work .entry)) (now (lists .entry)) (now (lengths .entry)))) ⌝ }
+    ensures { λ _. ⌜ now (steps .exit) ≡ valueOr 0 (validateAnswer (now (book .entry)) (lent (now (names .entry)) (now (cells .entry)) (now (values .entry)) (now (plan .entry)) (now (work .entry)) (now (lists .entry)) (now (lengths .entry)))) ⌝ }
     ensures { λ _. ⌜ lent (now (names .exit)) (now (cells .exit)) (now (values .exit)) (now (plan .exit)) (now (work .exit)) (now (lists .exit)) (now (lengths .exit)) ≡ after (now (book .entry)) (lent (now (names .entry)) (now (cells .entry)) (now (values .entry)) (now (plan .entry)) (now (work .entry)) (now (lists .entry)) (now (lengths .entry))) ⌝ }
 {
     match validate(book, names, cells, values, plan, work, lists, lengths) {
@@ -238,8 +240,8 @@ pub extern "C" fn melivanoup_report(
     page: &mut [u8],
     bytes: &mut usize,
 ) -> u32
-    ensures { λ r. ⌜ r ≡ partSaid (now (names .entry)) (now (cells .entry)) (now (values .entry)) (now (lists .entry)) (now (lengths .entry)) part (now (page .entry)) .refusal ⌝ }
-    ensures { λ _. ⌜ now (bytes .exit) ≡ partSaid (now (names .entry)) (now (cells .entry)) (now (values .entry)) (now (lists .entry)) (now (lengths .entry)) part (now (page .entry)) .bytes ⌝ }
+    ensures { λ r. ⌜ r ≡ refusalNumber (partAnswer (now (names .entry)) (now (cells .entry)) (now (values .entry)) (now (lists .entry)) (now (lengths .entry)) part (now (page .entry))) ⌝ }
+    ensures { λ _. ⌜ now (bytes .exit) ≡ valueOr 0 (partAnswer (now (names .entry)) (now (cells .entry)) (now (values .entry)) (now (lists .entry)) (now (lengths .entry)) part (now (page .entry))) ⌝ }
     ensures { λ _. ⌜ now (page .exit) ≡ partAfter (now (names .entry)) (now (cells .entry)) (now (values .entry)) (now (lists .entry)) (now (lengths .entry)) part (now (page .entry)) ⌝ }
 {
     match report_part(names, cells, values, lists, lengths, part, page) {

@@ -1,5 +1,6 @@
 pub mod Limits
 pub mod Refusals
+pub mod Answers
 pub mod Graph
 pub mod Paths
 pub mod Shapes

@@ -1,5 +1,6 @@
 // Refusal 9 on plans: whether a lent plan is well formed, for the tables that it is to be run on. Typed reads of a plan (reads).
-// Operations: plan_well_formed; it takes any content of any length, and looks at 512 steps and 65,535 rules at the most.
+// Operations: plan_well_formed; it takes any content of any length, and looks at 512 steps and 65,535 rules at the most;
+// both_well_formed, with the tables as well.
 pub mod reads;
 
 use crate::reads::rule_step;
@@ -9,6 +10,7 @@ use crate::reads::step_first;
 use crate::reads::step_fourth;
 use crate::reads::step_second;
 use crate::reads::step_third;
+use tablecheck::well_formed;
 use tables::layout::NO_NUMBER;
 use tables::reads::form_code;
 use tables::reads::form_count;
@@ -24,6 +26,7 @@ ghost use Rattle.plan.specs.Steps.{Step};
 ghost use Rattle.plan.specs.Layout.{stepAt};
 ghost use Rattle.plan.specs.WellFormed.{testOk, closedOk, stepOk, planWellFormed};
 ghost use Rattle.plancheck.specs.Parts.{partCount, partOk};
+ghost use Rattle.plancheck.specs.Both.{bothWellFormed};
 
 // Form entry e is there, and is a test.
 fn test_ok(cells: &[u16], e: usize) -> bool
@@ -121,4 +124,11 @@ pub fn plan_well_formed(cells: &[u16], plan: &[u16]) -> bool
         return false;
     }
     all_ok(cells, plan, Part::Steps) & all_ok(cells, plan, Part::Rules)
+}
+
+// Refusal 9 is for tables and a plan of which this is false.
+pub fn both_well_formed(cells: &[u16], plan: &[u16]) -> bool
+    ensures { λ r. ⌜ r ≡ bothWellFormed (now (cells .entry)) (now (plan .entry)) ⌝ }
+{
+    well_formed(cells) & plan_well_formed(cells, plan)
 }

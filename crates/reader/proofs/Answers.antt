@@ -4,19 +4,21 @@ use mathlib.Core.Path.{_≡_}
 use mathlib.Core.List.{List}
 use mathlib.Core.Bool.{true, false}
 use lib.IntN.{ℤ}
+use Rattle.model.specs.Answers.{Answer, refusal, mapValue}
 use Rattle.tables.specs.Sizes.{longEnough}
 use Rattle.grammar.specs.Reading.{reading}
-use Rattle.reader.specs.Answers.{Answer, refused, answered, namesLeft, cellsLeft, valuesLeft, readAnswer, namesOf, cellsOf, valuesOf}
+use Rattle.itemreader.specs.declared.Counts.{Counts}
+use Rattle.reader.specs.Answers.{countsIn, namesLeft, cellsLeft, valuesLeft, readAnswer, namesOf, cellsOf, valuesOf}
 
 module _ (s ns cs : List ℕ) (vs : List ℤ) where
   -- x: the answer, then each table afterwards
-  abbrev pub Right : Answer → List ℕ → List ℕ → List ℤ → Type 0
-  Right x ns′ cs′ vs′ = (x ≡ readAnswer s ns cs vs) × ((ns′ ≡ namesOf s ns cs vs) × ((cs′ ≡ cellsOf s ns cs vs) × (vs′ ≡ valuesOf s ns cs vs)))
+  abbrev pub Answered : Answer Counts → List ℕ → List ℕ → List ℤ → Type 0
+  Answered x ns′ cs′ vs′ = (x ≡ readAnswer s ns cs vs) × ((ns′ ≡ namesOf s ns cs vs) × ((cs′ ≡ cellsOf s ns cs vs) × (vs′ ≡ valuesOf s ns cs vs)))
 
-  pub right-short : longEnough ns cs vs ≡ false → Right (refused 8 0) ns cs vs
+  pub answered-short : longEnough ns cs vs ≡ false → Answered (refusal 8 0) ns cs vs
   unfolding readAnswer namesOf cellsOf valuesOf
-  right-short e = (rw e, (rw e, (rw e, rw e)))
+  answered-short e = (rw e, (rw e, (rw e, rw e)))
 
-  pub right-long : longEnough ns cs vs ≡ true → (x : Answer) (ns′ cs′ : List ℕ) (vs′ : List ℤ) → x ≡ answered (reading s) → ns′ ≡ namesLeft (reading s) ns → cs′ ≡ cellsLeft (reading s) cs → vs′ ≡ valuesLeft (reading s) vs → Right x ns′ cs′ vs′
+  pub answered-long : longEnough ns cs vs ≡ true → (x : Answer Counts) (ns′ cs′ : List ℕ) (vs′ : List ℤ) → x ≡ mapValue countsIn (reading s) → ns′ ≡ namesLeft (reading s) ns → cs′ ≡ cellsLeft (reading s) cs → vs′ ≡ valuesLeft (reading s) vs → Answered x ns′ cs′ vs′
   unfolding readAnswer namesOf cellsOf valuesOf
-  right-long e x ns′ cs′ vs′ p q r t = (rw e p, (rw e q, (rw e r, rw e t)))
+  answered-long e x ns′ cs′ vs′ p q r t = (rw e p, (rw e q, (rw e r, rw e t)))

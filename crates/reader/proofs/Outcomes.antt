@@ -8,6 +8,7 @@ use native.Mathlib.Omega.{arith}
 use lib.IntN.{ℤ, pos}
 use lib.ListN.{length, drop}
 use borrow.Author.Tests.{lt-ltb, le-ltb}
+use Rattle.model.specs.Answers.{Answer, value, refusal, mapValue}
 use Rattle.model.specs.Limits.{maxBytes}
 use Rattle.model.specs.Books.{Book, nodes, links, types, langs, shapes}
 use Rattle.model.specs.Sizes.{countsIn, countList}
@@ -15,7 +16,7 @@ use Rattle.model.specs.Valid.{capacity, admissible}
 use Rattle.model.proofs.Lines.{names-within, facts-within, rules-within, forms-within, paths-within, items-within}
 use Rattle.tables.specs.Layout.{nameCount, cellCount, valueCount}
 use Rattle.encoding.specs.Encode.{countsOf}
-use Rattle.grammar.specs.Reading.{Outcome, accepted, turnedDown, linesFrom, reading}
+use Rattle.grammar.specs.Reading.{linesFrom, reading}
 use Rattle.grammar.proofs.Books.{valid-admissible, reading-sound}
 use Rattle.grammar.proofs.Grounds.{ground-numbered}
 use Rattle.grammar.proofs.GroundsBooks.{refusal-ground}
@@ -26,7 +27,7 @@ use Rattle.model.specs.declared.Counts.{Counts}
 use Rattle.itemreader.specs.Held.{Limits}
 use Rattle.linereader.specs.Storing.{Fits}
 use Rattle.reader.specs.declared.LinesAnswer.{LinesAnswer}
-use Rattle.reader.specs.Answers.{refused, taken, answered, namesLeft, cellsLeft, valuesLeft}
+use Rattle.reader.specs.Answers.{namesLeft, cellsLeft, valuesLeft}
 use Rattle.reader.specs.Running.{Ran}
 use Rattle.tables.proofs.Cleared.{cleared-past, cleared-same}
 use Rattle.reader.proofs.Cleared.{builtNames, built-past}
@@ -54,16 +55,16 @@ counts-fit b v =
     }
 
 -- ---- a text by its length
-pub reading-long : (s : List ℕ) → maxBytes < length s → reading s ≡ turnedDown 1 0
+pub reading-long : (s : List ℕ) → maxBytes < length s → reading s ≡ refusal 1 0
 unfolding reading
-reading-long s h = ap (λ (t : Bool). cond t (turnedDown 1 0) (linesFrom s (length s) 0 0 [])) (lt-ltb maxBytes (length s) h)
+reading-long s h = ap (λ (t : Bool). cond t (refusal 1 0) (linesFrom s (length s) 0 0 [])) (lt-ltb maxBytes (length s) h)
 
 reading-short : (s : List ℕ) → length s ≤ maxBytes → reading s ≡ linesFrom s (length s) 0 0 []
 unfolding reading
-reading-short s h = ap (λ (t : Bool). cond t (turnedDown 1 0) (linesFrom s (length s) 0 0 [])) (le-ltb maxBytes (length s) h)
+reading-short s h = ap (λ (t : Bool). cond t (refusal 1 0) (linesFrom s (length s) 0 0 [])) (le-ltb maxBytes (length s) h)
 
 -- the refusals of a text that is not too long are those from 2 to 7
-refusal-numbered : (s : List ℕ) → length s ≤ maxBytes → (r k : ℕ) → reading s ≡ turnedDown r k → (2 ≤ r) × (r ≤ 7)
+refusal-numbered : (s : List ℕ) → length s ≤ maxBytes → (r k : ℕ) → reading s ≡ refusal r k → (2 ≤ r) × (r ≤ 7)
 refusal-numbered s h r k e = ⊎-elim
     (λ t. absurd (let l = t .2 in let z : ⊥ = omega arith in z))
     (λ t. let G = t .1 in let m = ground-numbered s (G .above) (G .at) (G .ground) in (m .least, m .greatest))
@@ -75,46 +76,46 @@ module _ (s : List ℕ) (h : length s ≤ maxBytes) (r : LinesAnswer) (ns ns₁ 
   pub record Whole (n : Counts) : Type 0 where
     pub limits : Limits n
     pub fits : Fits n
-    pub answer : taken n ≡ answered (reading s)
+    pub answer : value n ≡ mapValue countsIn (reading s)
     pub names : ns₂ ≡ namesLeft (reading s) ns
     pub cells : putCounts 0 (countList n) cs₂ ≡ cellsLeft (reading s) cs
     pub values : vs₂ ≡ valuesLeft (reading s) vs
 
-  book-read : (n : Counts) (b : Book) → linesFrom s (length s) 0 0 [] ≡ accepted b → n ≡ countsIn b → ns₂ ≡ linesNames [] b ns₁ → cs₂ ≡ linesCells [] b cs₁ → vs₂ ≡ linesValues [] b vs₁ → Whole n
+  book-read : (n : Counts) (b : Book) → linesFrom s (length s) 0 0 [] ≡ value b → n ≡ countsIn b → ns₂ ≡ linesNames [] b ns₁ → cs₂ ≡ linesCells [] b cs₁ → vs₂ ≡ linesValues [] b vs₁ → Whole n
   unfolding namesAfter cellsAfter valuesAfter countsOf
   book-read n b o q i j k =
-      let a : reading s ≡ accepted b = reading-short s h ∙ o in
+      let a : reading s ≡ value b = reading-short s h ∙ o in
       let v = reading-sound s b a .0 in
       let ok = valid-admissible b v in
       record {
         limits = subst Limits (sym q) (counts-limits b ok);
         fits = subst Fits (sym q) (counts-fit b ok);
-        answer = ap taken q ∙ ap answered (sym a);
-        names = i ∙ ap (linesNames [] b) e ∙ names-after b v ns ∙ ap (λ (o : Outcome). namesLeft o ns) (sym a);
-        cells = ap (λ (l : List ℕ). putCounts 0 l cs₂) (ap countList q) ∙ ap (putCounts 0 (countsOf b)) (j ∙ ap (linesCells [] b) f) ∙ cells-after b v cs ∙ ap (λ (o : Outcome). cellsLeft o cs) (sym a);
-        values = k ∙ ap (linesValues [] b) g ∙ values-after b v vs ∙ ap (λ (o : Outcome). valuesLeft o vs) (sym a);
+        answer = ap value q ∙ ap (mapValue countsIn) (sym a);
+        names = i ∙ ap (linesNames [] b) e ∙ names-after b v ns ∙ ap (λ (o : Answer Book). namesLeft o ns) (sym a);
+        cells = ap (λ (l : List ℕ). putCounts 0 l cs₂) (ap countList q) ∙ ap (putCounts 0 (countsOf b)) (j ∙ ap (linesCells [] b) f) ∙ cells-after b v cs ∙ ap (λ (o : Answer Book). cellsLeft o cs) (sym a);
+        values = k ∙ ap (linesValues [] b) g ∙ values-after b v vs ∙ ap (λ (o : Answer Book). valuesLeft o vs) (sym a);
       }
 
   -- a refused one: the tables are still to be cleared
   pub record Turned (k line : ℕ) : Type 0 where
     pub least : 2 ≤ k
     pub greatest : k ≤ 7
-    pub answer : refused k line ≡ answered (reading s)
+    pub answer : refusal k line ≡ mapValue countsIn (reading s)
     pub names : cleared nameCount 0 ns₂ ≡ namesLeft (reading s) ns
     pub cells : cleared cellCount 0 cs₂ ≡ cellsLeft (reading s) cs
     pub values : cleared valueCount (pos 0) vs₂ ≡ valuesLeft (reading s) vs
 
-  book-turned : (k line : ℕ) → linesFrom s (length s) 0 0 [] ≡ turnedDown k line → drop nameCount ns₂ ≡ drop nameCount ns₁ → drop cellCount cs₂ ≡ drop cellCount cs₁ → drop valueCount vs₂ ≡ drop valueCount vs₁ → Turned k line
+  book-turned : (k line : ℕ) → linesFrom s (length s) 0 0 [] ≡ refusal k line → drop nameCount ns₂ ≡ drop nameCount ns₁ → drop cellCount cs₂ ≡ drop cellCount cs₁ → drop valueCount vs₂ ≡ drop valueCount vs₁ → Turned k line
   book-turned k line o x y z =
-      let a : reading s ≡ turnedDown k line = reading-short s h ∙ o in
+      let a : reading s ≡ refusal k line = reading-short s h ∙ o in
       let m = refusal-numbered s h k line a in
       record {
         least = m .0;
         greatest = m .1;
-        answer = ap answered (sym a);
-        names = cleared-same nameCount 0 ns₂ ns (x ∙ ap (drop nameCount) e ∙ built-past ns) ∙ ap (λ (o : Outcome). namesLeft o ns) (sym a);
-        cells = cleared-same cellCount 0 cs₂ cs (y ∙ ap (drop cellCount) f ∙ cleared-past cellCount 0 cs) ∙ ap (λ (o : Outcome). cellsLeft o cs) (sym a);
-        values = cleared-same valueCount (pos 0) vs₂ vs (z ∙ ap (drop valueCount) g ∙ cleared-past valueCount (pos 0) vs) ∙ ap (λ (o : Outcome). valuesLeft o vs) (sym a);
+        answer = ap (mapValue countsIn) (sym a);
+        names = cleared-same nameCount 0 ns₂ ns (x ∙ ap (drop nameCount) e ∙ built-past ns) ∙ ap (λ (o : Answer Book). namesLeft o ns) (sym a);
+        cells = cleared-same cellCount 0 cs₂ cs (y ∙ ap (drop cellCount) f ∙ cleared-past cellCount 0 cs) ∙ ap (λ (o : Answer Book). cellsLeft o cs) (sym a);
+        values = cleared-same valueCount (pos 0) vs₂ vs (z ∙ ap (drop valueCount) g ∙ cleared-past valueCount (pos 0) vs) ∙ ap (λ (o : Answer Book). valuesLeft o vs) (sym a);
       }
 
   -- by the answer of the loop over lines
@@ -122,13 +123,13 @@ module _ (s : List ℕ) (h : length s ≤ maxBytes) (r : LinesAnswer) (ns ns₁ 
     pub was-read : (n : Counts) → r ≡ LinesAnswer.Read n → Whole n
     was-read n q = go (linesFrom s (length s) 0 0 []) refl d
       where
-        go : (o : Outcome) → linesFrom s (length s) 0 0 [] ≡ o → Ran o r ns₁ ns₂ cs₁ cs₂ vs₁ vs₂ → Whole n
-        go (accepted b) p d = let x = d .0 in book-read n b p (cc) (d .1) (d .2) (d .3)
-        go (turnedDown k line) p d = let x = d .0 in let z : _≡_ {A = ℕ} 0 1 = cc in absurd (omega arith)
+        go : (o : Answer Book) → linesFrom s (length s) 0 0 [] ≡ o → Ran o r ns₁ ns₂ cs₁ cs₂ vs₁ vs₂ → Whole n
+        go (value b) p d = let x = d .0 in book-read n b p (cc) (d .1) (d .2) (d .3)
+        go (refusal k line) p d = let x = d .0 in let z : _≡_ {A = ℕ} 0 1 = cc in absurd (omega arith)
 
     pub was-turned : (k line : ℕ) → r ≡ LinesAnswer.No k line → Turned k line
     was-turned k line q = go (linesFrom s (length s) 0 0 []) refl d
       where
-        go : (o : Outcome) → linesFrom s (length s) 0 0 [] ≡ o → Ran o r ns₁ ns₂ cs₁ cs₂ vs₁ vs₂ → Turned k line
-        go (accepted b) p d = let x = d .0 in let z : _≡_ {A = ℕ} 0 1 = cc in absurd (omega arith)
-        go (turnedDown j i) p d = let x = d .0 in let y : turnedDown j i ≡ turnedDown k line = cc in book-turned k line (p ∙ y) (d .1) (d .2) (d .3)
+        go : (o : Answer Book) → linesFrom s (length s) 0 0 [] ≡ o → Ran o r ns₁ ns₂ cs₁ cs₂ vs₁ vs₂ → Turned k line
+        go (value b) p d = let x = d .0 in let z : _≡_ {A = ℕ} 0 1 = cc in absurd (omega arith)
+        go (refusal j i) p d = let x = d .0 in let y : _≡_ {A = Answer Book} (refusal j i) (refusal k line) = cc in book-turned k line (p ∙ y) (d .1) (d .2) (d .3)

@@ -14,6 +14,7 @@ use Rattle.base.specs.Columns.{flat}
 use Rattle.base.proofs.Bools.{bool-cases, and-left}
 use Rattle.base.proofs.Columns.{length-flat}
 use Rattle.text.specs.Items.{isName}
+use Rattle.model.specs.Answers.{Answer, value, refusal}
 use Rattle.model.specs.Books.{Line, Book, Pool, nodes, links, types, langs, shapes, builtIn, newNames, newTriples, newShapes, newRules, collect, names, rules}
 use Rattle.model.specs.Sizes.{sumOver, formEntries, shapePaths, listItems, formsIn, pathsIn, itemsIn, countsIn}
 use Rattle.model.proofs.Lines.{collect-snoc, names-snoc, sum-append}
@@ -21,7 +22,7 @@ use Rattle.tables.specs.Layout.{nameCount, cellCount, valueCount, nodeKinds}
 use Rattle.encoding.specs.Encode.{nameColumns, cellColumns, valueColumns, encodeNames}
 use Rattle.grammar.specs.Writing.{writeLine}
 use Rattle.grammar.specs.Valid.{wellNamed}
-use Rattle.grammar.specs.Reading.{Read, got, refused, lineAt, Outcome, accepted, turnedDown, follow, linesFrom}
+use Rattle.grammar.specs.Reading.{Read, got, refused, lineAt, follow, linesFrom}
 use Rattle.grammar.proofs.Lines.{line-sound}
 use Rattle.grammar.proofs.Books.{Sane, sane-start, sane-more, pools-of, fit-of, longer}
 use Rattle.tables.specs.Sizes.{cleared}
@@ -55,12 +56,12 @@ module _ (s : List ℕ) (at line : ℕ) (a : Book) where
   lines-step few h =
       let f : length s - line ≡ suc (length s - (line + 1)) = omega arith in
       ap (λ (n : ℕ). linesFrom s n at line a) f
-      ∙ ap (λ (t : Bool). cond t (follow (line + 1) (lineAt s a at) (λ l next. linesFrom s (length s - (line + 1)) next (line + 1) (a ++ (l ∷ [])))) (accepted a)) (lt-ltb at (length s) h)
+      ∙ ap (λ (t : Bool). cond t (follow (line + 1) (lineAt s a at) (λ l next. linesFrom s (length s - (line + 1)) next (line + 1) (a ++ (l ∷ [])))) (value a)) (lt-ltb at (length s) h)
 
-  pub lines-over : (fuel : ℕ) → length s ≤ at → linesFrom s fuel at line a ≡ accepted a
+  pub lines-over : (fuel : ℕ) → length s ≤ at → linesFrom s fuel at line a ≡ value a
   unfolding linesFrom
   lines-over zero h = refl
-  lines-over (suc fuel) h = ap (λ (t : Bool). cond t (follow (line + 1) (lineAt s a at) (λ l next. linesFrom s fuel next (line + 1) (a ++ (l ∷ [])))) (accepted a)) (le-ltb at (length s) h)
+  lines-over (suc fuel) h = ap (λ (t : Bool). cond t (follow (line + 1) (lineAt s a at) (λ l next. linesFrom s fuel next (line + 1) (a ++ (l ∷ [])))) (value a)) (le-ltb at (length s) h)
 
 -- ---- the counts with one line more
 counts-more : (a : Book) (l : Line) → counted l (countsIn a) ≡ countsIn (a ++ (l ∷ []))
@@ -222,8 +223,8 @@ module _ (s ns₀ cs₀ : List ℕ) (vs₀ : List ℤ) where
       runs-stop k e =
           let a = R .above in
           let w = done-left a n r ns ns′ cs cs′ vs vs′ (lineAt s a at) k d e in
-          let o : linesFrom s (length s) 0 0 [] ≡ turnedDown k (line + 1) = R .rest ∙ lines-step s at line a (R .few) h ∙ ap (λ (x : Read Line). follow (line + 1) x (λ l next. linesFrom s (length s - (line + 1)) next (line + 1) (a ++ (l ∷ [])))) (w .read) in
-          subst (λ (o : Outcome). Ran o (LinesAnswer.No k (line + 1)) ns₀ ns′ cs₀ cs′ vs₀ vs′) (sym o) (refl, w .names ∙ names-past, w .cells ∙ cells-past, w .values ∙ values-past)
+          let o : linesFrom s (length s) 0 0 [] ≡ refusal k (line + 1) = R .rest ∙ lines-step s at line a (R .few) h ∙ ap (λ (x : Read Line). follow (line + 1) x (λ l next. linesFrom s (length s - (line + 1)) next (line + 1) (a ++ (l ∷ [])))) (w .read) in
+          subst (λ (o : Answer Book). Ran o (LinesAnswer.No k (line + 1)) ns₀ ns′ cs₀ cs′ vs₀ vs′) (sym o) (refl, w .names ∙ names-past, w .cells ∙ cells-past, w .values ∙ values-past)
 
     -- after the last line
     pub runs-end : Started ns₀ cs₀ vs₀ → length s ≤ at → Ran (linesFrom s (length s) 0 0 []) (LinesAnswer.Read n) ns₀ ns cs₀ cs vs₀ vs
@@ -231,8 +232,8 @@ module _ (s ns₀ cs₀ : List ℕ) (vs₀ : List ℤ) where
     runs-end S h =
         let a = R .above in
         let v = R .sane .valid-above in
-        let o : linesFrom s (length s) 0 0 [] ≡ accepted a = R .rest ∙ lines-over s at line a (length s - line) h in
-        subst (λ (o : Outcome). Ran o (LinesAnswer.Read n) ns₀ ns cs₀ cs vs₀ vs) (sym o) (
+        let o : linesFrom s (length s) 0 0 [] ≡ value a = R .rest ∙ lines-over s at line a (length s - line) h in
+        subst (λ (o : Answer Book). Ran o (LinesAnswer.Read n) ns₀ ns cs₀ cs vs₀ vs) (sym o) (
           ap LinesAnswer.Read (R .counts),
           R .names-held ∙ sym (ap (linesNames [] a) (S .names-start) ∙ lines-names a [] (drop nameCount ns₀) prefix-start v),
           R .cells-held ∙ sym (ap (linesCells [] a) (S .cells-start ∙ cells-cleared (drop cellCount cs₀)) ∙ lines-cells a [] (drop cellCount cs₀) prefix-start v),

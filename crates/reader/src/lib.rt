@@ -24,8 +24,9 @@ ghost use Prim.Native.Nat.{_≤_};
 ghost use lib.IntN.{pos};
 ghost use lib.ListN.{length};
 ghost use Rattle.base.specs.Bytes.{bytes};
+ghost use Rattle.model.specs.Answers.{mapValue};
 ghost use Rattle.model.specs.Books.{links, types};
-ghost use Rattle.model.specs.Sizes.{countList};
+ghost use Rattle.model.specs.Sizes.{countsIn, countList};
 ghost use Rattle.model.specs.Refusals.{codeOf, lineOf};
 ghost use Rattle.tables.specs.Layout.{nameCount, cellCount, valueCount};
 ghost use Rattle.grammar.specs.Reading.{linesFrom, reading};
@@ -34,7 +35,7 @@ ghost use Rattle.stores.specs.Lines.{putName, putCounts};
 ghost use Rattle.itemreader.specs.Answers.{poolOf};
 ghost use Rattle.itemreader.specs.Held.{Limits, Indexed};
 ghost use Rattle.linereader.specs.Storing.{Fits};
-ghost use Rattle.reader.specs.Answers.{answerOf, answered, namesLeft, cellsLeft, valuesLeft, readAnswer, namesOf, cellsOf, valuesOf};
+ghost use Rattle.reader.specs.Answers.{answerOf, namesLeft, cellsLeft, valuesLeft, readAnswer, namesOf, cellsOf, valuesOf};
 ghost use Rattle.reader.specs.Running.{Started, builtInCounts, Ran};
 ghost use Rattle.reader.specs.Indexing.{joined, joinedAll};
 
@@ -193,7 +194,7 @@ fn read_lines(names: &mut [u8], cells: &mut [u16], values: &mut [i64], book: &[u
 // A book that is not too long, into tables that are long enough.
 fn read_book(names: &mut [u8], cells: &mut [u16], values: &mut [i64], book: &[u8]) -> ReadAnswer
     requires { ⌜ (length (now book) ≤ 65536) × (45056 ≤ length (now names)) × (16602 ≤ length (now cells)) × (1136 ≤ length (now values)) ⌝ }
-    ensures { λ r. ⌜ answerOf r ≡ answered (reading (now (book .entry))) ⌝ }
+    ensures { λ r. ⌜ answerOf r ≡ mapValue countsIn (reading (now (book .entry))) ⌝ }
     ensures { λ _. ⌜ now (names .exit) ≡ namesLeft (reading (now (book .entry))) (now (names .entry)) ⌝ }
     ensures { λ _. ⌜ now (cells .exit) ≡ cellsLeft (reading (now (book .entry))) (now (cells .entry)) ⌝ }
     ensures { λ _. ⌜ now (values .exit) ≡ valuesLeft (reading (now (book .entry))) (now (values .entry)) ⌝ }

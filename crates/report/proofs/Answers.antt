@@ -1,74 +1,44 @@
 -- The answers of writing a part, case by case.
 use Prim.Native.Nat.{ℕ, _+_, _≤_, _<_}
 use mathlib.Core.List.{List}
-use mathlib.Core.Bool.{Bool, true, false, _&&_}
-use mathlib.Core.Path.{_≡_, ap}
+use mathlib.Core.Bool.{Bool, true}
+use mathlib.Core.Path.{_≡_, refl}
 use native.Mathlib.Omega.{arith}
 use lib.Dec.{leb}
 use lib.IntN.{ℤ}
-use lib.ListN.{length}
-use borrow.Author.Tests.{leb-true, le-leb, lt-leb}
-use Rattle.base.proofs.Bools.{and-left, and-right}
+use lib.ListN.{length, take}
 use Rattle.text.specs.Decimals.{decimal}
 use Rattle.model.specs.declared.Refusal.{Refusal}
 use Rattle.model.specs.declared.Refusal.the-variants.{TooLong, Grammar, Range, Nesting, Undefined, Repeated, Limit, Short, Malformed, Absent}
 use Rattle.model.specs.Refusals.{codeOf, lineOf}
-use Rattle.tables.specs.Sizes.{longEnough}
-use Rattle.tables.proofs.Sizes as sizes
-use Rattle.lists.specs.Rows.{listCount, lengthCount}
+use Rattle.model.specs.Answers.{Answer, value, refusal}
+use Rattle.model.proofs.Answers.{Answering, done}
+use Rattle.tables.specs.Layout.{cellCount}
+use Rattle.tables.proofs.Beside.{Beside, beside}
+use Rattle.lists.specs.Rows.{listCount, lengthCount, over}
 use Rattle.report.specs.Report.{refusalReport}
 use Rattle.report.specs.Pages.{pageCount, refusalCount, Put}
-use Rattle.report.specs.Answers.{Answer, refused, wrote, long, right, known, text, partSaid, partAfter, refusalSaid, refusalAfter}
+use Rattle.report.specs.Answers.{partLong, partFormed, hasPart, text, partAnswer, partAfter, refusalAnswer, refusalAfter}
 use Rattle.report.proofs.Writing.{put-front, digits-few, two-digits, twenty-digits}
 
--- the slices are as long as the limits
-pub record Lent (ns cs : List ℕ) (vs : List ℤ) (ls ks page : List ℕ) : Type 0 where
-  pub tables : sizes.Long ns cs vs
-  pub lists : listCount ≤ length ls
-  pub lengths : lengthCount ≤ length ks
-  pub space : pageCount ≤ length page
-
-pub long-by : (ns cs : List ℕ) (vs : List ℤ) (ls ks page : List ℕ) {tables : Bool} → tables ≡ longEnough ns cs vs → (tables && (leb listCount (length ls) && (leb lengthCount (length ks) && leb pageCount (length page)))) ≡ long ns cs vs ls ks page
-unfolding long
-long-by ns cs vs ls ks page e = ap (λ (b : Bool). b && (leb listCount (length ls) && (leb lengthCount (length ks) && leb pageCount (length page)))) e
-
-pub lent : (ns cs : List ℕ) (vs : List ℤ) (ls ks page : List ℕ) → long ns cs vs ls ks page ≡ true → Lent ns cs vs ls ks page
-unfolding long
-lent ns cs vs ls ks page e =
-    let tables : Bool = longEnough ns cs vs in
-    let lists : Bool = leb listCount (length ls) in
-    let lengths : Bool = leb lengthCount (length ks) in
-    let last : Bool = leb pageCount (length page) in
-    let more = and-right tables (lists && (lengths && last)) e in
-    let rest = and-right lists (lengths && last) more in
-    record {
-      tables = sizes.long ns cs vs (and-left tables (lists && (lengths && last)) e);
-      lists = leb-true listCount (length ls) (and-left lists (lengths && last) more);
-      lengths = leb-true lengthCount (length ks) (and-left lengths last rest);
-      space = leb-true pageCount (length page) (and-right lengths last rest);
-    }
-
 module _ (ns cs : List ℕ) (vs : List ℤ) (ls ks : List ℕ) (k : ℕ) (page : List ℕ) where
-  abbrev Answered : Answer → List ℕ → Type 0
-  Answered a now = (a ≡ partSaid ns cs vs ls ks k page) × ((now ≡ partAfter ns cs vs ls ks k page) × (a .bytes ≤ length page))
+  pub part-answers : Answering (partLong ns cs vs ls ks page) (partFormed (take cellCount cs) ls ks k) (hasPart (take cellCount cs) k) (length (text ns cs vs ls ks k page)) (over (text ns cs vs ls ks k page) page) page (partAnswer ns cs vs ls ks k page) (partAfter ns cs vs ls ks k page)
+  unfolding partAnswer partAfter
+  part-answers = record { answer = refl; left = refl }
 
-  pub short : long ns cs vs ls ks page ≡ false → Answered (refused 8) page
-  unfolding partSaid partAfter
-  short e = (rw e, (rw e, omega arith))
+-- the slices are as long as the limits: lists, lengths and page
+pub part-room : (ns cs : List ℕ) (vs : List ℤ) (ls ks page : List ℕ) → partLong ns cs vs ls ks page ≡ true → Beside ns cs vs listCount lengthCount pageCount ls ks page
+unfolding partLong
+part-room ns cs vs ls ks page e = beside ns cs vs listCount lengthCount pageCount ls ks page e
 
-  module _ (l : long ns cs vs ls ks page ≡ true) where
-    pub malformed : right ns cs vs ls ks k page ≡ false → Answered (refused 9) page
-    unfolding partSaid partAfter
-    malformed e = (rw (l, e), (rw (l, e), omega arith))
+-- ---- an answer on a page: what is written is on it
+module _ {page : List ℕ} {x : Answer ℕ} {y : List ℕ} where
+  pub refused-on : {k : ℕ} → (refusal k 0 ≡ x) × (page ≡ y) → (refusal k 0 ≡ x) × ((page ≡ y) × (0 ≤ length page))
+  refused-on e = (e .0, (e .1, omega arith))
 
-    module _ (w : right ns cs vs ls ks k page ≡ true) where
-      pub absent : known ns cs vs ls ks k page ≡ false → Answered (refused 10) page
-      unfolding partSaid partAfter
-      absent e = (rw (l, w, e), (rw (l, w, e), omega arith))
-
-      pub done : known ns cs vs ls ks k page ≡ true → {now : List ℕ} {n : ℕ} → Put page now 0 (text ns cs vs ls ks k page) n → Answered (wrote n) now
-      unfolding partSaid partAfter
-      done e p = (rw (l, w, e) (ap wrote (put-front p .0)), (rw (l, w, e) (put-front p .1), p .inside))
+  module _ {long formed there : Bool} {text : List ℕ} (o : Answering long formed there (length text) (over text page) page x y) where
+    pub written-on : long ≡ true → formed ≡ true → there ≡ true → {now : List ℕ} {n : ℕ} → Put page now 0 text n → (value n ≡ x) × ((now ≡ y) × (n ≤ length page))
+    written-on l w t p = let e = done o l w t (put-front p .0) (put-front p .1) in (e .0, (e .1, p .inside))
 
 -- ---- the report of a refusal: it fits, whatever its line
 with-line : (k at : ℕ) → k < 10 → at < 18446744073709551616 → 12 + length (decimal k) + length (decimal at) ≤ refusalCount
@@ -87,13 +57,6 @@ refusal-fits Malformed h = with-line 9 0 (omega arith) h
 refusal-fits Absent h = omega (arith, two-digits 10 (omega arith), two-digits 0 (omega arith))
 
 module _ (number at : ℕ) (page : List ℕ) where
-  abbrev Reported : Answer → List ℕ → Type 0
-  Reported a now = (a ≡ refusalSaid number at page) × ((now ≡ refusalAfter number at page) × (a .bytes ≤ length page))
-
-  pub no-room : length page < refusalCount → Reported (refused 8) page
-  unfolding refusalSaid refusalAfter
-  no-room h = (rw (lt-leb refusalCount (length page) h), (rw (lt-leb refusalCount (length page) h), omega arith))
-
-  pub reported : refusalCount ≤ length page → {now : List ℕ} {n : ℕ} → Put page now 0 (refusalReport number at) n → Reported (wrote n) now
-  unfolding refusalSaid refusalAfter
-  reported h p = (rw (le-leb refusalCount (length page) h) (ap wrote (put-front p .0)), (rw (le-leb refusalCount (length page) h) (put-front p .1), p .inside))
+  pub refusal-answers : Answering (leb refusalCount (length page)) true true (length (refusalReport number at)) (over (refusalReport number at) page) page (refusalAnswer number at page) (refusalAfter number at page)
+  unfolding refusalAnswer refusalAfter
+  refusal-answers = record { answer = refl; left = refl }

@@ -1,7 +1,7 @@
 -- The parts that are written from a valid book's tables and lists are the parts of its report.
 use Prim.Native.Nat.{ℕ, zero, suc, _+_, _-_, _*_, _<_, _≤_}
 use mathlib.Core.List.{List, [], _∷_, _++_, map, append-nil}
-use mathlib.Core.Bool.{Bool, true, cond, _&&_, and-true, true≢false}
+use mathlib.Core.Bool.{Bool, true, cond, true≢false}
 use mathlib.Core.Path.{_≡_, refl, sym, ap, ap₂, _∙_}
 use native.Mathlib.Nat.{zero-add}
 use native.Mathlib.Omega.{arith}
@@ -19,9 +19,11 @@ use Rattle.text.specs.Pool.{padded, allNames}
 use Rattle.text.proofs.Items.{name-short, name-bytes}
 use Rattle.text.proofs.Places.{names-at}
 use Rattle.text.proofs.Pool.{padded-length}
+use Rattle.model.specs.Answers.{Answer, value, refusal, unlessRefused}
 use Rattle.model.specs.Rules.{Rule, violates, violations, noRule}
 use Rattle.model.specs.Books.{Name, Book, nodes, names, rules, graphOf, schema, listOf}
 use Rattle.model.specs.Valid.{capacity, admissible}
+use Rattle.model.proofs.Answers.{left-by}
 use Rattle.model.proofs.Lines.{names-within, terms-counted}
 use Rattle.grammar.specs.Writing.{nameOf}
 use Rattle.grammar.specs.Valid.{valid}
@@ -39,7 +41,7 @@ use Rattle.lists.proofs.ReadOff.{length-read, nodes-read}
 use Rattle.lists.proofs.Rows.{few}
 use Rattle.report.specs.Report.{headLine, breakLines, foundLine, ruleLines, found, firstLine, lastLine, report, part, joined}
 use Rattle.report.specs.Pages.{beforeZero, nameIn, foundIn, partIn, lengthOk, rowOk, partOk}
-use Rattle.report.specs.Answers.{refused, wrote, long, right, known, text, partSaid, partAfter}
+use Rattle.report.specs.Answers.{partLong, partFormed, hasPart, text, partAnswer, partAfter}
 use Rattle.report.proofs.Report.{rule-part, last-part, next-low, next-rule, next-count, parts-joined}
 use Rattle.report.proofs.Parts.{part-rule, part-last, ok-head, ok-rule, ok-last, ok-past}
 
@@ -216,19 +218,21 @@ module _ (b : Book) (v : valid b ≡ true) where
         abbrev Cs : List ℕ
         Cs = encodeCells b ++ past
 
-        right-here : right (encodeNames b ++ t) Cs vs ls ks k page ≡ true
-        right-here = ap (λ (cs : List ℕ). wellFormed cs && partOk cs ls ks k) (cells-read past) ∙ and-both (wellFormed (encodeCells b)) (partOk (encodeCells b) ls ks k) (well-formed b ok) (part-ok k)
+        formed-here : partFormed (take cellCount Cs) ls ks k ≡ true
+        formed-here = ap (λ (cs : List ℕ). partFormed cs ls ks k) (cells-read past) ∙ and-both (wellFormed (encodeCells b)) (partOk (encodeCells b) ls ks k) (well-formed b ok) (part-ok k)
 
-        known-here : known (encodeNames b ++ t) Cs vs ls ks k page ≡ true
-        known-here = ap (λ (cs : List ℕ). leb k (ruleCount cs + 1)) (cells-read past) ∙ le-leb k (ruleCount (encodeCells b) + 1) (omega (arith, inside, rules-counted b))
+        part-here : hasPart (take cellCount Cs) k ≡ true
+        part-here = ap (λ (cs : List ℕ). hasPart cs k) (cells-read past) ∙ le-leb k (ruleCount (encodeCells b) + 1) (omega (arith, inside, rules-counted b))
 
         text-here : text (encodeNames b ++ t) Cs vs ls ks k page ≡ part b k
         text-here = ap (λ (cs : List ℕ). partIn (encodeNames b ++ t) cs ls ks k) (cells-read past) ∙ part-read k
 
-        pub part-said : partSaid (encodeNames b ++ t) Cs vs ls ks k page ≡ cond (long (encodeNames b ++ t) Cs vs ls ks page) (wrote (length (part b k))) (refused 8)
-        unfolding partSaid
-        part-said = rw (right-here, known-here, text-here)
+        pub part-answer : partAnswer (encodeNames b ++ t) Cs vs ls ks k page ≡ cond (partLong (encodeNames b ++ t) Cs vs ls ks page) (value (length (part b k))) (refusal 8 0)
+        unfolding partAnswer
+        part-answer = rw (formed-here, part-here, text-here)
 
-        pub part-page : partAfter (encodeNames b ++ t) Cs vs ls ks k page ≡ cond (long (encodeNames b ++ t) Cs vs ls ks page) (over (part b k) page) page
+        pub part-page : partAfter (encodeNames b ++ t) Cs vs ls ks k page ≡ cond (partLong (encodeNames b ++ t) Cs vs ls ks page) (over (part b k) page) page
         unfolding partAfter
-        part-page = rw (right-here, known-here, text-here, and-true (long (encodeNames b ++ t) Cs vs ls ks page))
+        part-page =
+            ap₂ (λ (x : Answer ℕ) (w : List ℕ). unlessRefused x (over w page) page) part-answer text-here
+            ∙ left-by (partLong (encodeNames b ++ t) Cs vs ls ks page) (value (length (part b k))) (refusal 8 0) (over (part b k) page) page

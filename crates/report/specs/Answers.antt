@@ -1,11 +1,11 @@
 -- What writing a part of the report answers, and what it leaves on the lent page.
 use Prim.Native.Nat.{ℕ, _+_}
 use mathlib.Core.List.{List}
-use mathlib.Core.Bool.{Bool, cond, _&&_}
+use mathlib.Core.Bool.{Bool, true, _&&_}
 use lib.Dec.{leb}
 use lib.IntN.{ℤ}
 use lib.ListN.{length, take}
-use Rattle.model.specs.Refusals.{codeOf, lineOf}
+use Rattle.model.specs.Answers.{Answer, value, refusalOf, checked, unlessRefused}
 use Rattle.tables.specs.Layout.{cellCount, ruleCount}
 use Rattle.tables.specs.Sizes.{longEnough}
 use Rattle.tables.specs.WellFormed.{wellFormed}
@@ -15,49 +15,39 @@ use Rattle.report.specs.Pages.{pageCount, refusalCount, partIn, partOk}
 use Rattle.report.specs.declared.Page.{Page}
 use Rattle.report.specs.declared.Page.the-variants.{Bytes, Refused}
 
--- document 01's number of a refusal (0: none), its line, and how many bytes are written
-pub record Answer : Type 0 where
-  pub refusal : ℕ
-  pub line : ℕ
-  pub bytes : ℕ
+-- each case of the answer: how many bytes are written, or the refusal
+abbrev pub answerOf : Page → Answer ℕ
+answerOf (Bytes n) = value n
+answerOf (Refused r) = refusalOf r
 
-abbrev pub refused : ℕ → Answer
-refused k = record { refusal = k; line = 0; bytes = 0 }
+-- names, cells, values, lists, lengths and a page, as they are lent; each counts up to its limit. All are long enough:
+unfoldable pub partLong : (ns cs : List ℕ) (vs : List ℤ) (ls ks page : List ℕ) → Bool
+partLong ns cs vs ls ks page = longEnough ns cs vs && (leb listCount (length ls) && (leb lengthCount (length ks) && leb pageCount (length page)))
 
-abbrev pub wrote : ℕ → Answer
-wrote n = record { refusal = 0; line = 0; bytes = n }
+-- the tables are well formed, and the lists that part k looks at
+abbrev pub partFormed : (cs ls ks : List ℕ) → ℕ → Bool
+partFormed cs ls ks k = wellFormed cs && partOk cs ls ks k
 
-abbrev pub saidOf : Page → Answer
-saidOf (Bytes n) = wrote n
-saidOf (Refused r) = record { refusal = codeOf r; line = lineOf r; bytes = 0 }
-
--- names, cells, values, lists, lengths and a page, as they are lent; each counts up to its limit. No ground for 8:
-unfoldable pub long : (ns cs : List ℕ) (vs : List ℤ) (ls ks page : List ℕ) → Bool
-long ns cs vs ls ks page = longEnough ns cs vs && (leb listCount (length ls) && (leb lengthCount (length ks) && leb pageCount (length page)))
+-- the report has part k
+abbrev pub hasPart : List ℕ → ℕ → Bool
+hasPart cs k = leb k (ruleCount cs + 1)
 
 module _ (ns cs : List ℕ) (vs : List ℤ) (ls ks : List ℕ) (k : ℕ) (page : List ℕ) where
-  -- no ground for 9; for 10
-  abbrev pub right : Bool
-  right = wellFormed (take cellCount cs) && partOk (take cellCount cs) ls ks k
-
-  abbrev pub known : Bool
-  known = leb k (ruleCount (take cellCount cs) + 1)
-
   abbrev pub text : List ℕ
   text = partIn ns (take cellCount cs) ls ks k
 
   -- 8, then 9, then 10, else how many bytes
-  unfoldable pub partSaid : Answer
-  partSaid = cond (long ns cs vs ls ks page) (cond right (cond known (wrote (length text)) (refused 10)) (refused 9)) (refused 8)
+  unfoldable pub partAnswer : Answer ℕ
+  partAnswer = checked (partLong ns cs vs ls ks page) (partFormed (take cellCount cs) ls ks k) (hasPart (take cellCount cs) k) (length text)
 
-  -- the part, and past it what was there; a refusal changes nothing
+  -- the part, and past it what was there
   unfoldable pub partAfter : List ℕ
-  partAfter = cond (long ns cs vs ls ks page && (right && known)) (over text page) page
+  partAfter = unlessRefused partAnswer (over text page) page
 
--- ---- the report of a refusal, with its number and its line
+-- ---- the report of a refusal, with its number and its line: 8, else how many bytes; there is nothing for 9 and 10
 module _ (number at : ℕ) (page : List ℕ) where
-  unfoldable pub refusalSaid : Answer
-  refusalSaid = cond (leb refusalCount (length page)) (wrote (length (refusalReport number at))) (refused 8)
+  unfoldable pub refusalAnswer : Answer ℕ
+  refusalAnswer = checked (leb refusalCount (length page)) true true (length (refusalReport number at))
 
   unfoldable pub refusalAfter : List ℕ
-  refusalAfter = cond (leb refusalCount (length page)) (over (refusalReport number at) page) page
+  refusalAfter = unlessRefused refusalAnswer (over (refusalReport number at) page) page

@@ -15,7 +15,7 @@ use tables::reads::node_count;
 use tables::reads::rule_count;
 use tables::reads::wide;
 ghost use mathlib.Core.Path.{_≡_};
-ghost use mathlib.Core.Bool.{true, _&&_};
+ghost use mathlib.Core.Bool.{true};
 ghost use mathlib.Core.List.{_∷_, map};
 ghost use Prim.Native.Nat.{_+_, _*_, _<_, _≤_};
 ghost use lib.ListN.{length, getD, take, drop};
@@ -23,13 +23,14 @@ ghost use lib.Dec.{ltb};
 ghost use Rattle.base.specs.Bounded.{every};
 ghost use Rattle.base.specs.Lists.{allb};
 ghost use Rattle.text.specs.Decimals.{decimal};
+ghost use Rattle.model.specs.Answers.{valueOr};
 ghost use Rattle.model.specs.Refusals.{codeOf, lineOf};
 ghost use Rattle.tables.specs.Layout.{nameCount};
 ghost use Rattle.tables.specs.WellFormed.{wellFormed};
 ghost use Rattle.lists.specs.Rows.{listCount, lengthCount, rowIn};
 ghost use Rattle.report.specs.Report.{headLine, breakLine, breakLines, foundLine, refusalReport};
 ghost use Rattle.report.specs.Pages.{pageCount, nameIn, foundIn, partIn, lengthOk, rowOk, partOk, Put};
-ghost use Rattle.report.specs.Answers.{saidOf, long, partSaid, partAfter, refusalSaid, refusalAfter};
+ghost use Rattle.report.specs.Answers.{answerOf, partLong, partFormed, partAnswer, partAfter, refusalAnswer, refusalAfter};
 
 // A page for 1,024 lines of 44 bytes: two digits of a rule, 31 bytes of a name.
 pub const PAGE_BYTES: usize = 45056;
@@ -255,7 +256,7 @@ fn lengths_ok(lengths: &[u16], n: usize) -> bool
 // Refusal 9 is for tables and lists of which this is false.
 fn part_ok(cells: &[u16], lists: &[u16], lengths: &[u16], k: usize) -> bool
     requires { ⌜ (listCount ≤ length (now lists)) × (lengthCount ≤ length (now lengths)) ⌝ }
-    ensures { λ ok. ⌜ ok ≡ (wellFormed (now (cells .entry)) && partOk (now (cells .entry)) (now (lists .entry)) (now (lengths .entry)) k) ⌝ }
+    ensures { λ ok. ⌜ ok ≡ partFormed (now (cells .entry)) (now (lists .entry)) (now (lengths .entry)) k ⌝ }
 {
     if !well_formed(cells) {
         return false;
@@ -282,7 +283,7 @@ fn long_enough(
     lengths: &[u16],
     page: &[u8],
 ) -> bool
-    ensures { λ r. ⌜ r ≡ long (now (names .entry)) (now (cells .entry)) (now (values .entry)) (now (lists .entry)) (now (lengths .entry)) (now (page .entry)) ⌝ }
+    ensures { λ r. ⌜ r ≡ partLong (now (names .entry)) (now (cells .entry)) (now (values .entry)) (now (lists .entry)) (now (lengths .entry)) (now (page .entry)) ⌝ }
 {
     enough(names, cells, values)
         & ((LIST_PLACES <= lists.len())
@@ -302,9 +303,9 @@ pub fn report_part(
     k: usize,
     page: &mut [u8],
 ) -> Page
-    ensures { λ r. ⌜ saidOf r ≡ partSaid (now (names .entry)) (now (cells .entry)) (now (values .entry)) (now (lists .entry)) (now (lengths .entry)) k (now (page .entry)) ⌝ }
+    ensures { λ r. ⌜ answerOf r ≡ partAnswer (now (names .entry)) (now (cells .entry)) (now (values .entry)) (now (lists .entry)) (now (lengths .entry)) k (now (page .entry)) ⌝ }
     ensures { λ _. ⌜ now (page .exit) ≡ partAfter (now (names .entry)) (now (cells .entry)) (now (values .entry)) (now (lists .entry)) (now (lengths .entry)) k (now (page .entry)) ⌝ }
-    ensures { λ r. ⌜ saidOf r .bytes ≤ length (now (page .entry)) ⌝ }
+    ensures { λ r. ⌜ valueOr 0 (answerOf r) ≤ length (now (page .entry)) ⌝ }
 {
     if !long_enough(names, cells, values, lists, lengths, &page[..]) {
         return Page::Refused(Refusal::Short);
@@ -322,9 +323,9 @@ pub fn report_part(
 // The operation: the report of a refusal at the front of lent space; what lies past it stays. Refused: space too short, and
 // nothing changes then.
 pub fn report_refusal(refusal: Refusal, space: &mut [u8]) -> Page
-    ensures { λ r. ⌜ saidOf r ≡ refusalSaid (codeOf refusal) (lineOf refusal) (now (space .entry)) ⌝ }
+    ensures { λ r. ⌜ answerOf r ≡ refusalAnswer (codeOf refusal) (lineOf refusal) (now (space .entry)) ⌝ }
     ensures { λ _. ⌜ now (space .exit) ≡ refusalAfter (codeOf refusal) (lineOf refusal) (now (space .entry)) ⌝ }
-    ensures { λ r. ⌜ saidOf r .bytes ≤ length (now (space .entry)) ⌝ }
+    ensures { λ r. ⌜ valueOr 0 (answerOf r) ≤ length (now (space .entry)) ⌝ }
 {
     if space.len() < REFUSAL_BYTES {
         return Page::Refused(Refusal::Short);

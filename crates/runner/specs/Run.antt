@@ -1,19 +1,17 @@
 -- What running a plan does: the answer, and the work space afterwards.
 use Prim.Native.Nat.{ℕ, zero, suc, _*_}
 use mathlib.Core.List.{List, [], _++_}
-use mathlib.Core.Option.{Option}
-use mathlib.Core.Bool.{Bool, cond, _&&_}
+use mathlib.Core.Bool.{Bool, true, _&&_}
 use lib.Dec.{leb, ltb}
 use lib.IntN.{ℤ}
 use lib.ListN.{length, take, drop}
 use Rattle.nodeset.specs.Words.{wordsOf}
-use Rattle.model.specs.Refusals.{codeOf, lineOf}
+use Rattle.model.specs.Answers.{Answer, value, refusalOf, checked, unlessRefused}
 use Rattle.tables.specs.Layout.{cellCount, valueCount, nodeCount}
 use Rattle.tables.specs.Sizes.{longEnough}
-use Rattle.tables.specs.WellFormed.{wellFormed}
 use Rattle.plan.specs.Layout.{planCount, stepCount}
 use Rattle.plan.specs.Sets.{setAt}
-use Rattle.plan.specs.WellFormed.{planWellFormed}
+use Rattle.plancheck.specs.Both.{bothWellFormed}
 use Rattle.runner.specs.declared.Ran.{Ran}
 use Rattle.runner.specs.declared.Ran.the-variants.{Done, Refused}
 
@@ -21,10 +19,10 @@ use Rattle.runner.specs.declared.Ran.the-variants.{Done, Refused}
 abbrev pub workCount : ℕ
 workCount = 8192
 
--- ---- the answer: what document 01 says of each of its cases, the refusal's number and its line; none where all was done
-abbrev pub saidOf : Ran → Option (ℕ × ℕ)
-saidOf Done = Option.none
-saidOf (Refused r) = Option.some (codeOf r, lineOf r)
+-- ---- each case of the answer: done, with nothing more to say, or the refusal
+abbrev pub answerOf : Ran → Answer (Unit {0})
+answerOf Done = value tt
+answerOf (Refused r) = refusalOf r
 
 -- ---- the work space
 module _ (cs : List ℕ) (vs : List ℤ) (ps : List ℕ) where
@@ -43,16 +41,13 @@ module _ (cs : List ℕ) (vs : List ℤ) (ps : List ℕ) where
 
 -- ---- the whole: names, cells, values, plan and work space as they are lent; each counts up to its limit
 module _ (ns cs : List ℕ) (vs : List ℤ) (ps ws : List ℕ) where
-  -- no ground for 8
-  unfoldable pub lentLong : Bool
-  lentLong = longEnough ns cs vs && (leb planCount (length ps) && leb workCount (length ws))
+  -- every slice is as long as the limits need
+  unfoldable pub runLong : Bool
+  runLong = longEnough ns cs vs && (leb planCount (length ps) && leb workCount (length ws))
 
-  -- no ground for 9
-  unfoldable pub lentRight : Bool
-  lentRight = wellFormed (take cellCount cs) && planWellFormed (take cellCount cs) (take planCount ps)
-
-  unfoldable pub runSaid : Option (ℕ × ℕ)
-  runSaid = cond lentLong (cond lentRight Option.none (Option.some (9, 0))) (Option.some (8, 0))
+  -- 8, then 9, else done; there is nothing for 10
+  unfoldable pub runAnswer : Answer (Unit {0})
+  runAnswer = checked runLong (bothWellFormed (take cellCount cs) (take planCount ps)) true tt
 
   unfoldable pub workAfter : List ℕ
-  workAfter = cond (lentLong && lentRight) (filled (take cellCount cs) (take valueCount vs) (take planCount ps) ws) ws
+  workAfter = unlessRefused runAnswer (filled (take cellCount cs) (take valueCount vs) (take planCount ps) ws) ws

@@ -10,7 +10,7 @@ use nodeset::store;
 use paths::INDEX_CELLS;
 use paths::index_table;
 use plan::PLAN_CELLS;
-use plancheck::plan_well_formed;
+use plancheck::both_well_formed;
 use plancheck::reads::step_code;
 use plancheck::reads::step_count;
 use plancheck::reads::step_first;
@@ -31,13 +31,12 @@ use stepsets::facts_set;
 use stepsets::lang_set;
 use stepsets::path_set;
 use stepsets::plain_set;
-use tablecheck::well_formed;
 use tables::layout::CELLS;
 use tables::layout::VALUES;
 use tables::lent::enough;
 use tables::reads::node_count;
 ghost use mathlib.Core.Path.{_≡_};
-ghost use mathlib.Core.Bool.{true, _&&_};
+ghost use mathlib.Core.Bool.{true};
 ghost use Prim.Native.Nat.{_*_, _<_, _≤_};
 ghost use lib.ListN.{length};
 ghost use Rattle.tables.specs.Layout.{cellCount, nodeCount};
@@ -47,7 +46,7 @@ ghost use Rattle.stepsets.specs.Ends.{Held, RowsFor};
 ghost use Rattle.plan.specs.Layout.{stepAt};
 ghost use Rattle.plan.specs.WellFormed.{stepOk, planWellFormed};
 ghost use Rattle.runner.specs.Kinds.{kindOf};
-ghost use Rattle.runner.specs.Run.{workCount, saidOf, filled, lentLong, runSaid, workAfter};
+ghost use Rattle.runner.specs.Run.{workCount, answerOf, filled, runLong, runAnswer, workAfter};
 ghost use Rattle.runner.specs.Steps.{stepFrom, put};
 
 // How long the work space must be.
@@ -251,22 +250,15 @@ fn run_steps(work: &mut [u64], cells: &[u16], values: &[i64], plan: &[u16])
 
 // No ground for 8: every lent slice is as long as the limits need.
 fn lent_long(names: &[u8], cells: &[u16], values: &[i64], plan: &[u16], work: &[u64]) -> bool
-    ensures { λ r. ⌜ r ≡ lentLong (now (names .entry)) (now (cells .entry)) (now (values .entry)) (now (plan .entry)) (now (work .entry)) ⌝ }
+    ensures { λ r. ⌜ r ≡ runLong (now (names .entry)) (now (cells .entry)) (now (values .entry)) (now (plan .entry)) (now (work .entry)) ⌝ }
 {
     enough(names, cells, values) & ((PLAN_CELLS <= plan.len()) & (WORK_WORDS <= work.len()))
-}
-
-// No ground for 9: the tables are well formed, and the plan for them.
-fn both_right(cells: &[u16], plan: &[u16]) -> bool
-    ensures { λ r. ⌜ r ≡ (wellFormed (now (cells .entry)) && planWellFormed (now (cells .entry)) (now (plan .entry))) ⌝ }
-{
-    well_formed(cells) & plan_well_formed(cells, plan)
 }
 
 // Runs the plan over the tables. Refusal 8: a lent slice is too short; 9: the tables or the plan are not well formed; then
 // nothing has changed. A longer slice counts up to its limit.
 pub fn run(names: &[u8], cells: &[u16], values: &[i64], plan: &[u16], work: &mut [u64]) -> Ran
-    ensures { λ r. ⌜ saidOf r ≡ runSaid (now (names .entry)) (now (cells .entry)) (now (values .entry)) (now (plan .entry)) (now (work .entry)) ⌝ }
+    ensures { λ r. ⌜ answerOf r ≡ runAnswer (now (names .entry)) (now (cells .entry)) (now (values .entry)) (now (plan .entry)) (now (work .entry)) ⌝ }
     ensures { λ _. ⌜ now (work .exit) ≡ workAfter (now (names .entry)) (now (cells .entry)) (now (values .entry)) (now (plan .entry)) (now (work .entry)) ⌝ }
 {
     if !lent_long(names, cells, values, plan, &work[..]) {
@@ -274,7 +266,7 @@ pub fn run(names: &[u8], cells: &[u16], values: &[i64], plan: &[u16], work: &mut
     }
     let cs = &cells[..CELLS];
     let ps = &plan[..PLAN_CELLS];
-    if !both_right(cs, ps) {
+    if !both_well_formed(cs, ps) {
         return Ran::Refused(Refusal::Malformed);
     }
     run_steps(work, cs, &values[..VALUES], ps);

@@ -1,8 +1,7 @@
 -- Tables that are long enough and well formed get no refusal: not from compile, and not from run on the plan that compile left.
 use Prim.Native.Nat.{ℕ, _≤_}
 use mathlib.Core.List.{List, _++_}
-use mathlib.Core.Option.{Option}
-use mathlib.Core.Bool.{true, _&&_, true≢false}
+use mathlib.Core.Bool.{true, _&&_}
 use mathlib.Core.Path.{_≡_, refl, sym, ap, ap₂, _∙_}
 use native.Mathlib.Omega.{arith}
 use lib.Dec.{leb}
@@ -10,50 +9,49 @@ use lib.IntN.{ℤ}
 use lib.ListN.{length, take, drop, length-append}
 use lib.Seq.{take-at}
 use borrow.Author.Tests.{le-leb}
-use Rattle.base.proofs.Bools.{and-both, never-both}
+use Rattle.base.proofs.Bools.{and-both}
 use Rattle.model.specs.declared.Refusal.{Refusal}
-use Rattle.model.specs.Graph.{holds}
+use Rattle.model.specs.Answers.{value}
+use Rattle.model.proofs.Answers.{same-value, not-refused, done}
 use Rattle.tables.specs.Layout.{cellCount, valueCount, ruleCount}
 use Rattle.tables.specs.Sizes.{longEnough}
 use Rattle.tables.specs.WellFormed.{wellFormed}
 use Rattle.plan.specs.Layout.{planCount}
 use Rattle.plan.specs.WellFormed.{planWellFormed}
+use Rattle.plancheck.proofs.Both.{both-formed}
 use Rattle.translation.specs.Compile.{stepsOf, planOf}
 use Rattle.translation.proofs.Plans.{length-planOf}
 use Rattle.compiler.specs.declared.Compiled.{Compiled}
 use Rattle.compiler.specs.declared.Compiled.the-variants as compiled
 use Rattle.compiler.specs.Answers as compiles
-use Rattle.compiler.proofs.Answers as compile-told
+use Rattle.compiler.proofs.Answers.{compile-answers, long-both}
 use Rattle.runner.specs.declared.Ran.{Ran}
 use Rattle.runner.specs.declared.Ran.the-variants as ran
 use Rattle.runner.specs.Run as runs
-use Rattle.runner.proofs.Answers as run-told
+use Rattle.runner.proofs.Answers.{run-answers}
 use Rattle.lists.specs.Rows.{listIn, withRows, withLengths}
 use Rattle.tablerun.specs.Lists.{listAt}
 use Rattle.tablerun.proofs.Lists.{bare-well-formed, rule-nodes, rows-same, lengths-same}
-
--- done is no refusal
-pub not-refused : (x : Ran) (r : Refusal) → runs.saidOf x ≡ Option.none → x ≡ ran.Refused r → ⊥
-unfolding holds
-not-refused x r e f = true≢false (ap (holds (λ k. true)) (ap runs.saidOf (sym f) ∙ e))
 
 module _ (ns cells : List ℕ) (values : List ℤ) (ps : List ℕ) (long : longEnough ns cells values ≡ true) (ok : wellFormed (take cellCount cells) ≡ true) (room : planCount ≤ length ps) where
   abbrev cs : List ℕ
   cs = take cellCount cells
 
-  lent : compiles.lentOk ns cells values ps ≡ true
-  lent = and-both (longEnough ns cells values) (leb planCount (length ps)) long (le-leb planCount (length ps) room)
-
   -- ---- compile
+  compile-done : (value (length (stepsOf cs)) ≡ compiles.compileAnswer ns cells values ps) × (planOf cs ++ drop planCount ps ≡ compiles.planAfter ns cells values ps)
+  compile-done = done (compile-answers ns cells values ps) (long-both ns cells values ps long room) ok refl refl refl
+
+  pub compile-value : compiles.compileAnswer ns cells values ps ≡ value (length (stepsOf cs))
+  compile-value = sym (compile-done .0)
+
   pub never-refused : (x : Compiled) (r : Refusal) → compiles.answerOf x ≡ compiles.compileAnswer ns cells values ps → x ≡ compiled.Refused r → ⊥
-  never-refused x r e f = never-both lent (compile-told.told-refused ns cells values ps r (ap compiles.answerOf (sym f) ∙ e) ok .0)
+  never-refused x r e f = not-refused (sym (ap compiles.answerOf (sym f) ∙ e ∙ compile-value))
 
   pub steps-told : (x : Compiled) (n : ℕ) → compiles.answerOf x ≡ compiles.compileAnswer ns cells values ps → x ≡ compiled.Steps n → n ≡ length (stepsOf cs)
-  steps-told x n e f = compile-told.told-steps ns cells values ps n (ap compiles.answerOf (sym f) ∙ e) .2
+  steps-told x n e f = same-value (ap compiles.answerOf (sym f) ∙ e ∙ compile-value)
 
   pub plan-left : compiles.planAfter ns cells values ps ≡ planOf cs ++ drop planCount ps
-  unfolding compiles.planAfter
-  plan-left = rw (lent, ok) refl
+  plan-left = sym (compile-done .1)
 
   -- ---- run, on the plan that compile left
   module _ (qs ws : List ℕ) (made : qs ≡ planOf cs ++ drop planCount ps) (space : runs.workCount ≤ length ws) where
@@ -66,20 +64,21 @@ module _ (ns cells : List ℕ) (values : List ℤ) (ps : List ℕ) (long : longE
     plan-long : planCount ≤ length qs
     plan-long = omega (arith, ap length made, length-append (planOf cs) (drop planCount ps), length-planOf cs)
 
-    run-lent : runs.lentLong ns cells values qs ws ≡ true
-    unfolding runs.lentLong
-    run-lent = and-both (longEnough ns cells values) (leb planCount (length qs) && leb runs.workCount (length ws)) long (and-both (leb planCount (length qs)) (leb runs.workCount (length ws)) (le-leb planCount (length qs) plan-long) (le-leb runs.workCount (length ws) space))
+    run-long : runs.runLong ns cells values qs ws ≡ true
+    unfolding runs.runLong
+    run-long = and-both (longEnough ns cells values) (leb planCount (length qs) && leb runs.workCount (length ws)) long (and-both (leb planCount (length qs)) (leb runs.workCount (length ws)) (le-leb planCount (length qs) plan-long) (le-leb runs.workCount (length ws) space))
 
-    run-right : runs.lentRight ns cells values qs ws ≡ true
-    unfolding runs.lentRight
-    run-right = and-both (wellFormed cs) (planWellFormed cs (take planCount qs)) ok plan-right
+    run-done : (value tt ≡ runs.runAnswer ns cells values qs ws) × (runs.filled cs (take valueCount values) (take planCount qs) ws ≡ runs.workAfter ns cells values qs ws)
+    run-done = done (run-answers ns cells values qs ws) run-long (both-formed cs (take planCount qs) ok plan-right) refl refl refl
 
-    pub run-done : runs.runSaid ns cells values qs ws ≡ Option.none
-    unfolding runs.runSaid
-    run-done = rw (run-lent, run-right) refl
+    pub run-value : runs.runAnswer ns cells values qs ws ≡ value tt
+    run-value = sym (run-done .0)
+
+    pub run-never-refused : (x : Ran) (r : Refusal) → runs.answerOf x ≡ runs.runAnswer ns cells values qs ws → x ≡ ran.Refused r → ⊥
+    run-never-refused x r e f = not-refused (sym (ap runs.answerOf (sym f) ∙ e ∙ run-value))
 
     pub work-left : runs.workAfter ns cells values qs ws ≡ runs.filled cs (take valueCount values) (planOf cs) ws
-    work-left = run-told.after-done ns cells values qs ws run-lent run-right ∙ ap (λ p. runs.filled cs (take valueCount values) p ws) plan-cells
+    work-left = sym (run-done .1) ∙ ap (λ p. runs.filled cs (take valueCount values) p ws) plan-cells
 
     -- ---- the lists, read off the work space that run left
     module _ (done : List ℕ) (e : done ≡ runs.filled cs (take valueCount values) (planOf cs) ws) (ls : List ℕ) where

@@ -3,3 +3,4 @@ pub mod Cleared
 pub mod WellFormed
 pub mod Decode
 pub mod Sizes
+pub mod Beside

@@ -6,15 +6,15 @@ use mathlib.Core.Bool.{true}
 use native.Mathlib.Omega.{arith}
 use lib.ListN.{length, take, drop}
 use lib.Seq.{take-at}
+use Rattle.model.specs.Answers.{value}
 use Rattle.model.specs.Books.{Book, rules}
 use Rattle.tables.specs.Layout.{nameCount, cellCount}
 use Rattle.encoding.specs.Encode.{encodeCells}
 use Rattle.encoding.proofs.Counts.{cells-length}
 use Rattle.grammar.specs.Writing.{render}
 use Rattle.grammar.specs.Valid.{valid}
-use Rattle.grammar.specs.Reading.{accepted}
 use Rattle.grammar.proofs.Books.{reading-iff, valid-admissible}
-use Rattle.validation.specs.Lent.{Lent, long}
+use Rattle.validation.specs.Lent.{Lent, validateLong}
 use Rattle.validation.specs.Whole.{left, after}
 use Rattle.validation.proofs.Books.{few-rules}
 use Rattle.validation.proofs.Whole.{Room, room}
@@ -26,12 +26,12 @@ use Rattle.report.proofs.Book.{holds-rows, report-read}
 abbrev pub written : Lent → ℕ → List ℕ
 written m n = joined (partIn (m .names) (take cellCount (m .cells)) (m .lists) (m .lengths)) (n + 2)
 
-pub program-report : (s : List ℕ) (l : Lent) → long l ≡ true → (b : Book) → valid b ≡ true → render b ≡ s → written (after s l) (length (rules b)) ≡ report b
+pub program-report : (s : List ℕ) (l : Lent) → validateLong l ≡ true → (b : Book) → valid b ≡ true → render b ≡ s → written (after s l) (length (rules b)) ≡ report b
 unfolding after
 program-report s l e b v r =
     rw (e, reading-iff s b .1 (v, r))
     (let fits : Room l = room l e in
     let few = few-rules b (valid-admissible b v) in
-    let m : Lent = left (accepted b) l in
+    let m : Lent = left (value b) l in
     ap (λ c. joined (partIn (m .names) c (m .lists) (m .lengths)) (length (rules b) + 2)) (take-at (encodeCells b) (drop cellCount (l .cells)) cellCount (cells-length b))
     ∙ report-read b v (m .lists) (m .lengths) (holds-rows b v (l .lists) (l .lengths) (omega (arith, fits .lists, few)) (omega (arith, fits .lengths, few))) (drop nameCount (l .names)))

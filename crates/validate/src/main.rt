@@ -9,11 +9,12 @@ use validation::Validated;
 use validation::validate;
 ghost use Prim.Native.Nat.{_≤_};
 ghost use lib.ListN.{length};
-ghost use Rattle.report.specs.Answers.{saidOf};
+ghost use Rattle.model.specs.Answers.{valueOr};
+ghost use Rattle.report.specs.Answers.{answerOf};
 
 // What was written to the page; nothing where that was refused.
 fn print(page: &[u8], written: Page)
-    requires { ⌜ saidOf written .bytes ≤ length (now page) ⌝ }
+    requires { ⌜ valueOr 0 (answerOf written) ≤ length (now page) ⌝ }
 {
     match written {
         Page::Bytes(n) => {

@@ -4,7 +4,6 @@
 use Prim.Native.Nat.{ℕ, _+_, _*_, _<_, _≤_}
 use mathlib.Core.Path.{_≡_, refl, sym, ap, ap₂, subst, _∙_}
 use mathlib.Core.List.{List, _++_}
-use mathlib.Core.Option.{Option}
 use mathlib.Core.Bool.{Bool, true, false, cond, _&&_}
 use native.Mathlib.Omega.{arith}
 use lib.Dec.{leb, ltb}
@@ -12,6 +11,8 @@ use lib.IntN.{ℤ}
 use lib.ListN.{length, take, drop, length-append, length-drop}
 use borrow.Author.Tests.{leb-true, lt-ltb}
 use Rattle.base.proofs.Bools.{bool-cases, and-left, and-right, and-both}
+use Rattle.model.specs.Answers.{value, refusal}
+use Rattle.model.proofs.Answers.{short, done}
 use Rattle.model.specs.Limits.{maxNodes}
 use Rattle.model.specs.Books.{Book, rules, listOf}
 use Rattle.model.specs.Sizes.{formsIn}
@@ -27,13 +28,17 @@ use Rattle.plan.specs.Layout.{planCount, stepCount}
 use Rattle.plan.specs.WellFormed.{planWellFormed}
 use Rattle.translation.specs.Compile.{stepsOf, planOf}
 use Rattle.compiler.specs.Answers as compiles
+use Rattle.compiler.proofs.Answers.{compile-answers}
 use Rattle.runner.specs.Run as runs
+use Rattle.runner.proofs.Answers.{run-answers}
 use Rattle.runner.proofs.Work.{length-filled}
+use Rattle.plancheck.specs.Both.{bothWellFormed}
+use Rattle.plancheck.proofs.Both.{both-formed}
 use Rattle.plancheck.proofs.WellFormed as plans
 use Rattle.translation.proofs.Plans.{length-planOf}
 use Rattle.lists.specs.Rows.{over, listIn}
 use Rattle.lists.specs.Answers as lists
-use Rattle.lists.proofs.Answers.{short, done}
+use Rattle.lists.proofs.Answers.{list-answers}
 use Rattle.tablerun.proofs.Answers as tablerun
 use Rattle.tablerun.proofs.Lists.{bare-well-formed, rule-nodes}
 use Rattle.validation.specs.Claim.{ruleOf}
@@ -73,13 +78,12 @@ module _ (s ns cs : List ℕ) (vs : List ℤ) (e : longEnough ns cs vs ≡ true)
     abbrev pub plan′ : List ℕ
     plan′ = compiles.planAfter n c w ps
 
-    pub compiled-by-hand : compiles.compileAnswer n c w ps ≡ cond planFits (compiles.accepted (length (stepsOf cells))) (compiles.refused 8)
+    pub compiled-by-hand : compiles.compileAnswer n c w ps ≡ cond planFits (value (length (stepsOf cells))) (refusal 8 0)
     unfolding compiles.compileAnswer
     compiled-by-hand = rw (long′, right′, cells-read s ns cs vs e b v r) refl
 
     unchanged : planFits ≡ false → plan′ ≡ ps
-    unfolding compiles.planAfter
-    unchanged t = rw (long′, t) refl
+    unchanged t = sym (short (compile-answers n c w ps) (ap₂ (λ (x y : Bool). x && y) long′ t) .1)
 
     module _ (t : planFits ≡ true) where
       plan-room : planCount ≤ length ps
@@ -104,8 +108,8 @@ module _ (s ns cs : List ℕ) (vs : List ℤ) (e : longEnough ns cs vs ≡ true)
       abbrev pub work′ : List ℕ
       work′ = runs.workAfter n c w plan′ ws
 
-      run-long : runs.lentLong n c w plan′ ws ≡ workFits
-      unfolding runs.lentLong
+      run-long : runs.runLong n c w plan′ ws ≡ workFits
+      unfolding runs.runLong
       run-long = rw (long′, plan-length) refl
 
       module _ (t : workFits ≡ true) where
@@ -126,17 +130,16 @@ module _ (s ns cs : List ℕ) (vs : List ℤ) (e : longEnough ns cs vs ≡ true)
             tablerun.work-left n c w ps long′ right′ (plan-room plan-fits) plan′ ws (made plan-fits) work-room
             ∙ ap₂ (λ k x. runs.filled k x (planOf k) ws) (cells-read s ns cs vs e b v r) (values-read s ns cs vs e b v r)
 
-        ran : runs.runSaid n c w plan′ ws ≡ Option.none
-        ran = tablerun.run-done n c w ps long′ right′ (plan-room plan-fits) plan′ ws (made plan-fits) work-room
+        ran : runs.runAnswer n c w plan′ ws ≡ value tt
+        ran = tablerun.run-value n c w ps long′ right′ (plan-room plan-fits) plan′ ws (made plan-fits) work-room
 
-      not-run : workFits ≡ false → (runs.runSaid n c w plan′ ws ≡ Option.some (8, 0)) × (work′ ≡ ws)
-      unfolding runs.runSaid runs.workAfter
-      not-run t = (rw (run-long, t) refl, rw (run-long, t) refl)
+      not-run : workFits ≡ false → (refusal 8 0 ≡ runs.runAnswer n c w plan′ ws) × (ws ≡ work′)
+      not-run t = short (run-answers n c w plan′ ws) (run-long ∙ t)
 
-      pub ran-by-hand : runs.runSaid n c w plan′ ws ≡ cond workFits Option.none (Option.some (8, 0))
+      pub ran-by-hand : runs.runAnswer n c w plan′ ws ≡ cond workFits (value tt) (refusal 8 0)
       ran-by-hand =
-          bool-cases (λ t. workFits ≡ t → runs.runSaid n c w plan′ ws ≡ cond t Option.none (Option.some (8, 0))) workFits
-          (λ _ t. ran t) (λ _ t. not-run t .0) refl
+          bool-cases (λ t. workFits ≡ t → runs.runAnswer n c w plan′ ws ≡ cond t (value tt) (refusal 8 0)) workFits
+          (λ _ t. ran t) (λ _ t. sym (not-run t .0)) refl
 
       work-length : length work′ ≡ length ws
       work-length =
@@ -144,7 +147,7 @@ module _ (s ns cs : List ℕ) (vs : List ℤ) (e : longEnough ns cs vs ≡ true)
           (λ _ t.
           let few = plans.sound cells (planOf cells) (bare-well-formed cells (well-formed b (fine s ns cs vs e b v r))) .steps in
           ap length (filled t) ∙ length-filled cells (encodeValues b) (planOf cells) ws (let z : 16 * stepCount (planOf cells) ≤ length ws = omega (arith, few, work-room t) in z))
-          (λ _ t. ap length (not-run t .1))
+          (λ _ t. ap length (sym (not-run t .1)))
           refl
 
       -- ---- list, of a rule that the book has
@@ -156,12 +159,12 @@ module _ (s ns cs : List ℕ) (vs : List ℤ) (e : longEnough ns cs vs ≡ true)
         abbrev list : List ℕ
         list = listOf b (ruleOf b k)
 
-        list-long : lists.long n c w plan′ work′ row ≡ rowFits
-        unfolding lists.long
+        list-long : lists.listLong n c w plan′ work′ row ≡ rowFits
+        unfolding lists.listLong
         list-long = rw (long′, plan-length, work-length) refl
 
         abbrev Listed : Bool → Type 0
-        Listed t = (lists.listSaid n c w plan′ work′ k row ≡ cond t (lists.listed (length list)) (lists.refused 8)) × (lists.rowAfter n c w plan′ work′ k row ≡ cond t (over list row) row)
+        Listed t = (lists.listAnswer n c w plan′ work′ k row ≡ cond t (value (length list)) (refusal 8 0)) × (lists.rowAfter n c w plan′ work′ k row ≡ cond t (over list row) row)
 
         known : k < ruleCount cells
         known = subst (λ m. k < m) (sym (rules-counted b)) low
@@ -170,19 +173,19 @@ module _ (s ns cs : List ℕ) (vs : List ℤ) (e : longEnough ns cs vs ≡ true)
         all-fit t =
             let rest : Bool = leb runs.workCount (length ws) && leb maxNodes (length row) in
             let fit : workFits ≡ true = and-both planFits (leb runs.workCount (length ws)) (and-left planFits rest t) (and-left (leb runs.workCount (length ws)) (leb maxNodes (length row)) (and-right planFits rest t)) in
-            let nodes-are : lists.nodesOf n c w plan′ work′ k row ≡ list =
+            let nodes-are : lists.listed n c w plan′ work′ k row ≡ list =
             ap (λ x. listIn x (take planCount plan′) work′ k) (cells-read s ns cs vs e b v r)
             ∙ ap₂ (λ p x. listIn cells p x k) (plan-is fit) (filled fit)
             ∙ rule-nodes cells (well-formed b (fine s ns cs vs e b v r)) (encodeValues b) ws k known
             ∙ list-read b (fine s ns cs vs e b v r) k low in
-            let both : (wellFormed (take cellCount c) && planWellFormed (take cellCount c) (take planCount plan′)) ≡ true = and-both (wellFormed (take cellCount c)) (planWellFormed (take cellCount c) (take planCount plan′)) right′ (plan-right fit) in
+            let both : bothWellFormed (take cellCount c) (take planCount plan′) ≡ true = both-formed (take cellCount c) (take planCount plan′) right′ (plan-right fit) in
             let found : ltb k (ruleCount (take cellCount c)) ≡ true = ap (λ x. ltb k (ruleCount x)) (cells-read s ns cs vs e b v r) ∙ lt-ltb k (ruleCount cells) known in
-            let said = done n c w plan′ work′ k row (list-long ∙ t) both found (length list) (over list row) (ap length (sym nodes-are)) (ap (λ xs. over xs row) (sym nodes-are)) in
+            let said = done (list-answers n c w plan′ work′ k row) (list-long ∙ t) both found (ap length (sym nodes-are)) (ap (λ xs. over xs row) (sym nodes-are)) in
             (sym (said .0), sym (said .1))
 
         too-short : rowFits ≡ false → Listed false
         too-short t =
-            let said = short n c w plan′ work′ k row (list-long ∙ t) in
+            let said = short (list-answers n c w plan′ work′ k row) (list-long ∙ t) in
             (sym (said .0), sym (said .1))
 
         pub listed-by-hand : Listed rowFits

@@ -7,6 +7,7 @@ use native.Mathlib.Omega.{arith}
 use lib.IntN.{ℤ}
 use lib.ListN.{length, take, drop, length-append, length-drop}
 use lib.Seq.{take-at}
+use Rattle.model.specs.Answers.{value}
 use Rattle.model.specs.Books.{Book}
 use Rattle.model.specs.Valid.{admissible}
 use Rattle.tables.specs.Layout.{nameCount, cellCount, valueCount}
@@ -18,7 +19,7 @@ use Rattle.encoding.proofs.Counts.{names-length, cells-length, values-length}
 use Rattle.encoding.proofs.WellFormed.{well-formed}
 use Rattle.grammar.specs.Writing.{render}
 use Rattle.grammar.specs.Valid.{valid}
-use Rattle.grammar.specs.Reading.{accepted, reading}
+use Rattle.grammar.specs.Reading.{reading}
 use Rattle.grammar.proofs.Books.{reading-iff, valid-admissible}
 use Rattle.reader.specs.Answers as reads
 use Rattle.validation.proofs.Whole.{names-left, cells-left, values-left, long-kept}
@@ -28,7 +29,7 @@ same-length : {A : Type 0} (xs l : List A) (n : ℕ) → length xs ≡ n → n �
 same-length xs l n e room = omega (arith, e, room, length-append xs (drop n l), length-drop n l)
 
 module _ (s ns cs : List ℕ) (vs : List ℤ) (e : longEnough ns cs vs ≡ true) (b : Book) (v : valid b ≡ true) (r : render b ≡ s) where
-  pub read-as : reading s ≡ accepted b
+  pub read-as : reading s ≡ value b
   read-as = reading-iff s b .1 (v, r)
 
   pub fine : admissible b ≡ true
@@ -45,13 +46,13 @@ module _ (s ns cs : List ℕ) (vs : List ℤ) (e : longEnough ns cs vs ≡ true)
   values′ = reads.valuesOf s ns cs vs
 
   names-are : names′ ≡ encodeNames b ++ drop nameCount ns
-  names-are = names-left s ns cs vs e (accepted b) read-as
+  names-are = names-left s ns cs vs e (value b) read-as
 
   cells-are : cells′ ≡ encodeCells b ++ drop cellCount cs
-  cells-are = cells-left s ns cs vs e (accepted b) read-as
+  cells-are = cells-left s ns cs vs e (value b) read-as
 
   values-are : values′ ≡ encodeValues b ++ drop valueCount vs
-  values-are = values-left s ns cs vs e (accepted b) read-as
+  values-are = values-left s ns cs vs e (value b) read-as
 
   pub cells-read : take cellCount cells′ ≡ encodeCells b
   cells-read = ap (take cellCount) cells-are ∙ take-at (encodeCells b) (drop cellCount cs) cellCount (cells-length b)

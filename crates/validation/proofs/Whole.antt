@@ -12,8 +12,9 @@ use borrow.Author.Tests.{leb-true}
 use Rattle.base.specs.Lists.{member, ascending}
 use Rattle.base.proofs.Bools.{and-left, and-right}
 use Rattle.model.specs.declared.Refusal.{Refusal}
+use Rattle.model.specs.Answers.{Answer, value, refusal, mapValue}
+use Rattle.model.proofs.Answers.{same-refusal, not-refused}
 use Rattle.model.specs.Refusals.{codeOf, lineOf}
-use Rattle.model.proofs.Refusals.{code-range}
 use Rattle.model.specs.Books.{Book, rules, listOf}
 use Rattle.tables.specs.Layout.{nameCount, cellCount, valueCount, ruleCount}
 use Rattle.tables.specs.Sizes.{longEnough}
@@ -22,9 +23,8 @@ use Rattle.encoding.specs.Encode.{encodeNames, encodeCells, encodeValues}
 use Rattle.encoding.proofs.Counts.{names-length, cells-length, values-length, rules-counted}
 use Rattle.encoding.proofs.WellFormed.{well-formed}
 use Rattle.grammar.specs.Valid.{valid}
-use Rattle.grammar.specs.Reading.{Outcome, accepted, turnedDown, reading}
+use Rattle.grammar.specs.Reading.{reading}
 use Rattle.grammar.proofs.Books.{reading-iff, one-book, refused-only, valid-admissible}
-use Rattle.grammar.proofs.GroundsBooks.{other-refusals}
 use Rattle.plan.specs.Layout.{planCount, stepCount}
 use Rattle.translation.specs.Compile.{stepsOf, planOf}
 use Rattle.translation.proofs.Plans.{plan-count, length-planOf}
@@ -37,10 +37,10 @@ use Rattle.lists.specs.Rows.{listCount, lengthCount, listIn, rowIn, withRows, w
 use Rattle.lists.proofs.ReadOff.{row-read}
 use Rattle.tablerun.specs.Lists.{listAt}
 use Rattle.tablerun.proofs.Lists.{rule-nodes, rows-same, lengths-same}
-use Rattle.validation.specs.Claim.{ruleOf, Right, Said, steps, refusal, Demand3}
+use Rattle.validation.specs.Claim.{ruleOf, Right, Demand3}
 use Rattle.model.specs.declared.Counts.{Counts}
-use Rattle.validation.specs.Lent.{Lent, lent, long, namesIn, cellsIn, valuesIn, planIn}
-use Rattle.validation.specs.Whole.{answered, left, said, after}
+use Rattle.validation.specs.Lent.{Lent, lent, validateLong, namesIn, cellsIn, valuesIn, planIn}
+use Rattle.validation.specs.Whole.{left, validateAnswer, after}
 use Rattle.validation.proofs.Books.{list-read, steps-few, few-nodes, few-rules, listed-exactly, listed-ordered, listed-few}
 
 -- the slices are as long as the limits
@@ -51,8 +51,8 @@ pub record Room (l : Lent) : Type 0 where
   pub lists : listCount ≤ length (l .lists)
   pub lengths : lengthCount ≤ length (l .lengths)
 
-pub room : (l : Lent) → long l ≡ true → Room l
-unfolding long
+pub room : (l : Lent) → validateLong l ≡ true → Room l
+unfolding validateLong
 room l e =
     let t : Bool = longEnough (l .names) (l .cells) (l .values) in
     let p : Bool = leb planCount (length (l .plan)) in
@@ -72,22 +72,22 @@ room l e =
 
 -- what a way through the run must give: the claim, the answer, and what is left in the slices
 module _ (s : List ℕ) (l : Lent) where
-  abbrev pub Meets : Said → Lent → Type 0
-  Meets a m = Demand3 s l a m × ((a ≡ said s l) × (m ≡ after s l))
+  abbrev pub Meets : Answer ℕ → Lent → Type 0
+  Meets a m = Demand3 s l a m × ((a ≡ validateAnswer s l) × (m ≡ after s l))
 
   -- ---- 8: nothing has changed
-  pub too-short : long l ≡ false → Meets (refusal 8 0) l
-  unfolding said after
+  pub too-short : validateLong l ≡ false → Meets (refusal 8 0) l
+  unfolding validateAnswer after
   too-short e = ((λ b v r. (e, refl, refl, refl)), (rw e, rw e))
 
-  module _ (e : long l ≡ true) where
+  module _ (e : validateLong l ≡ true) where
     -- ---- a refused book
-    pub turned-down : (k line : ℕ) → reading s ≡ turnedDown k line → Meets (refusal k line) (left (turnedDown k line) l)
-    unfolding said after
+    pub turned-down : (k line : ℕ) → reading s ≡ refusal k line → Meets (refusal k line) (left (refusal k line) l)
+    unfolding validateAnswer after
     turned-down k line q = ((λ b v r. absurd (refused-only s k line q b v r)), (rw (e, q) refl, rw (e, q) refl))
 
     -- ---- an accepted one
-    module _ (b : Book) (q : reading s ≡ accepted b) where
+    module _ (b : Book) (q : reading s ≡ value b) where
       pub is-valid : valid b ≡ true
       is-valid = reading-iff s b .0 q .0
 
@@ -102,7 +102,7 @@ module _ (s : List ℕ) (l : Lent) where
 
       -- what is left, tables and plan up to their limits
       abbrev m : Lent
-      m = left (accepted b) l
+      m = left (value b) l
 
       fine : wellFormed (encodeCells b) ≡ true
       fine = well-formed b (valid-admissible b is-valid)
@@ -156,35 +156,31 @@ module _ (s : List ℕ) (l : Lent) where
             few = steps-few b (valid-admissible b is-valid);
           }
 
-      pub taken : Meets (steps n) m
-      unfolding said after
+      pub taken : Meets (value n) m
+      unfolding validateAnswer after
       taken = ((λ a v r. (e, subst (λ x. Right x m n) (one-book b a is-valid v (reading-iff s b .0 q .1 ∙ sym r)) right)), (rw (e, q) refl, rw (e, q) refl))
 
 -- ---- what read's answer tells, for tables that are long enough
 module _ (s ns cs : List ℕ) (vs : List ℤ) (e : longEnough ns cs vs ≡ true) where
-  by-reading : reads.readAnswer s ns cs vs ≡ reads.answered (reading s)
+  by-reading : reads.readAnswer s ns cs vs ≡ mapValue reads.countsIn (reading s)
   unfolding reads.readAnswer
   by-reading = rw e refl
 
-  pub was-refused : (x : ReadAnswer) (r : Refusal) → reads.answerOf x ≡ reads.readAnswer s ns cs vs → x ≡ answers.Refused r → reading s ≡ turnedDown (codeOf r) (lineOf r)
+  pub was-refused : (x : ReadAnswer) (r : Refusal) → reads.answerOf x ≡ reads.readAnswer s ns cs vs → x ≡ answers.Refused r → reading s ≡ refusal (codeOf r) (lineOf r)
   was-refused x r p q = go (reading s) refl (ap reads.answerOf (sym q) ∙ p ∙ by-reading)
     where
-      go : (o : Outcome) → reading s ≡ o → reads.answerOf (answers.Refused r) ≡ reads.answered (reading s) → reading s ≡ turnedDown (codeOf r) (lineOf r)
-      go (accepted b) a d = absurd (let z : codeOf r ≡ 0 = ap (λ (y : reads.Answer). y .refusal) (d ∙ ap reads.answered a) in let f : ⊥ = omega (arith, code-range r .0) in f)
-      go (turnedDown k line) a d =
-          let y = d ∙ ap reads.answered a in
-          a ∙ ap₂ turnedDown (ap (λ (x : reads.Answer). x .refusal) (sym y)) (ap (λ (x : reads.Answer). x .line) (sym y))
+      go : (o : Answer Book) → reading s ≡ o → reads.answerOf (answers.Refused r) ≡ mapValue reads.countsIn (reading s) → reading s ≡ refusal (codeOf r) (lineOf r)
+      go (value b) a d = absurd (not-refused (sym (d ∙ ap (mapValue reads.countsIn) a)))
+      go (refusal k line) a d = let y = same-refusal (d ∙ ap (mapValue reads.countsIn) a) in a ∙ ap₂ refusal (sym (y .0)) (sym (y .1))
 
-  pub was-accepted : (x : ReadAnswer) (n : Counts) → reads.answerOf x ≡ reads.readAnswer s ns cs vs → x ≡ answers.Accepted n → (b : Book) × (reading s ≡ accepted b)
+  pub was-accepted : (x : ReadAnswer) (n : Counts) → reads.answerOf x ≡ reads.readAnswer s ns cs vs → x ≡ answers.Accepted n → (b : Book) × (reading s ≡ value b)
   was-accepted x n p q = go (reading s) refl (ap reads.answerOf (sym q) ∙ p ∙ by-reading)
     where
-      go : (o : Outcome) → reading s ≡ o → reads.answerOf (answers.Accepted n) ≡ reads.answered (reading s) → (b : Book) × (reading s ≡ accepted b)
-      go (accepted b) a d = (b, a)
-      go (turnedDown k line) a d =
-          let z : 0 ≡ k = ap (λ (y : reads.Answer). y .refusal) (d ∙ ap reads.answered a) in
-          absurd (let f : ⊥ = omega (arith, z, other-refusals s k line a (λ i. omega (arith, z, i)) .0) in f)
+      go : (o : Answer Book) → reading s ≡ o → reads.answerOf (answers.Accepted n) ≡ mapValue reads.countsIn (reading s) → (b : Book) × (reading s ≡ value b)
+      go (value b) a d = (b, a)
+      go (refusal k line) a d = absurd (not-refused (d ∙ ap (mapValue reads.countsIn) a))
 
-  module _ (o : Outcome) (a : reading s ≡ o) where
+  module _ (o : Answer Book) (a : reading s ≡ o) where
     pub names-left : reads.namesOf s ns cs vs ≡ reads.namesLeft o ns
     unfolding reads.namesOf
     names-left = rw (e, a) refl
@@ -232,6 +228,6 @@ pub long-kept : (ns ns′ cs cs′ : List ℕ) (vs vs′ : List ℤ) → longEno
 unfolding longEnough
 long-kept ns ns′ cs cs′ vs vs′ e p q r = rw (p, q, r) e
 
-pub long-by : (l : Lent) {tables : Bool} → tables ≡ longEnough (l .names) (l .cells) (l .values) → (tables && (leb planCount (length (l .plan)) && (leb workCount (length (l .work)) && (leb listCount (length (l .lists)) && leb lengthCount (length (l .lengths)))))) ≡ long l
-unfolding long
+pub long-by : (l : Lent) {tables : Bool} → tables ≡ longEnough (l .names) (l .cells) (l .values) → (tables && (leb planCount (length (l .plan)) && (leb workCount (length (l .work)) && (leb listCount (length (l .lists)) && leb lengthCount (length (l .lengths)))))) ≡ validateLong l
+unfolding validateLong
 long-by l e = ap (λ (t : Bool). t && (leb planCount (length (l .plan)) && (leb workCount (length (l .work)) && (leb listCount (length (l .lists)) && leb lengthCount (length (l .lengths)))))) e

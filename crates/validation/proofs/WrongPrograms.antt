@@ -20,6 +20,7 @@ use Rattle.nodeset.proofs.Bits.{bit-zero}
 use Rattle.nodeset.proofs.Sets.{has-drop, has-take, has-of}
 use Rattle.text.specs.Items.{nameByte, isName}
 use Rattle.text.specs.Decimals.{signed, decimal, digitsOf}
+use Rattle.model.specs.Answers.{Answer, value, refusal}
 use Rattle.model.specs.Graph.{valueOf, datatypeOf, languageOf, holds, hasTriple}
 use Rattle.model.specs.Paths.{ends, endsOf}
 use Rattle.model.specs.Shapes.{isKind, satisfies, within, subset, noneShared, allPairs, less, lessEq, sameLang, conforms, expand}
@@ -44,12 +45,12 @@ use Rattle.translation.specs.Compile.{planOf}
 use Rattle.runner.specs.Run.{workCount, setWords}
 use Rattle.lists.specs.Rows.{listIn}
 use Rattle.tablerun.proofs.Lists.{bare-well-formed}
-use Rattle.validation.specs.Lent.{Lent, long, cellsIn, valuesIn, planIn}
-use Rattle.validation.specs.Claim.{ruleOf, violatesIn, Right, Said, steps, refusal, Answers, Demand3}
+use Rattle.validation.specs.Lent.{Lent, validateLong, cellsIn, valuesIn, planIn}
+use Rattle.validation.specs.Claim.{ruleOf, violatesIn, Right, Answers, Demand3}
 
 -- ---- where the slices are long enough, the answer is a number of steps
-rightly : (b : Book) (before after : Lent) (a : Said) → Answers b before a after → long before ≡ true → (n : ℕ) × Right b after n
-rightly b before after (steps n) q e = (n, q .1)
+rightly : (b : Book) (before after : Lent) (a : Answer ℕ) → Answers b before a after → validateLong before ≡ true → (n : ℕ) × Right b after n
+rightly b before after (value n) q e = (n, q .1)
 rightly b before after (refusal k line) q e = absurd (never-both e (q .0))
 
 -- what breaks a rule stands in the words of the rule's step
@@ -62,7 +63,7 @@ module _ (b : Book) (after : Lent) (n : ℕ) (h : Right b after n) where
       (sym (member-members s (nodeCount (cellsIn after)) v) ∙ sym (ap (member v) (h .readOff r low)) ∙ h .exactly r low v ∙ e)
 
 -- ---- a program that answers 8 always
-pub always-8 : (before after : Lent) → Demand3 (render bookB) before (refusal 8 0) after → long before ≡ true → ⊥
+pub always-8 : (before after : Lent) → Demand3 (render bookB) before (refusal 8 0) after → validateLong before ≡ true → ⊥
 always-8 before after claim e = never-both e (claim bookB b-valid refl .0)
 
 -- ---- a runner that touches no work space: over zeros no break is listed
@@ -83,7 +84,7 @@ one-rule : length (rules bookB) ≡ 1
 unfolding rules newRules collect
 one-rule = refl
 
-pub no-work : (before after : Lent) (a : Said) → Demand3 (render bookB) before a after → long before ≡ true → before .work ≡ replicate workCount 0 → after .work ≡ before .work → ⊥
+pub no-work : (before after : Lent) (a : Answer ℕ) → Demand3 (render bookB) before a after → validateLong before ≡ true → before .work ≡ replicate workCount 0 → after .work ≡ before .work → ⊥
 no-work before after a claim e zeros same =
     let q = rightly bookB before after a (claim bookB b-valid refl) e in
     let low : 0 < length (rules bookB) = omega (arith, one-rule) in
@@ -132,7 +133,7 @@ module _ (b : Book) (ok : valid b ≡ true) (after : Lent) (n : ℕ) (h : Right 
       ∙ ap (λ (x : Step). ltb v (nodeCount cs) && inStep cs (valuesIn after) x sets v) e
       ∙ and-false (ltb v (nodeCount cs))
 
-pub first-rule-only : (before after : Lent) (a : Said) → Demand3 (render twice) before a after → long before ≡ true → stepAt (planIn after) (ruleStepAt (planIn after) 1) ≡ Step.none → ⊥
+pub first-rule-only : (before after : Lent) (a : Answer ℕ) → Demand3 (render twice) before a after → validateLong before ≡ true → stepAt (planIn after) (ruleStepAt (planIn after) 1) ≡ Step.none → ⊥
 first-rule-only before after a claim e none =
     let q = rightly twice before after a (claim twice twice-valid refl) e in
     let low : 1 < length (rules twice) = omega (arith, two-rules) in

@@ -1,7 +1,7 @@
 -- Demand 3: one claim, from the bytes of a book to the lists of all its rules.
 -- It rests on what a book says and means (model), how it is written (grammar: `render`, `valid`), its tables (encoding), the plan
 -- of tables (translation: `planOf`), the set of each step (plan: `setAt`, in words by runner: `setWords`), a list read off the
--- work space (lists: `listIn`, `rowIn`) and how long the lent slices must be (`long`).
+-- work space (lists: `listIn`, `rowIn`) and how long the lent slices must be (`validateLong`).
 use Prim.Native.Nat.{ℕ, _+_, _*_, _<_, _≤_}
 use mathlib.Core.Path.{_≡_}
 use mathlib.Core.List.{List}
@@ -9,10 +9,10 @@ use mathlib.Core.Bool.{Bool, true, false, _&&_}
 use lib.Dec.{ltb}
 use lib.ListN.{length, take, drop, getD}
 use Rattle.base.specs.Lists.{member, ascending}
+use Rattle.model.specs.Answers.{Answer, value, refusal, refusalOf}
 use Rattle.model.specs.Rules.{Rule, violates, noRule}
 use Rattle.model.specs.Books.{Book, graphOf, schema, rules}
 use Rattle.model.specs.Sizes.{formsIn}
-use Rattle.model.specs.Refusals.{codeOf, lineOf}
 use Rattle.grammar.specs.Writing.{render}
 use Rattle.grammar.specs.Valid.{valid}
 use Rattle.encoding.specs.Encode.{encodeNames, encodeCells, encodeValues}
@@ -20,7 +20,7 @@ use Rattle.plan.specs.Layout.{stepCount}
 use Rattle.translation.specs.Compile.{planOf}
 use Rattle.runner.specs.Run.{setWords}
 use Rattle.lists.specs.Rows.{listIn, rowIn}
-use Rattle.validation.specs.Lent.{Lent, long, namesIn, cellsIn, valuesIn, planIn}
+use Rattle.validation.specs.Lent.{Lent, validateLong, namesIn, cellsIn, valuesIn, planIn}
 use Rattle.validation.specs.declared.Validated.{Validated}
 use Rattle.validation.specs.declared.Validated.the-variants.{Steps, Refused}
 
@@ -52,21 +52,17 @@ pub record Right (b : Book) (after : Lent) (steps : ℕ) : Type 0 where
   pub counted : stepCount (planIn after) ≡ steps
   pub few : steps ≤ 4 * formsIn b + 2 * length (rules b)
 
--- ---- what is answered: the number of steps, or document 01's number of a refusal and its line
-pub data Said : Type 0 where
-  steps : ℕ → Said
-  refusal : ℕ → ℕ → Said
+-- ---- each case of the answer: the number of steps, or the refusal
+abbrev pub answerOf : Validated → Answer ℕ
+answerOf (Steps n) = value n
+answerOf (Refused r) = refusalOf r
 
-abbrev pub saidOf : Validated → Said
-saidOf (Steps n) = steps n
-saidOf (Refused r) = refusal (codeOf r) (lineOf r)
-
--- what is said of the book b and left in the slices is right; the one refusal is 8, exactly where a slice is too short, and then
--- nothing has changed
-abbrev pub Answers : Book → (before : Lent) → Said → (after : Lent) → Type 0
-Answers b before (steps n) after = (long before ≡ true) × Right b after n
-Answers b before (refusal k line) after = (long before ≡ false) × (k ≡ 8) × (line ≡ 0) × (after ≡ before)
+-- what is answered for the book b and left in the slices is right; the one refusal is 8, exactly where a slice is too short, and
+-- then nothing has changed
+abbrev pub Answers : Book → (before : Lent) → Answer ℕ → (after : Lent) → Type 0
+Answers b before (value steps) after = (validateLong before ≡ true) × Right b after steps
+Answers b before (refusal number line) after = (validateLong before ≡ false) × (number ≡ 8) × (line ≡ 0) × (after ≡ before)
 
 -- the claim: for every valid book with these bytes, whatever the slices held before
-abbrev pub Demand3 : List ℕ → (before : Lent) → Said → (after : Lent) → Type 0
-Demand3 s before said after = (b : Book) → valid b ≡ true → render b ≡ s → Answers b before said after
+abbrev pub Demand3 : List ℕ → (before : Lent) → Answer ℕ → (after : Lent) → Type 0
+Demand3 s before answer after = (b : Book) → valid b ≡ true → render b ≡ s → Answers b before answer after

@@ -24,8 +24,8 @@ abbrev pub lent : (names cells : List ℕ) (values : List ℤ) (plan work lists 
 lent ns cs vs ps ws ls ks = record { names = ns; cells = cs; values = vs; plan = ps; work = ws; lists = ls; lengths = ks }
 
 -- no ground for 8: every slice is as long as the limits need
-unfoldable pub long : Lent → Bool
-long l =
+unfoldable pub validateLong : Lent → Bool
+validateLong l =
     longEnough (l .names) (l .cells) (l .values)
     && (leb planCount (length (l .plan)) && (leb workCount (length (l .work)) && (leb listCount (length (l .lists)) && leb lengthCount (length (l .lengths)))))
 

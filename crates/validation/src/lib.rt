@@ -10,9 +10,9 @@ use runner::WORK_WORDS;
 use tablerun::run_tables;
 use tables::lent::enough;
 ghost use mathlib.Core.Path.{_≡_};
-ghost use Rattle.validation.specs.Claim.{saidOf, Demand3};
-ghost use Rattle.validation.specs.Lent.{lent, long};
-ghost use Rattle.validation.specs.Whole.{said, after};
+ghost use Rattle.validation.specs.Claim.{answerOf, Demand3};
+ghost use Rattle.validation.specs.Lent.{lent, validateLong};
+ghost use Rattle.validation.specs.Whole.{validateAnswer, after};
 
 // The number of steps of the plan; or why the book is refused.
 pub enum Validated {
@@ -30,7 +30,7 @@ fn long_enough(
     lists: &[u16],
     lengths: &[u16],
 ) -> bool
-    ensures { λ r. ⌜ r ≡ long (lent (now (names .entry)) (now (cells .entry)) (now (values .entry)) (now (plan .entry)) (now (work .entry)) (now (lists .entry)) (now (lengths .entry))) ⌝ }
+    ensures { λ r. ⌜ r ≡ validateLong (lent (now (names .entry)) (now (cells .entry)) (now (values .entry)) (now (plan .entry)) (now (work .entry)) (now (lists .entry)) (now (lengths .entry))) ⌝ }
 {
     enough(names, cells, values)
         & ((PLAN_CELLS <= plan.len())
@@ -53,8 +53,8 @@ pub fn validate(
     lists: &mut [u16],
     lengths: &mut [u16],
 ) -> Validated
-    ensures { λ r. ⌜ Demand3 (now (book .entry)) (lent (now (names .entry)) (now (cells .entry)) (now (values .entry)) (now (plan .entry)) (now (work .entry)) (now (lists .entry)) (now (lengths .entry))) (saidOf r) (lent (now (names .exit)) (now (cells .exit)) (now (values .exit)) (now (plan .exit)) (now (work .exit)) (now (lists .exit)) (now (lengths .exit))) ⌝ }
-    ensures { λ r. ⌜ saidOf r ≡ said (now (book .entry)) (lent (now (names .entry)) (now (cells .entry)) (now (values .entry)) (now (plan .entry)) (now (work .entry)) (now (lists .entry)) (now (lengths .entry))) ⌝ }
+    ensures { λ r. ⌜ Demand3 (now (book .entry)) (lent (now (names .entry)) (now (cells .entry)) (now (values .entry)) (now (plan .entry)) (now (work .entry)) (now (lists .entry)) (now (lengths .entry))) (answerOf r) (lent (now (names .exit)) (now (cells .exit)) (now (values .exit)) (now (plan .exit)) (now (work .exit)) (now (lists .exit)) (now (lengths .exit))) ⌝ }
+    ensures { λ r. ⌜ answerOf r ≡ validateAnswer (now (book .entry)) (lent (now (names .entry)) (now (cells .entry)) (now (values .entry)) (now (plan .entry)) (now (work .entry)) (now (lists .entry)) (now (lengths .entry))) ⌝ }
     ensures { λ _. ⌜ lent (now (names .exit)) (now (cells .exit)) (now (values .exit)) (now (plan .exit)) (now (work .exit)) (now (lists .exit)) (now (lengths .exit)) ≡ after (now (book .entry)) (lent (now (names .entry)) (now (cells .entry)) (now (values .entry)) (now (plan .entry)) (now (work .entry)) (now (lists .entry)) (now (lengths .entry))) ⌝ }
 {
     if !long_enough(

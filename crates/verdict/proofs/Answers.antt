@@ -1,52 +1,49 @@
 -- The answer, case by case.
 use Prim.Native.Nat.{ℕ, _<_}
 use mathlib.Core.List.{List}
-use mathlib.Core.Bool.{Bool, true, false, cond, _&&_}
-use mathlib.Core.Path.{_≡_, sym, ap, ap₂, _∙_}
+use mathlib.Core.Bool.{Bool, true, false}
+use mathlib.Core.Path.{_≡_, sym, ap, _∙_}
 use lib.Dec.{ltb}
 use lib.IntN.{ℤ}
 use lib.ListN.{take}
 use borrow.Author.Tests.{ltb-true}
 use Rattle.base.proofs.Bools.{and-left, and-right}
+use Rattle.model.specs.Answers.{Answer, value, refusal}
 use Rattle.model.specs.Shapes.{conforms}
 use Rattle.tables.specs.Layout.{cellCount, valueCount, nodeCount, shapeCount, rootAt}
 use Rattle.tables.specs.Decode.{graphAt, shapeAt}
 use Rattle.tables.specs.WellFormed.{wellFormed}
 use Rattle.tables.specs.Sizes.{longEnough}
-use Rattle.verdict.specs.declared.Answer.{Answer}
-use Rattle.verdict.specs.Answers.{Decision, given, refused, decisionOf, judgedOn, judged, tallied}
+use Rattle.verdict.specs.declared.Judged.{Judged}
+use Rattle.verdict.specs.Answers.{answerOf, hasBoth, answerOn, verdictAnswer, tallied}
 
 module _ (cs : List ℕ) (vs : List ℤ) (node shape : ℕ) where
-  abbrev said : Decision
-  said = given (conforms (graphAt cs vs) (shapeAt cs vs (rootAt cs shape)) node)
+  pub on-malformed : wellFormed cs ≡ false → refusal 9 0 ≡ answerOn cs vs node shape
+  unfolding answerOn
+  on-malformed w = rw w
 
-  pub judged-malformed : wellFormed cs ≡ false → refused 9 0 ≡ judgedOn cs vs node shape
-  unfolding judgedOn
-  judged-malformed w = ap (λ (b : Bool). cond b (cond (ltb node (nodeCount cs) && ltb shape (shapeCount cs)) said (refused 10 0)) (refused 9 0)) (sym w)
-
-  module _ (w : wellFormed cs ≡ true) {there : Bool} (et : (ltb node (nodeCount cs) && ltb shape (shapeCount cs)) ≡ there) where
-    by-places : {b : Bool} → there ≡ b → cond b said (refused 10 0) ≡ judgedOn cs vs node shape
-    unfolding judgedOn
-    by-places {b} h = ap₂ (λ (w p : Bool). cond w (cond p said (refused 10 0)) (refused 9 0)) (sym w) (sym (et ∙ h))
-
+  -- there: what is said of node and shape
+  module _ (w : wellFormed cs ≡ true) {there : Bool} (et : hasBoth cs node shape ≡ there) where
     pub places-there : there ≡ true → (node < nodeCount cs) × (shape < shapeCount cs)
     places-there h = (ltb-true node (nodeCount cs) (and-left (ltb node (nodeCount cs)) (ltb shape (shapeCount cs)) (et ∙ h)), ltb-true shape (shapeCount cs) (and-right (ltb node (nodeCount cs)) (ltb shape (shapeCount cs)) (et ∙ h)))
 
-    pub judged-absent : there ≡ false → refused 10 0 ≡ judgedOn cs vs node shape
-    judged-absent h = by-places h
+    pub on-absent : there ≡ false → refusal 10 0 ≡ answerOn cs vs node shape
+    unfolding answerOn
+    on-absent h = rw (w, et ∙ h)
 
-    pub judged-given : there ≡ true → (e : ℕ) {b : Bool} → e ≡ rootAt cs shape → conforms (graphAt cs vs) (shapeAt cs vs e) node ≡ b → given b ≡ judgedOn cs vs node shape
-    judged-given h e ee hb = ap given (sym hb) ∙ ap (λ (e : ℕ). given (conforms (graphAt cs vs) (shapeAt cs vs e) node)) ee ∙ by-places h
+    pub on-given : there ≡ true → (e : ℕ) {b : Bool} → e ≡ rootAt cs shape → conforms (graphAt cs vs) (shapeAt cs vs e) node ≡ b → value b ≡ answerOn cs vs node shape
+    unfolding answerOn
+    on-given h e ee hb = rw (w, et ∙ h) (ap value (sym hb ∙ ap (λ (e : ℕ). conforms (graphAt cs vs) (shapeAt cs vs e) node) ee))
 
 module _ (ns cs : List ℕ) (vs : List ℤ) (node shape : ℕ) where
-  pub judged-short : longEnough ns cs vs ≡ false → refused 8 0 ≡ judged ns cs vs node shape
-  unfolding judged
-  judged-short h = ap (λ (b : Bool). cond b (judgedOn (take cellCount cs) (take valueCount vs) node shape) (refused 8 0)) (sym h)
+  pub verdict-short : longEnough ns cs vs ≡ false → refusal 8 0 ≡ verdictAnswer ns cs vs node shape
+  unfolding verdictAnswer
+  verdict-short h = rw h
 
-  pub judged-long : longEnough ns cs vs ≡ true → judgedOn (take cellCount cs) (take valueCount vs) node shape ≡ judged ns cs vs node shape
-  unfolding judged
-  judged-long h = ap (λ (b : Bool). cond b (judgedOn (take cellCount cs) (take valueCount vs) node shape) (refused 8 0)) (sym h)
+  pub verdict-long : longEnough ns cs vs ≡ true → answerOn (take cellCount cs) (take valueCount vs) node shape ≡ verdictAnswer ns cs vs node shape
+  unfolding answerOn verdictAnswer
+  verdict-long h = rw h
 
 -- an answer with its tally
-pub answered : {a b : Answer} {d : Decision} (t : ℕ) {u : ℕ} → b ≡ a → u ≡ tallied (decisionOf a) t → decisionOf a ≡ d → (decisionOf b ≡ d) × (u ≡ tallied d t)
-answered t ea eu ed = (ap decisionOf ea ∙ ed, eu ∙ ap (λ (d : Decision). tallied d t) ed)
+pub answered : {a b : Judged} {d : Answer Bool} (t : ℕ) {u : ℕ} → b ≡ a → u ≡ tallied (answerOf a) t → answerOf a ≡ d → (answerOf b ≡ d) × (u ≡ tallied d t)
+answered t ea eu ed = (ap answerOf ea ∙ ed, eu ∙ ap (λ (d : Answer Bool). tallied d t) ed)

@@ -48,13 +48,14 @@ ghost use lib.Dec.{eqb};
 ghost use lib.ListN.{length};
 ghost use Rattle.base.specs.Bounded.{every};
 ghost use Rattle.nodeset.specs.Words.{has, wordsOf, with};
+ghost use Rattle.model.specs.Answers.{isGiven};
 ghost use Rattle.model.specs.Shapes.{conforms};
 ghost use Rattle.tables.specs.Layout.{cellCount, nodeCount, formCount, formCodeAt};
 ghost use Rattle.tables.specs.Decode.{graphAt, shapeAt};
 ghost use Rattle.tables.specs.WellFormed.{wellFormed};
 ghost use Rattle.paths.specs.Facts.{Tables};
 ghost use Rattle.stepsets.specs.Ends.{Held};
-ghost use Rattle.verdict.specs.Answers.{decisionOf, judgedOn, judged, isGiven, tallied};
+ghost use Rattle.verdict.specs.Answers.{answerOf, answerOn, verdictAnswer, tallied};
 ghost use Rattle.verdict.specs.Memo.{yesPlace, noPlace, Ready, Decided, Settled};
 ghost use Rattle.verdict.specs.Parts.{looksAtEnds, hasParts, firstPart, secondPart, looksAt, PartsKnown, Tells, Enough};
 
@@ -338,7 +339,7 @@ fn conforming(cells: &[u16], values: &[i64], e: usize, v: usize) -> bool
 }
 
 // What is answered.
-pub enum Answer {
+pub enum Judged {
     Yes,
     No,
     Refused(Refusal),
@@ -346,37 +347,37 @@ pub enum Answer {
 
 // An answer, and the tally of verdicts given.
 pub struct Outcome {
-    pub answer: Answer,
+    pub answer: Judged,
     pub tally: u32,
 }
 
 // The answer on tables in their limits: 9 comes before 10.
-fn answer_on(cells: &[u16], values: &[i64], node: usize, shape: usize) -> Answer
+fn answer_on(cells: &[u16], values: &[i64], node: usize, shape: usize) -> Judged
     requires { ⌜ cellCount ≤ length (now cells) ⌝ }
-    ensures { λ r. ⌜ decisionOf r ≡ judgedOn (now (cells .entry)) (now (values .entry)) node shape ⌝ }
+    ensures { λ r. ⌜ answerOf r ≡ answerOn (now (cells .entry)) (now (values .entry)) node shape ⌝ }
 {
     let ok = tablecheck::well_formed(cells);
     let there = (node < node_count(cells)) & (shape < shape_count(cells));
     if !ok {
-        return Answer::Refused(Refusal::Malformed);
+        return Judged::Refused(Refusal::Malformed);
     }
     if !there {
-        return Answer::Refused(Refusal::Absent);
+        return Judged::Refused(Refusal::Absent);
     }
     if !conforming(cells, values, root(cells, shape), node) {
-        return Answer::No;
+        return Judged::No;
     }
-    Answer::Yes
+    Judged::Yes
 }
 
 // A verdict is given, and not refused.
-fn is_given(answer: Answer) -> bool
-    ensures { λ r. ⌜ r ≡ isGiven (decisionOf answer) ⌝ }
+fn is_given(answer: Judged) -> bool
+    ensures { λ r. ⌜ r ≡ isGiven (answerOf answer) ⌝ }
 {
     match answer {
-        Answer::Yes => true,
-        Answer::No => true,
-        Answer::Refused(_) => false,
+        Judged::Yes => true,
+        Judged::No => true,
+        Judged::Refused(_) => false,
     }
 }
 
@@ -394,8 +395,8 @@ fn counted(given: bool, tally: u32) -> u32
 }
 
 // The answer with the tally afterwards.
-fn told(answer: Answer, tally: u32) -> Outcome
-    ensures { λ r. ⌜ (r .answer ≡ answer) × (r .tally ≡ tallied (decisionOf answer) tally) ⌝ }
+fn told(answer: Judged, tally: u32) -> Outcome
+    ensures { λ r. ⌜ (r .answer ≡ answer) × (r .tally ≡ tallied (answerOf answer) tally) ⌝ }
 {
     let after = counted(is_given(answer), tally);
     Outcome {
@@ -414,11 +415,11 @@ pub fn verdict(
     shape: usize,
     tally: u32,
 ) -> Outcome
-    ensures answer { λ r. ⌜ decisionOf (r .answer) ≡ judged (now (names .entry)) (now (cells .entry)) (now (values .entry)) node shape ⌝ }
-    ensures counted { λ r. ⌜ r .tally ≡ tallied (judged (now (names .entry)) (now (cells .entry)) (now (values .entry)) node shape) tally ⌝ }
+    ensures answer { λ r. ⌜ answerOf (r .answer) ≡ verdictAnswer (now (names .entry)) (now (cells .entry)) (now (values .entry)) node shape ⌝ }
+    ensures counted { λ r. ⌜ r .tally ≡ tallied (verdictAnswer (now (names .entry)) (now (cells .entry)) (now (values .entry)) node shape) tally ⌝ }
 {
     if !tables::lent::enough(names, cells, values) {
-        return told(Answer::Refused(Refusal::Short), tally);
+        return told(Judged::Refused(Refusal::Short), tally);
     }
     told(
         answer_on(&cells[..CELLS], &values[..VALUES], node, shape),

@@ -1,5 +1,7 @@
 use mathlib.Core.Path.{sym, ap, _∙_}
-use Rattle.reader.specs.Answers.{Answer, answerOf}
+use Rattle.model.specs.Answers.{Answer, refusalNumber, refusalLine, valueOr}
+use Rattle.itemreader.specs.declared.Counts.{Counts}
+use Rattle.reader.specs.Answers.{noCounts, answerOf}
 use borrow.Author.Needs.{needs}
 use Rattle.melivanoup.proofs.melivanoup_read.Statement.{statement}
 use Rattle.melivanoup.proofs.melivanoup_read.Tie as tie
@@ -29,7 +31,7 @@ returns : tie.Need-returns
 returns c =
     let x = c .before .before .before .before .before .before .before .before .read in
     let q = ap answerOf (sym (c .before .n .given .1)) ∙ x .ensures .0 in
-    (ap (λ (a : Answer). a .refusal) q, (ap (λ (a : Answer). a .line) q, (ap (λ (a : Answer). a .counts .nodes) q, (ap (λ (a : Answer). a .counts .facts) q, (ap (λ (a : Answer). a .counts .rules) q, x .ensures .1)))))
+    (ap refusalNumber q, (ap refusalLine q, (ap (λ (a : Answer Counts). valueOr noCounts a .nodes) q, (ap (λ (a : Answer Counts). valueOr noCounts a .facts) q, (ap (λ (a : Answer Counts). valueOr noCounts a .rules) q, x .ensures .1)))))
 
 same-length-4 : tie.Need-same-length-4
 same-length-4 c = search needs
@@ -44,7 +46,7 @@ returns-2 : tie.Need-returns-2
 returns-2 c =
     let x = c .before .before .before .before .before .before .before .before .before .before .read in
     let q = ap answerOf (sym (c .before .before .before .r .given .1)) ∙ x .ensures .0 in
-    (c .with-line .ensures .0 ∙ ap (λ (a : Answer). a .refusal) q, (c .with-line .ensures .1 ∙ ap (λ (a : Answer). a .line) q, (ap (λ (a : Answer). a .counts .nodes) q, (ap (λ (a : Answer). a .counts .facts) q, (ap (λ (a : Answer). a .counts .rules) q, x .ensures .1)))))
+    (c .with-line .ensures .0 ∙ ap refusalNumber q, (c .with-line .ensures .1 ∙ ap refusalLine q, (ap (λ (a : Answer Counts). valueOr noCounts a .nodes) q, (ap (λ (a : Answer Counts). valueOr noCounts a .facts) q, (ap (λ (a : Answer Counts). valueOr noCounts a .rules) q, x .ensures .1)))))
 
 pub melivanoup-read-spec : {M : Type 1} → statement M
 melivanoup-read-spec =

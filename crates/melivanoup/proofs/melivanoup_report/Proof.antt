@@ -1,5 +1,6 @@
 use mathlib.Core.Path.{sym, ap, _∙_}
-use Rattle.report.specs.Answers.{Answer, saidOf}
+use Rattle.model.specs.Answers.{refusalNumber, valueOr}
+use Rattle.report.specs.Answers.{answerOf}
 use borrow.Author.Needs.{needs}
 use Rattle.melivanoup.proofs.melivanoup_report.Statement.{statement}
 use Rattle.melivanoup.proofs.melivanoup_report.Tie as tie
@@ -22,8 +23,8 @@ same-length c = search needs
 returns : tie.Need-returns
 returns c =
     let x = c .before .before .before .before .before .report-part in
-    let q = ap saidOf (sym (c .before .n .given .1)) ∙ x .ensures .0 in
-    (ap (λ (a : Answer). a .refusal) q, (ap (λ (a : Answer). a .bytes) q, x .ensures .1 .0))
+    let q = ap answerOf (sym (c .before .n .given .1)) ∙ x .ensures .0 in
+    (ap refusalNumber q, (ap (valueOr 0) q, x .ensures .1 .0))
 
 same-length-2 : tie.Need-same-length-2
 same-length-2 c = search needs
@@ -31,8 +32,8 @@ same-length-2 c = search needs
 returns-2 : tie.Need-returns-2
 returns-2 c =
     let x = c .before .before .before .before .before .before .report-part in
-    let q = ap saidOf (sym (c .before .before .r .given .1)) ∙ x .ensures .0 in
-    (c .number .ensures ∙ ap (λ (a : Answer). a .refusal) q, (ap (λ (a : Answer). a .bytes) q, x .ensures .1 .0))
+    let q = ap answerOf (sym (c .before .before .r .given .1)) ∙ x .ensures .0 in
+    (c .number .ensures ∙ ap refusalNumber q, (ap (valueOr 0) q, x .ensures .1 .0))
 
 pub melivanoup-report-spec : {M : Type 1} → statement M
 melivanoup-report-spec =

@@ -1,6 +1,6 @@
 use mathlib.Core.Path.{sym, ap, _∙_}
-use Rattle.runner.specs.Run.{saidOf}
-use Rattle.melivanoup.specs.Numbers.{runNumber}
+use Rattle.model.specs.Answers.{refusalNumber}
+use Rattle.runner.specs.Run.{answerOf}
 use borrow.Author.Needs.{needs}
 use Rattle.melivanoup.proofs.melivanoup_run.Statement.{statement}
 use Rattle.melivanoup.proofs.melivanoup_run.Tie as tie
@@ -23,7 +23,7 @@ same-length c = search needs
 returns : tie.Need-returns
 returns c =
     let x = c .before .before .before .before .run in
-    (ap runNumber (ap saidOf (sym (c .enum-told .given .1)) ∙ x .ensures .0), x .ensures .1)
+    (ap refusalNumber (ap answerOf (sym (c .enum-told .given .1)) ∙ x .ensures .0), x .ensures .1)
 
 same-length-2 : tie.Need-same-length-2
 same-length-2 c = search needs
@@ -31,7 +31,7 @@ same-length-2 c = search needs
 returns-2 : tie.Need-returns-2
 returns-2 c =
     let x = c .before .before .before .before .before .before .run in
-    (c .number .ensures ∙ ap runNumber (ap saidOf (sym (c .before .before .r .given .1)) ∙ x .ensures .0), x .ensures .1)
+    (c .number .ensures ∙ ap refusalNumber (ap answerOf (sym (c .before .before .r .given .1)) ∙ x .ensures .0), x .ensures .1)
 
 pub melivanoup-run-spec : {M : Type 1} → statement M
 melivanoup-run-spec =

@@ -1,8 +1,8 @@
 use mathlib.Core.Path.{sym, ap, _∙_}
 use denote.Ref.{now}
 use Rattle.validation.specs.Lent.{lent}
-use Rattle.validation.specs.Claim.{saidOf}
-use Rattle.melivanoup.specs.Numbers.{wholeNumber, wholeLine, wholeSteps}
+use Rattle.model.specs.Answers.{refusalNumber, refusalLine, valueOr}
+use Rattle.validation.specs.Claim.{answerOf}
 use Rattle.melivanoup.proofs.Whole.{by-steps, by-refusal}
 use borrow.Author.Needs.{needs}
 use Rattle.melivanoup.proofs.melivanoup_validate.Statement.{statement}
@@ -45,10 +45,10 @@ returns : tie.Need-returns
 returns c =
     let x = c .before .before .before .before .before .before .before .before .before .before .before .before .before .before .before .before .validate in
     let e = c .before .n .given .1 in
-    let q = ap saidOf (sym e) ∙ x .ensures .1 .0 in
+    let q = ap answerOf (sym e) ∙ x .ensures .1 .0 in
     let a = c .before .before .before .before .before .before .before .before .before .before .before .before .before .before .before .before .before .before .before .before .before .before .before .before .before .before .before .before .before .before .before .args in
     let demand3 = by-steps (now (a .book)) (lent (now (a .names)) (now (a .cells)) (now (a .values)) (now (a .plan)) (now (a .work)) (now (a .lists)) (now (a .lengths))) (lent (x .last .1 .0) (x .last .1 .1 .0) (x .last .1 .1 .1 .0) (x .last .1 .1 .1 .1 .0) (x .last .1 .1 .1 .1 .1 .0) (x .last .1 .1 .1 .1 .1 .1 .0) (x .last .1 .1 .1 .1 .1 .1 .1 .0)) (x .result) (x .ensures .0) (c .before .n .given .0 .0) e in
-    (demand3, (ap wholeNumber q, (ap wholeLine q, (ap wholeSteps q, x .ensures .1 .1))))
+    (demand3, (ap refusalNumber q, (ap refusalLine q, (ap (valueOr 0) q, x .ensures .1 .1))))
 
 same-length-8 : tie.Need-same-length-8
 same-length-8 c = search needs
@@ -75,10 +75,10 @@ returns-2 : tie.Need-returns-2
 returns-2 c =
     let x = c .before .before .before .before .before .before .before .before .before .before .before .before .before .before .before .before .before .before .validate in
     let e = c .before .before .before .r .given .1 in
-    let q = ap saidOf (sym e) ∙ x .ensures .1 .0 in
+    let q = ap answerOf (sym e) ∙ x .ensures .1 .0 in
     let a = c .before .before .before .before .before .before .before .before .before .before .before .before .before .before .before .before .before .before .before .before .before .before .before .before .before .before .before .before .before .before .before .before .before .args in
     let demand3 = by-refusal (now (a .book)) (lent (now (a .names)) (now (a .cells)) (now (a .values)) (now (a .plan)) (now (a .work)) (now (a .lists)) (now (a .lengths))) (lent (x .last .1 .0) (x .last .1 .1 .0) (x .last .1 .1 .1 .0) (x .last .1 .1 .1 .1 .0) (x .last .1 .1 .1 .1 .1 .0) (x .last .1 .1 .1 .1 .1 .1 .0) (x .last .1 .1 .1 .1 .1 .1 .1 .0)) (x .result) (x .ensures .0) (c .before .before .before .r .given .0 .0) (c .with-line .result) (c .with-line .last .0) e (c .with-line .ensures .0) (c .with-line .ensures .1) in
-    (demand3, (c .with-line .ensures .0 ∙ ap wholeNumber q, (c .with-line .ensures .1 ∙ ap wholeLine q, (ap wholeSteps q, x .ensures .1 .1))))
+    (demand3, (c .with-line .ensures .0 ∙ ap refusalNumber q, (c .with-line .ensures .1 ∙ ap refusalLine q, (ap (valueOr 0) q, x .ensures .1 .1))))
 
 pub melivanoup-validate-spec : {M : Type 1} → statement M
 melivanoup-validate-spec =

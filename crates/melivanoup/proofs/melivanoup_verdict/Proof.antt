@@ -1,6 +1,8 @@
 use mathlib.Core.Path.{sym, ap, _∙_}
-use Rattle.verdict.specs.Answers.{decisionOf}
-use Rattle.melivanoup.specs.Numbers.{verdictNumber, verdictConforms}
+use mathlib.Core.Bool.{Bool, false}
+use Rattle.model.specs.Answers.{Answer, refusalNumber, valueOr}
+use Rattle.verdict.specs.Answers.{answerOf}
+use Rattle.melivanoup.specs.Numbers.{oneIf}
 use borrow.Author.Needs.{needs}
 use Rattle.melivanoup.proofs.melivanoup_verdict.Statement.{statement}
 use Rattle.melivanoup.proofs.melivanoup_verdict.Tie as tie
@@ -23,20 +25,20 @@ number-requires c κs = search needs
 returns : tie.Need-returns
 returns c =
     let x = c .before .before .verdict in
-    let q = ap decisionOf (sym (c .enum-told .given .1)) ∙ x .ensures .0 in
-    (ap verdictNumber q, (ap verdictConforms q, x .ensures .1))
+    let q = ap answerOf (sym (c .enum-told .given .1)) ∙ x .ensures .0 in
+    (ap refusalNumber q, (ap (λ (a : Answer Bool). oneIf (valueOr false a)) q, x .ensures .1))
 
 returns-2 : tie.Need-returns-2
 returns-2 c =
     let x = c .before .before .verdict in
-    let q = ap decisionOf (sym (c .enum-told2 .given .1)) ∙ x .ensures .0 in
-    (ap verdictNumber q, (ap verdictConforms q, x .ensures .1))
+    let q = ap answerOf (sym (c .enum-told2 .given .1)) ∙ x .ensures .0 in
+    (ap refusalNumber q, (ap (λ (a : Answer Bool). oneIf (valueOr false a)) q, x .ensures .1))
 
 returns-3 : tie.Need-returns-3
 returns-3 c =
     let x = c .before .before .before .before .verdict in
-    let q = ap decisionOf (sym (c .before .before .answer .given .1)) ∙ x .ensures .0 in
-    (c .number .ensures ∙ ap verdictNumber q, (ap verdictConforms q, x .ensures .1))
+    let q = ap answerOf (sym (c .before .before .answer .given .1)) ∙ x .ensures .0 in
+    (c .number .ensures ∙ ap refusalNumber q, (ap (λ (a : Answer Bool). oneIf (valueOr false a)) q, x .ensures .1))
 
 pub melivanoup-verdict-spec : {M : Type 1} → statement M
 melivanoup-verdict-spec =

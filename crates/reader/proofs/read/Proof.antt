@@ -1,11 +1,12 @@
 use mathlib.Core.Path.{_≡_, sym, ap, _∙_}
 use mathlib.Core.Bool.{true}
 use borrow.Author.Tests.{not-true, not-false}
+use Rattle.model.specs.Answers.{Answer, mapValue}
+use Rattle.model.specs.Books.{Book}
 use Rattle.tables.specs.Sizes.{longEnough}
 use Rattle.tables.proofs.Sizes.{Long, long}
-use Rattle.grammar.specs.Reading.{Outcome}
-use Rattle.reader.specs.Answers.{answered, namesLeft, cellsLeft, valuesLeft}
-use Rattle.reader.proofs.Answers.{right-short, right-long}
+use Rattle.reader.specs.Answers.{countsIn, namesLeft, cellsLeft, valuesLeft}
+use Rattle.reader.proofs.Answers.{answered-short, answered-long}
 use Rattle.reader.proofs.Outcomes.{reading-long}
 use borrow.Author.Needs.{needs}
 use Rattle.reader.proofs.read.Statement.{statement}
@@ -33,7 +34,7 @@ same-length-3 c = search needs
 returns : tie.Need-returns
 returns c =
     let s = c .before .before .before .before .before .before .before .before .args in
-    right-short (s .book .now) (s .names .now) (s .cells .now) (s .values .now) (sym (c .before .enough .ensures) ∙ not-true (c .before .enough .result) (c .if1 .taken))
+    answered-short (s .book .now) (s .names .now) (s .cells .now) (s .values .now) (sym (c .before .enough .ensures) ∙ not-true (c .before .enough .result) (c .if1 .taken))
 
 clear-requires : tie.Need-clear-requires
 clear-requires c κs = let l = lengths (c .before .before .before .before) in (l .names, l .cells, l .values)
@@ -52,7 +53,7 @@ returns-2 c =
     let s = c .before .before .before .before .before .before .before .before .before .before .before .before .before .before .before .before .before .before .args in
     let e = sym (reading-long (s .book .now) (c .before .before .before .before .before .before .before .before .before .if2 .taken)) in
     let z = c .before .before .before .before .before .clear .ensures in
-    right-long (s .book .now) (s .names .now) (s .cells .now) (s .values .now) (enough (c .before .before .before .before .before .before .before .before .before .before)) _ _ _ _ (ap answered e) (z .0 ∙ ap (λ (o : Outcome). namesLeft o (s .names .now)) e) (z .1 .0 ∙ ap (λ (o : Outcome). cellsLeft o (s .cells .now)) e) (z .1 .1 ∙ ap (λ (o : Outcome). valuesLeft o (s .values .now)) e)
+    answered-long (s .book .now) (s .names .now) (s .cells .now) (s .values .now) (enough (c .before .before .before .before .before .before .before .before .before .before)) _ _ _ _ (ap (mapValue countsIn) e) (z .0 ∙ ap (λ (o : Answer Book). namesLeft o (s .names .now)) e) (z .1 .0 ∙ ap (λ (o : Answer Book). cellsLeft o (s .cells .now)) e) (z .1 .1 ∙ ap (λ (o : Answer Book). valuesLeft o (s .values .now)) e)
 
 read-book-requires : tie.Need-read-book-requires
 read-book-requires c κs = let l = lengths (c .before .before .before .before) in (c .before .before .before .if2 .left, l .names, l .cells, l .values)
@@ -70,7 +71,7 @@ returns-3 : tie.Need-returns-3
 returns-3 c =
     let s = c .before .before .before .before .before .before .before .before .before .before .before .before .before .before .before .before .before .before .args in
     let z = c .before .before .before .before .before .read-book .ensures in
-    right-long (s .book .now) (s .names .now) (s .cells .now) (s .values .now) (enough (c .before .before .before .before .before .before .before .before .before .before)) _ _ _ _ (z .0) (z .1 .0) (z .1 .1 .0) (z .1 .1 .1)
+    answered-long (s .book .now) (s .names .now) (s .cells .now) (s .values .now) (enough (c .before .before .before .before .before .before .before .before .before .before)) _ _ _ _ (z .0) (z .1 .0) (z .1 .1 .0) (z .1 .1 .1)
 
 pub read-spec : {M : Type 1} → statement M
 read-spec =

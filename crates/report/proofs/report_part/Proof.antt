@@ -9,11 +9,12 @@ use lib.Dec.{leb}
 use lib.Seq.{length-take-le}
 use borrow.Author.Tests.{not-true, not-false, le-leb, lt-leb}
 use Rattle.base.proofs.Bools.{and-left, and-right}
+use Rattle.model.proofs.Answers.{short, malformed, absent}
 use Rattle.tables.specs.Layout.{ruleCount}
 use Rattle.tables.specs.WellFormed.{wellFormed}
 use Rattle.tables.proofs.WellFormed as tables
 use Rattle.report.specs.Pages.{partOk}
-use Rattle.report.proofs.Answers.{lent, short, malformed, absent, done}
+use Rattle.report.proofs.Answers.{part-answers, part-room, refused-on, written-on}
 use Rattle.report.proofs.report_part.Statement.{statement}
 use Rattle.report.proofs.report_part.Tie as tie
 
@@ -24,19 +25,19 @@ same-length : tie.Need-same-length
 same-length c = search needs
 
 returns : tie.Need-returns
-returns c = short (now (c .before .before .before .before .before .before .before .before .args .names)) (now (c .before .before .before .before .before .before .before .before .args .cells)) (now (c .before .before .before .before .before .before .before .before .args .values)) (now (c .before .before .before .before .before .before .before .before .args .lists)) (now (c .before .before .before .before .before .before .before .before .args .lengths)) (c .before .before .before .before .before .before .before .before .args .k) (now (c .before .before .before .before .before .before .before .before .args .page)) (sym (c .before .long-enough .ensures) ∙ not-true (c .before .long-enough .result) (c .if1 .taken))
+returns c = refused-on (short (part-answers (now (c .before .before .before .before .before .before .before .before .args .names)) (now (c .before .before .before .before .before .before .before .before .args .cells)) (now (c .before .before .before .before .before .before .before .before .args .values)) (now (c .before .before .before .before .before .before .before .before .args .lists)) (now (c .before .before .before .before .before .before .before .before .args .lengths)) (c .before .before .before .before .before .before .before .before .args .k) (now (c .before .before .before .before .before .before .before .before .args .page))) (sym (c .before .long-enough .ensures) ∙ not-true (c .before .long-enough .result) (c .if1 .taken)))
 
 slice-aggregate-cs : tie.Need-slice-aggregate-cs
-slice-aggregate-cs c = sym (length-take-le 16602 (now (c .before .before .before .before .before .before .before .before .before .args .cells)) (lent (now (c .before .before .before .before .before .before .before .before .before .args .names)) (now (c .before .before .before .before .before .before .before .before .before .args .cells)) (now (c .before .before .before .before .before .before .before .before .before .args .values)) (now (c .before .before .before .before .before .before .before .before .before .args .lists)) (now (c .before .before .before .before .before .before .before .before .before .args .lengths)) (now (c .before .before .before .before .before .before .before .before .before .args .page)) (sym (c .before .before .long-enough .ensures) ∙ not-false (c .before .before .long-enough .result) (c .before .if1 .left)) .tables .cells))
+slice-aggregate-cs c = sym (length-take-le 16602 (now (c .before .before .before .before .before .before .before .before .before .args .cells)) (part-room (now (c .before .before .before .before .before .before .before .before .before .args .names)) (now (c .before .before .before .before .before .before .before .before .before .args .cells)) (now (c .before .before .before .before .before .before .before .before .before .args .values)) (now (c .before .before .before .before .before .before .before .before .before .args .lists)) (now (c .before .before .before .before .before .before .before .before .before .args .lengths)) (now (c .before .before .before .before .before .before .before .before .before .args .page)) (sym (c .before .before .long-enough .ensures) ∙ not-false (c .before .before .long-enough .result) (c .before .if1 .left)) .tables .cells))
 
 part-ok-requires : tie.Need-part-ok-requires
-part-ok-requires c κs = let l = lent (now (c .before .before .before .before .before .before .before .before .before .args .names)) (now (c .before .before .before .before .before .before .before .before .before .args .cells)) (now (c .before .before .before .before .before .before .before .before .before .args .values)) (now (c .before .before .before .before .before .before .before .before .before .args .lists)) (now (c .before .before .before .before .before .before .before .before .before .args .lengths)) (now (c .before .before .before .before .before .before .before .before .before .args .page)) (sym (c .before .before .long-enough .ensures) ∙ not-false (c .before .before .long-enough .result) (c .before .if1 .left)) in (l .lists, l .lengths)
+part-ok-requires c κs = let l = part-room (now (c .before .before .before .before .before .before .before .before .before .args .names)) (now (c .before .before .before .before .before .before .before .before .before .args .cells)) (now (c .before .before .before .before .before .before .before .before .before .args .values)) (now (c .before .before .before .before .before .before .before .before .before .args .lists)) (now (c .before .before .before .before .before .before .before .before .before .args .lengths)) (now (c .before .before .before .before .before .before .before .before .before .args .page)) (sym (c .before .before .long-enough .ensures) ∙ not-false (c .before .before .long-enough .result) (c .before .if1 .left)) in (l .first, l .second)
 
 same-length-2 : tie.Need-same-length-2
 same-length-2 c = search needs
 
 returns-2 : tie.Need-returns-2
-returns-2 c = malformed (now (c .before .before .before .before .before .before .before .before .before .before .before .args .names)) (now (c .before .before .before .before .before .before .before .before .before .before .before .args .cells)) (now (c .before .before .before .before .before .before .before .before .before .before .before .args .values)) (now (c .before .before .before .before .before .before .before .before .before .before .before .args .lists)) (now (c .before .before .before .before .before .before .before .before .before .before .before .args .lengths)) (c .before .before .before .before .before .before .before .before .before .before .before .args .k) (now (c .before .before .before .before .before .before .before .before .before .before .before .args .page)) (sym (c .before .before .before .before .long-enough .ensures) ∙ not-false (c .before .before .before .before .long-enough .result) (c .before .before .before .if1 .left)) (sym (c .before .part-ok .ensures) ∙ not-true (c .before .part-ok .result) (c .if2 .taken))
+returns-2 c = refused-on (malformed (part-answers (now (c .before .before .before .before .before .before .before .before .before .before .before .args .names)) (now (c .before .before .before .before .before .before .before .before .before .before .before .args .cells)) (now (c .before .before .before .before .before .before .before .before .before .before .before .args .values)) (now (c .before .before .before .before .before .before .before .before .before .before .before .args .lists)) (now (c .before .before .before .before .before .before .before .before .before .before .before .args .lengths)) (c .before .before .before .before .before .before .before .before .before .before .before .args .k) (now (c .before .before .before .before .before .before .before .before .before .before .before .args .page))) (sym (c .before .before .before .before .long-enough .ensures) ∙ not-false (c .before .before .before .before .long-enough .result) (c .before .before .before .if1 .left)) (sym (c .before .part-ok .ensures) ∙ not-true (c .before .part-ok .result) (c .if2 .taken)))
 
 rule-count-requires : tie.Need-rule-count-requires
 rule-count-requires c κs = search needs
@@ -52,22 +53,22 @@ same-length-3 c = search needs
 
 returns-3 : tie.Need-returns-3
 returns-3 c =
-    absent (now (c .before .before .before .before .before .before .before .before .before .before .before .before .before .args .names)) (now (c .before .before .before .before .before .before .before .before .before .before .before .before .before .args .cells)) (now (c .before .before .before .before .before .before .before .before .before .before .before .before .before .args .values)) (now (c .before .before .before .before .before .before .before .before .before .before .before .before .before .args .lists)) (now (c .before .before .before .before .before .before .before .before .before .before .before .before .before .args .lengths)) (c .before .before .before .before .before .before .before .before .before .before .before .before .before .args .k) (now (c .before .before .before .before .before .before .before .before .before .before .before .before .before .args .page)) (sym (c .before .before .before .before .before .before .long-enough .ensures) ∙ not-false (c .before .before .before .before .before .before .long-enough .result) (c .before .before .before .before .before .if1 .left)) (sym (c .before .before .before .part-ok .ensures) ∙ not-false (c .before .before .before .part-ok .result) (c .before .before .if2 .left))
-    (ap (λ (n : ℕ). leb (c .before .before .before .before .before .before .before .before .before .before .before .before .before .args .k) (n + 1)) (sym (c .before .rule-count .ensures)) ∙ lt-leb (c .before .before .before .before .before .before .before .before .before .before .before .before .before .args .k) (c .before .rule-count .result + 1) (c .if3 .taken))
+    refused-on (absent (part-answers (now (c .before .before .before .before .before .before .before .before .before .before .before .before .before .args .names)) (now (c .before .before .before .before .before .before .before .before .before .before .before .before .before .args .cells)) (now (c .before .before .before .before .before .before .before .before .before .before .before .before .before .args .values)) (now (c .before .before .before .before .before .before .before .before .before .before .before .before .before .args .lists)) (now (c .before .before .before .before .before .before .before .before .before .before .before .before .before .args .lengths)) (c .before .before .before .before .before .before .before .before .before .before .before .before .before .args .k) (now (c .before .before .before .before .before .before .before .before .before .before .before .before .before .args .page))) (sym (c .before .before .before .before .before .before .long-enough .ensures) ∙ not-false (c .before .before .before .before .before .before .long-enough .result) (c .before .before .before .before .before .if1 .left)) (sym (c .before .before .before .part-ok .ensures) ∙ not-false (c .before .before .before .part-ok .result) (c .before .before .if2 .left))
+    (ap (λ (n : ℕ). leb (c .before .before .before .before .before .before .before .before .before .before .before .before .before .args .k) (n + 1)) (sym (c .before .rule-count .ensures)) ∙ lt-leb (c .before .before .before .before .before .before .before .before .before .before .before .before .before .args .k) (c .before .rule-count .result + 1) (c .if3 .taken)))
 
 put-part-requires : tie.Need-put-part-requires
 put-part-requires c κs =
-    let l = lent (now (c .before .before .before .before .before .before .before .before .before .before .before .before .before .before .args .names)) (now (c .before .before .before .before .before .before .before .before .before .before .before .before .before .before .args .cells)) (now (c .before .before .before .before .before .before .before .before .before .before .before .before .before .before .args .values)) (now (c .before .before .before .before .before .before .before .before .before .before .before .before .before .before .args .lists)) (now (c .before .before .before .before .before .before .before .before .before .before .before .before .before .before .args .lengths)) (now (c .before .before .before .before .before .before .before .before .before .before .before .before .before .before .args .page)) (sym (c .before .before .before .before .before .before .before .long-enough .ensures) ∙ not-false (c .before .before .before .before .before .before .before .long-enough .result) (c .before .before .before .before .before .before .if1 .left)) in
+    let l = part-room (now (c .before .before .before .before .before .before .before .before .before .before .before .before .before .before .args .names)) (now (c .before .before .before .before .before .before .before .before .before .before .before .before .before .before .args .cells)) (now (c .before .before .before .before .before .before .before .before .before .before .before .before .before .before .args .values)) (now (c .before .before .before .before .before .before .before .before .before .before .before .before .before .before .args .lists)) (now (c .before .before .before .before .before .before .before .before .before .before .before .before .before .before .args .lengths)) (now (c .before .before .before .before .before .before .before .before .before .before .before .before .before .before .args .page)) (sym (c .before .before .before .before .before .before .before .long-enough .ensures) ∙ not-false (c .before .before .before .before .before .before .before .long-enough .result) (c .before .before .before .before .before .before .if1 .left)) in
     let cs = take 16602 (now (c .before .before .before .before .before .before .before .before .before .before .before .before .before .before .args .cells)) in
     let ok = partOk cs (now (c .before .before .before .before .before .before .before .before .before .before .before .before .before .before .args .lists)) (now (c .before .before .before .before .before .before .before .before .before .before .before .before .before .before .args .lengths)) (c .before .before .before .before .before .before .before .before .before .before .before .before .before .before .args .k) in
-    (l .space, l .tables .names, l .lists, l .lengths, and-left (wellFormed cs) ok (sym (c .before .before .before .before .part-ok .ensures) ∙ not-false (c .before .before .before .before .part-ok .result) (c .before .before .before .if2 .left)), and-right (wellFormed cs) ok (sym (c .before .before .before .before .part-ok .ensures) ∙ not-false (c .before .before .before .before .part-ok .result) (c .before .before .before .if2 .left)))
+    (l .third, l .tables .names, l .first, l .second, and-left (wellFormed cs) ok (sym (c .before .before .before .before .part-ok .ensures) ∙ not-false (c .before .before .before .before .part-ok .result) (c .before .before .before .if2 .left)), and-right (wellFormed cs) ok (sym (c .before .before .before .before .part-ok .ensures) ∙ not-false (c .before .before .before .before .part-ok .result) (c .before .before .before .if2 .left)))
 
 same-length-4 : tie.Need-same-length-4
 same-length-4 c = search needs
 
 returns-4 : tie.Need-returns-4
 returns-4 c =
-    done (now (c .before .before .before .before .before .before .before .before .before .before .before .before .before .before .before .before .before .args .names)) (now (c .before .before .before .before .before .before .before .before .before .before .before .before .before .before .before .before .before .args .cells)) (now (c .before .before .before .before .before .before .before .before .before .before .before .before .before .before .before .before .before .args .values)) (now (c .before .before .before .before .before .before .before .before .before .before .before .before .before .before .before .before .before .args .lists)) (now (c .before .before .before .before .before .before .before .before .before .before .before .before .before .before .before .before .before .args .lengths)) (c .before .before .before .before .before .before .before .before .before .before .before .before .before .before .before .before .before .args .k) (now (c .before .before .before .before .before .before .before .before .before .before .before .before .before .before .before .before .before .args .page)) (sym (c .before .before .before .before .before .before .before .before .before .before .long-enough .ensures) ∙ not-false (c .before .before .before .before .before .before .before .before .before .before .long-enough .result) (c .before .before .before .before .before .before .before .before .before .if1 .left)) (sym (c .before .before .before .before .before .before .before .part-ok .ensures) ∙ not-false (c .before .before .before .before .before .before .before .part-ok .result) (c .before .before .before .before .before .before .if2 .left))
+    written-on (part-answers (now (c .before .before .before .before .before .before .before .before .before .before .before .before .before .before .before .before .before .args .names)) (now (c .before .before .before .before .before .before .before .before .before .before .before .before .before .before .before .before .before .args .cells)) (now (c .before .before .before .before .before .before .before .before .before .before .before .before .before .before .before .before .before .args .values)) (now (c .before .before .before .before .before .before .before .before .before .before .before .before .before .before .before .before .before .args .lists)) (now (c .before .before .before .before .before .before .before .before .before .before .before .before .before .before .before .before .before .args .lengths)) (c .before .before .before .before .before .before .before .before .before .before .before .before .before .before .before .before .before .args .k) (now (c .before .before .before .before .before .before .before .before .before .before .before .before .before .before .before .before .before .args .page))) (sym (c .before .before .before .before .before .before .before .before .before .before .long-enough .ensures) ∙ not-false (c .before .before .before .before .before .before .before .before .before .before .long-enough .result) (c .before .before .before .before .before .before .before .before .before .if1 .left)) (sym (c .before .before .before .before .before .before .before .part-ok .ensures) ∙ not-false (c .before .before .before .before .before .before .before .part-ok .result) (c .before .before .before .before .before .before .if2 .left))
     (ap (λ (n : ℕ). leb (c .before .before .before .before .before .before .before .before .before .before .before .before .before .before .before .before .before .args .k) (n + 1)) (sym (c .before .before .before .before .before .rule-count .ensures)) ∙ le-leb (c .before .before .before .before .before .before .before .before .before .before .before .before .before .before .before .before .before .args .k) (c .before .before .before .before .before .rule-count .result + 1) (c .before .before .before .before .if3 .left))
     (c .before .before .put-part .ensures)
 

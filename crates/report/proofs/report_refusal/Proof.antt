@@ -1,21 +1,24 @@
 use borrow.Author.Needs.{needs}
 use Prim.Native.Nat.{ℕ}
-use mathlib.Core.Path.{_≡_, ap, _∙_}
+use mathlib.Core.Path.{_≡_, refl, ap, _∙_}
 use native.Mathlib.Omega.{arith}
 use denote.Ref.{now}
 use lib.ListN.{length}
+use borrow.Author.Tests.{le-leb, lt-leb}
 use Rattle.text.specs.Decimals.{decimal}
+use Rattle.model.proofs.Answers.{short}
 use Rattle.report.specs.Report.{refusalReport}
+use Rattle.report.specs.Pages.{refusalCount}
 use Rattle.report.proofs.Writing.{put-as}
 use Rattle.model.specs.Refusals.{codeOf, lineOf}
-use Rattle.report.proofs.Answers.{refusal-fits, no-room, reported}
+use Rattle.report.proofs.Answers.{refused-on, written-on, refusal-fits, refusal-answers}
 use Rattle.report.proofs.report_refusal.Statement.{statement}
 use Rattle.report.proofs.report_refusal.Tie as tie
 
 returns : tie.Need-returns
 returns c =
     let a = c .before .before .args in
-    no-room (codeOf (a .refusal)) (lineOf (a .refusal)) (now (a .space)) (c .if1 .taken)
+    refused-on (short (refusal-answers (codeOf (a .refusal)) (lineOf (a .refusal)) (now (a .space))) (lt-leb refusalCount (length (now (a .space))) (c .if1 .taken)))
 
 code-requires : tie.Need-code-requires
 code-requires c κs = search needs
@@ -39,7 +42,7 @@ returns-2 : tie.Need-returns-2
 returns-2 c =
     let a = c .before .before .before .before .before .before .before .before .args in
     let same : refusalReport (c .before .before .before .before .code .result) (c .before .before .before .line .result) ≡ refusalReport (codeOf (a .refusal)) (lineOf (a .refusal)) = ap (λ (n : ℕ). refusalReport n (c .before .before .before .line .result)) (c .before .before .before .before .code .ensures) ∙ ap (refusalReport (codeOf (a .refusal))) (c .before .before .before .line .ensures) in
-    reported (codeOf (a .refusal)) (lineOf (a .refusal)) (now (a .space)) (c .before .before .before .before .before .before .if1 .left) (put-as same (c .before .before .put-refusal .ensures))
+    written-on (refusal-answers (codeOf (a .refusal)) (lineOf (a .refusal)) (now (a .space))) (le-leb refusalCount (length (now (a .space))) (c .before .before .before .before .before .before .if1 .left)) refl refl (put-as same (c .before .before .put-refusal .ensures))
 
 pub report-refusal-spec : {M : Type 1} → statement M
 report-refusal-spec =

@@ -4,7 +4,7 @@ use lib.Dec.{leb}
 use lib.ListN.{length}
 use denote.Ref.{now}
 use Rattle.plan.specs.Layout.{planCount}
-use Rattle.runner.specs.Run.{workCount, lentLong}
+use Rattle.runner.specs.Run.{workCount, runLong}
 use borrow.Author.Needs.{needs}
 use Rattle.runner.proofs.lent_long.Statement.{statement}
 use Rattle.runner.proofs.lent_long.Tie as tie
@@ -13,7 +13,7 @@ enough-requires : tie.Need-enough-requires
 enough-requires c κs = search needs
 
 returns : tie.Need-returns
-unfolding lentLong
+unfolding runLong
 returns c = ap (λ (x : Bool). x && (leb planCount (length (now (c .before .before .before .before .before .args .plan))) && leb workCount (length (now (c .before .before .before .before .before .args .work))))) (c .enough .ensures)
 
 pub lent-long-spec : {M : Type 1} → statement M

@@ -1,6 +1,6 @@
 use mathlib.Core.Path.{_∙_}
 use denote.Ref.{now}
-use Rattle.tablerun.proofs.Answers.{never-refused, steps-told, plan-left, not-refused, run-done, work-left}
+use Rattle.tablerun.proofs.Answers.{never-refused, steps-told, plan-left, run-never-refused, work-left}
 use borrow.Author.Needs.{needs}
 use Rattle.tablerun.proofs.plan_and_run.Statement.{statement}
 use Rattle.tablerun.proofs.plan_and_run.Tie as tie
@@ -39,7 +39,7 @@ returns-2 : tie.Need-returns-2
 returns-2 c =
     let a = c .before .before .before .before .before .before .before .before .before .before .before .before .before .before .before .before .before .before .args in let q = c .before .before .before .before .before .before .before .before .before .before .before .before .before .before .before .before .before .before .pre in let x = c .before .before .before .before .before .before .before .before .before .before .before .before .compile in let y = c .before .before .before .before .run in
     let made = x .ensures .1 ∙ plan-left (now (a .names)) (now (a .cells)) (now (a .values)) (now (a .plan)) (q .0) (q .1) (q .2) in
-    absurd (not-refused (y .result) (c .enum-told3 .given .0 .0) (y .ensures .0 ∙ run-done (now (a .names)) (now (a .cells)) (now (a .values)) (now (a .plan)) (q .0) (q .1) (q .2) _ (now (a .work)) made (q .3)) (c .enum-told3 .given .1))
+    absurd (run-never-refused (now (a .names)) (now (a .cells)) (now (a .values)) (now (a .plan)) (q .0) (q .1) (q .2) _ (now (a .work)) made (q .3) (y .result) (c .enum-told3 .given .0 .0) (y .ensures .0) (c .enum-told3 .given .1))
 
 same-length-4 : tie.Need-same-length-4
 same-length-4 c = search needs

@@ -3,7 +3,8 @@ use mathlib.Core.Path.{sym, subst}
 use denote.Ref.{now}
 use lib.ListN.{length}
 use lib.Seq.{length-take-le}
-use Rattle.report.specs.Answers.{saidOf}
+use Rattle.model.specs.Answers.{valueOr}
+use Rattle.report.specs.Answers.{answerOf}
 use borrow.Author.Needs.{needs}
 use Rattle.validate.proofs.print.Statement.{statement}
 use Rattle.validate.proofs.print.Tie as tie
@@ -15,7 +16,7 @@ slice-aggregate-write-all : tie.Need-slice-aggregate-write-all
 slice-aggregate-write-all c =
     let a = c .before .before .before .before .before .args in
     let k = c .before .before .written .given in
-    sym (length-take-le (k .0 .0) (now (a .page)) (subst (λ w. saidOf w .bytes ≤ length (now (a .page))) (k .1) (c .before .before .before .before .before .pre)))
+    sym (length-take-le (k .0 .0) (now (a .page)) (subst (λ w. valueOr 0 (answerOf w) ≤ length (now (a .page))) (k .1) (c .before .before .before .before .before .pre)))
 
 write-all-requires : tie.Need-write-all-requires
 write-all-requires c κs = search needs

@@ -5,17 +5,17 @@ use mathlib.Core.Bool.{true}
 use denote.Ref.{now}
 use lib.ListN.{length, drop}
 use borrow.Author.Tests.{not-true, not-false}
+use Rattle.model.specs.Answers.{Answer, value, refusal}
 use Rattle.model.specs.Books.{Book}
 use Rattle.model.specs.Refusals.{codeOf, lineOf}
 use Rattle.tables.specs.Layout.{cellCount, valueCount}
 use Rattle.tables.specs.Sizes.{longEnough}
 use Rattle.grammar.specs.Valid.{valid}
-use Rattle.grammar.specs.Reading.{Outcome, accepted, turnedDown, reading}
+use Rattle.grammar.specs.Reading.{reading}
 use Rattle.plan.specs.Layout.{planCount}
 use Rattle.translation.specs.Compile.{stepsOf, planOf}
 use Rattle.runner.specs.Run.{filled}
-use Rattle.validation.specs.Claim.{Said, steps, refusal}
-use Rattle.validation.specs.Lent.{Lent, lent, long}
+use Rattle.validation.specs.Lent.{Lent, lent, validateLong}
 use Rattle.validation.proofs.Whole.{room, Meets, too-short, turned-down, taken, is-valid, was-refused, was-accepted, names-left, cells-left, values-left, lent-same, cells-of, values-of, well-formed-of, rows-of, lengths-of, long-kept}
 use borrow.Author.Needs.{needs}
 use Rattle.validation.proofs.validate.Statement.{statement}
@@ -62,12 +62,12 @@ run-tables-requires c κs =
     let a = c .before .before .before .before .before .before .before .before .before .before .before .before .before .before .before .before .before .before .before .before .before .before .before .before .before .before .before .before .before .before .before .before .before .before .args in
     let s : List ℕ = now (a .book) in
     let l : Lent = (lent (now (a .names)) (now (a .cells)) (now (a .values)) (now (a .plan)) (now (a .work)) (now (a .lists)) (now (a .lengths))) in
-    let e : long l ≡ true = (sym (c .before .before .before .before .before .before .before .before .before .before .before .before .before .before .before .before .before .before .before .long-enough .ensures) ∙ not-false (c .before .before .before .before .before .before .before .before .before .before .before .before .before .before .before .before .before .before .before .long-enough .result) (c .before .before .before .before .before .before .before .before .before .before .before .before .before .before .before .before .before .before .if1 .left)) in
+    let e : validateLong l ≡ true = (sym (c .before .before .before .before .before .before .before .before .before .before .before .before .before .before .before .before .before .before .before .long-enough .ensures) ∙ not-false (c .before .before .before .before .before .before .before .before .before .before .before .before .before .before .before .before .before .before .before .long-enough .result) (c .before .before .before .before .before .before .before .before .before .before .before .before .before .before .before .before .before .before .if1 .left)) in
     let t : longEnough (now (a .names)) (now (a .cells)) (now (a .values)) ≡ true = room l e .tables in
     let x = c .before .before .before .before .before .before .before .before .before .before .before .before .before .before .read in
     let w = was-accepted s (now (a .names)) (now (a .cells)) (now (a .values)) t (x .result) (c .before .before .before .before .before .before .before .enum-told .given .0 .0) (x .ensures .0) (c .before .before .before .before .before .before .before .enum-told .given .1) in
     let b : Book = w .0 in
-    let o : Outcome = accepted b in
+    let o : Answer Book = value b in
     let v : valid b ≡ true = is-valid s l e b (w .1) in
     let cells = x .ensures .1 .1 .0 ∙ cells-left s (now (a .names)) (now (a .cells)) (now (a .values)) t o (w .1) in
     let values = x .ensures .1 .1 .1 ∙ values-left s (now (a .names)) (now (a .cells)) (now (a .values)) t o (w .1) in
@@ -100,12 +100,12 @@ returns-2 c =
     let a = c .before .before .before .before .before .before .before .before .before .before .before .before .before .before .before .before .before .before .before .before .before .before .before .before .before .before .before .before .args in
     let s : List ℕ = now (a .book) in
     let l : Lent = (lent (now (a .names)) (now (a .cells)) (now (a .values)) (now (a .plan)) (now (a .work)) (now (a .lists)) (now (a .lengths))) in
-    let e : long l ≡ true = (sym (c .before .before .before .before .before .before .before .before .before .before .before .before .before .long-enough .ensures) ∙ not-false (c .before .before .before .before .before .before .before .before .before .before .before .before .before .long-enough .result) (c .before .before .before .before .before .before .before .before .before .before .before .before .if1 .left)) in
+    let e : validateLong l ≡ true = (sym (c .before .before .before .before .before .before .before .before .before .before .before .before .before .long-enough .ensures) ∙ not-false (c .before .before .before .before .before .before .before .before .before .before .before .before .before .long-enough .result) (c .before .before .before .before .before .before .before .before .before .before .before .before .if1 .left)) in
     let t : longEnough (now (a .names)) (now (a .cells)) (now (a .values)) ≡ true = room l e .tables in
     let x = c .before .before .before .before .before .before .before .before .read in
     let r = c .before .r .given .0 .0 in
-    let q : reading s ≡ turnedDown (codeOf r) (lineOf r) = was-refused s (now (a .names)) (now (a .cells)) (now (a .values)) t (x .result) r (x .ensures .0) (c .before .r .given .1) in
-    let o : Outcome = turnedDown (codeOf r) (lineOf r) in
+    let q : reading s ≡ refusal (codeOf r) (lineOf r) = was-refused s (now (a .names)) (now (a .cells)) (now (a .values)) t (x .result) r (x .ensures .0) (c .before .r .given .1) in
+    let o : Answer Book = refusal (codeOf r) (lineOf r) in
     subst (Meets s l (refusal (codeOf r) (lineOf r))) (sym (lent-same (x .ensures .1 .0 ∙ names-left s (now (a .names)) (now (a .cells)) (now (a .values)) t o q) (x .ensures .1 .1 .0 ∙ cells-left s (now (a .names)) (now (a .cells)) (now (a .values)) t o q) (x .ensures .1 .1 .1 ∙ values-left s (now (a .names)) (now (a .cells)) (now (a .values)) t o q) refl refl refl refl)) (turned-down s l e (codeOf r) (lineOf r) q)
 
 same-length-15 : tie.Need-same-length-15
@@ -134,12 +134,12 @@ returns-3 c =
     let a = c .before .before .before .before .before .before .before .before .before .before .before .before .before .before .before .before .before .before .before .before .before .before .before .before .before .before .before .before .before .before .before .before .before .before .before .before .before .before .before .before .before .before .before .args in
     let s : List ℕ = now (a .book) in
     let l : Lent = (lent (now (a .names)) (now (a .cells)) (now (a .values)) (now (a .plan)) (now (a .work)) (now (a .lists)) (now (a .lengths))) in
-    let e : long l ≡ true = (sym (c .before .before .before .before .before .before .before .before .before .before .before .before .before .before .before .before .before .before .before .before .before .before .before .before .before .before .before .before .long-enough .ensures) ∙ not-false (c .before .before .before .before .before .before .before .before .before .before .before .before .before .before .before .before .before .before .before .before .before .before .before .before .before .before .before .before .long-enough .result) (c .before .before .before .before .before .before .before .before .before .before .before .before .before .before .before .before .before .before .before .before .before .before .before .before .before .before .before .if1 .left)) in
+    let e : validateLong l ≡ true = (sym (c .before .before .before .before .before .before .before .before .before .before .before .before .before .before .before .before .before .before .before .before .before .before .before .before .before .before .before .before .long-enough .ensures) ∙ not-false (c .before .before .before .before .before .before .before .before .before .before .before .before .before .before .before .before .before .before .before .before .before .before .before .before .before .before .before .before .long-enough .result) (c .before .before .before .before .before .before .before .before .before .before .before .before .before .before .before .before .before .before .before .before .before .before .before .before .before .before .before .if1 .left)) in
     let t : longEnough (now (a .names)) (now (a .cells)) (now (a .values)) ≡ true = room l e .tables in
     let x = c .before .before .before .before .before .before .before .before .before .before .before .before .before .before .before .before .before .before .before .before .before .before .before .read in
     let w = was-accepted s (now (a .names)) (now (a .cells)) (now (a .values)) t (x .result) (c .before .before .before .before .before .before .before .before .before .before .before .before .before .before .before .before .enum-told .given .0 .0) (x .ensures .0) (c .before .before .before .before .before .before .before .before .before .before .before .before .before .before .before .before .enum-told .given .1) in
     let b : Book = w .0 in
-    let o : Outcome = accepted b in
+    let o : Answer Book = value b in
     let v : valid b ≡ true = is-valid s l e b (w .1) in
     let cells = x .ensures .1 .1 .0 ∙ cells-left s (now (a .names)) (now (a .cells)) (now (a .values)) t o (w .1) in
     let values = x .ensures .1 .1 .1 ∙ values-left s (now (a .names)) (now (a .cells)) (now (a .values)) t o (w .1) in
@@ -150,7 +150,7 @@ returns-3 c =
     let m = lent-same (x .ensures .1 .0 ∙ names-left s (now (a .names)) (now (a .cells)) (now (a .values)) t o (w .1)) cells values (y .ensures .1 .0 ∙ ap (λ k. planOf k ++ drop planCount (now (a .plan))) E) (y .ensures .1 .1 .0 ∙ ap₂ (λ k z. filled k z (planOf k) (now (a .work))) E F) (y .ensures .1 .1 .1 .0 ∙ rows-of b v (x .last .1 .1 .0) (drop cellCount (now (a .cells))) (x .last .1 .1 .1 .0) (drop valueCount (now (a .values))) cells values (now (a .lists))) (y .ensures .1 .1 .1 .1 ∙ lengths-of b v (x .last .1 .1 .0) (drop cellCount (now (a .cells))) (x .last .1 .1 .1 .0) (drop valueCount (now (a .values))) cells values (now (a .lengths))) in
     let n₁ = sym n in
     let m₁ = sym m in
-    subst (λ (z : Said × Lent). Meets s l (z .0) (z .1)) (λ j. (steps (n₁ j), m₁ j)) (taken s l e b (w .1))
+    subst (λ (z : Answer ℕ × Lent). Meets s l (z .0) (z .1)) (λ j. (value (n₁ j), m₁ j)) (taken s l e b (w .1))
 
 pub validate-spec : {M : Type 1} → statement M
 validate-spec =

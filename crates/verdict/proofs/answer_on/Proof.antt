@@ -6,7 +6,7 @@ use lib.Dec.{ltb}
 use borrow.Author.Tests.{not-true, not-false}
 use Rattle.tables.specs.Layout.{formCount}
 use Rattle.tables.proofs.WellFormed.{sound}
-use Rattle.verdict.proofs.Answers.{judged-malformed, places-there, judged-absent, judged-given}
+use Rattle.verdict.proofs.Answers.{on-malformed, places-there, on-absent, on-given}
 use borrow.Author.Needs.{needs}
 use Rattle.verdict.proofs.answer_on.Statement.{statement}
 use Rattle.verdict.proofs.answer_on.Tie as tie
@@ -21,12 +21,12 @@ shape-count-requires : tie.Need-shape-count-requires
 shape-count-requires c κs = search needs
 
 returns : tie.Need-returns
-returns c = let a = c .before .before .before .before .before .args in judged-malformed (a .cells .now) (a .values .now) (a .node) (a .shape) (sym (c .before .before .before .well-formed .ensures) ∙ not-true (c .before .before .before .well-formed .result) (c .if1 .taken))
+returns c = let a = c .before .before .before .before .before .args in on-malformed (a .cells .now) (a .values .now) (a .node) (a .shape) (sym (c .before .before .before .well-formed .ensures) ∙ not-true (c .before .before .before .well-formed .result) (c .if1 .taken))
 
 returns-2 : tie.Need-returns-2
 returns-2 c =
     let a = c .before .before .before .before .before .before .args in
-    judged-absent (a .cells .now) (a .values .now) (a .node) (a .shape) (sym (c .before .before .before .before .well-formed .ensures) ∙ not-false (c .before .before .before .before .well-formed .result) (c .before .if1 .left)) (λ i. ltb (a .node) (sym (c .before .before .before .node-count .ensures) i) && ltb (a .shape) (sym (c .before .before .shape-count .ensures) i)) (not-true _ (c .if2 .taken))
+    on-absent (a .cells .now) (a .values .now) (a .node) (a .shape) (sym (c .before .before .before .before .well-formed .ensures) ∙ not-false (c .before .before .before .before .well-formed .result) (c .before .if1 .left)) (λ i. ltb (a .node) (sym (c .before .before .before .node-count .ensures) i) && ltb (a .shape) (sym (c .before .before .shape-count .ensures) i)) (not-true _ (c .if2 .taken))
 
 root-requires : tie.Need-root-requires
 root-requires c κs = search needs
@@ -42,12 +42,12 @@ conforming-requires c κs =
 returns-3 : tie.Need-returns-3
 returns-3 c =
     let a = c .before .before .before .before .before .before .before .before .before .args in
-    judged-given (a .cells .now) (a .values .now) (a .node) (a .shape) (sym (c .before .before .before .before .before .before .before .well-formed .ensures) ∙ not-false (c .before .before .before .before .before .before .before .well-formed .result) (c .before .before .before .before .if1 .left)) (λ i. ltb (a .node) (sym (c .before .before .before .before .before .before .node-count .ensures) i) && ltb (a .shape) (sym (c .before .before .before .before .before .shape-count .ensures) i)) (not-false _ (c .before .before .before .if2 .left)) (c .before .before .root .result) (c .before .before .root .ensures) (sym (c .before .conforming .ensures) ∙ not-true _ (c .if3 .taken))
+    on-given (a .cells .now) (a .values .now) (a .node) (a .shape) (sym (c .before .before .before .before .before .before .before .well-formed .ensures) ∙ not-false (c .before .before .before .before .before .before .before .well-formed .result) (c .before .before .before .before .if1 .left)) (λ i. ltb (a .node) (sym (c .before .before .before .before .before .before .node-count .ensures) i) && ltb (a .shape) (sym (c .before .before .before .before .before .shape-count .ensures) i)) (not-false _ (c .before .before .before .if2 .left)) (c .before .before .root .result) (c .before .before .root .ensures) (sym (c .before .conforming .ensures) ∙ not-true _ (c .if3 .taken))
 
 returns-4 : tie.Need-returns-4
 returns-4 c =
     let a = c .before .before .before .before .before .before .before .before .before .args in
-    judged-given (a .cells .now) (a .values .now) (a .node) (a .shape) (sym (c .before .before .before .before .before .before .before .well-formed .ensures) ∙ not-false (c .before .before .before .before .before .before .before .well-formed .result) (c .before .before .before .before .if1 .left)) (λ i. ltb (a .node) (sym (c .before .before .before .before .before .before .node-count .ensures) i) && ltb (a .shape) (sym (c .before .before .before .before .before .shape-count .ensures) i)) (not-false _ (c .before .before .before .if2 .left)) (c .before .before .root .result) (c .before .before .root .ensures) (sym (c .before .conforming .ensures) ∙ not-false _ (c .if3 .left))
+    on-given (a .cells .now) (a .values .now) (a .node) (a .shape) (sym (c .before .before .before .before .before .before .before .well-formed .ensures) ∙ not-false (c .before .before .before .before .before .before .before .well-formed .result) (c .before .before .before .before .if1 .left)) (λ i. ltb (a .node) (sym (c .before .before .before .before .before .before .node-count .ensures) i) && ltb (a .shape) (sym (c .before .before .before .before .before .shape-count .ensures) i)) (not-false _ (c .before .before .before .if2 .left)) (c .before .before .root .result) (c .before .before .root .ensures) (sym (c .before .conforming .ensures) ∙ not-false _ (c .if3 .left))
 
 pub answer-on-spec : {M : Type 1} → statement M
 answer-on-spec =

@@ -7,7 +7,7 @@ use lib.Seq.{length-take-le}
 use borrow.Author.Tests.{not-true, not-false}
 use Rattle.tables.specs.Sizes.{longEnough}
 use Rattle.tables.proofs.Sizes.{long}
-use Rattle.verdict.proofs.Answers.{judged-short, judged-long, answered}
+use Rattle.verdict.proofs.Answers.{verdict-short, verdict-long, answered}
 use borrow.Author.Needs.{needs}
 use Rattle.verdict.proofs.verdict.Statement.{statement}
 use Rattle.verdict.proofs.verdict.Tie as tie
@@ -21,7 +21,7 @@ told-requires c κs = search needs
 returns : tie.Need-returns
 returns c =
     let a = c .before .before .before .before .before .args in
-    answered (a .tally) (c .told .ensures .0) (c .told .ensures .1) (judged-short (now (a .names)) (now (a .cells)) (now (a .values)) (a .node) (a .shape) (sym (c .before .before .enough .ensures) ∙ not-true (c .before .before .enough .result) (c .before .if1 .taken)))
+    answered (a .tally) (c .told .ensures .0) (c .told .ensures .1) (verdict-short (now (a .names)) (now (a .cells)) (now (a .values)) (a .node) (a .shape) (sym (c .before .before .enough .ensures) ∙ not-true (c .before .before .enough .result) (c .before .if1 .taken)))
 
 slice-aggregate-answer-on : tie.Need-slice-aggregate-answer-on
 slice-aggregate-answer-on c =
@@ -48,7 +48,7 @@ returns-2 : tie.Need-returns-2
 returns-2 c =
     let a = c .before .before .before .before .before .before .before .before .args in
     let e : longEnough (now (a .names)) (now (a .cells)) (now (a .values)) ≡ true = sym (c .before .before .before .before .before .enough .ensures) ∙ not-false (c .before .before .before .before .before .enough .result) (c .before .before .before .before .if1 .left) in
-    answered (a .tally) (c .told2 .ensures .0) (c .told2 .ensures .1) (c .before .answer-on .ensures ∙ judged-long (now (a .names)) (now (a .cells)) (now (a .values)) (a .node) (a .shape) e)
+    answered (a .tally) (c .told2 .ensures .0) (c .told2 .ensures .1) (c .before .answer-on .ensures ∙ verdict-long (now (a .names)) (now (a .cells)) (now (a .values)) (a .node) (a .shape) e)
 
 pub verdict-spec : {M : Type 1} → statement M
 verdict-spec =
