@@ -8,6 +8,7 @@ use lib.IntN.{ℤ}
 use lib.ListN.{length, take, drop}
 use Rattle.nodeset.specs.Words.{wordsOf}
 use Rattle.model.specs.Refusals.{codeOf, lineOf}
+use Rattle.model.specs.Limits.{maxSteps}
 use Rattle.tables.specs.Layout.{cellCount, valueCount, nodeCount}
 use Rattle.tables.specs.Sizes.{longEnough}
 use Rattle.tables.specs.WellFormed.{wellFormed}
@@ -17,9 +18,13 @@ use Rattle.plan.specs.WellFormed.{planWellFormed}
 use Rattle.runner.specs.declared.Ran.{Ran}
 use Rattle.runner.specs.declared.Ran.the-variants.{Done, Refused}
 
--- how long the work space must be: sixteen words for each of 512 steps
+-- how long the work space must be: sixteen words for each step
 abbrev pub workCount : ℕ
-workCount = 8192
+workCount = 16 * maxSteps
+
+-- how many nodes are few: their rows of ends are short
+abbrev pub fewNodes : ℕ
+fewNodes = 64
 
 -- ---- the answer: what document 01 says of each of its cases, the refusal's number and its line; none where all was done
 abbrev pub saidOf : Ran → Option (ℕ × ℕ)

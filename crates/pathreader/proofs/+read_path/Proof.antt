@@ -7,6 +7,7 @@ use borrow.Author.Tests.{leb-false}
 use lib.ListN.{length}
 use Rattle.text.proofs.Parts.{inside}
 use Rattle.model.specs.Paths.{inverse}
+use Rattle.model.specs.Limits.{maxPaths}
 use Rattle.grammar.specs.Syntax.{path}
 use Rattle.grammar.specs.Reading.{pathBegun, after, readersAt}
 use Rattle.stores.specs.Entries.{putPath}
@@ -84,7 +85,7 @@ read-path-read-path-requires t c κs =
     let m = p .0 in
     let w = headed-word _ _ _ _ (c .before .before .before .before .path-head .result) _ _ (c .before .before .before .before .path-head .ensures .1) (c .before .before .code .given .1) in
     let s = c .before .before .before .before .before .before .before .before .before .before .before .args in
-    let u = leb-false 128 (s .n + s .up) (w .2) in
+    let u = leb-false maxPaths (s .n + s .up) (w .2) in
     let l = w .1 in
     (omega arith, (w .3, p .1 .1, p .1 .2, omega arith, p .1 .4, p .1 .5))
 

@@ -9,15 +9,16 @@ use Rattle.tables.proofs.Blank.{Filled, filled-none, filled-more, blank-front}
 use borrow.Author.Needs.{needs}
 use Rattle.plan.proofs.clear_plan.Statement.{statement}
 use Rattle.plan.proofs.clear_plan.Tie as tie
+use Rattle.plan.specs.Layout.{planCount}
 
 abbrev Inv-loop : tie.InvT-loop
-Inv-loop plan₀ i₀ plan i = Filled 0 plan₀ 2593 plan i
+Inv-loop plan₀ i₀ plan i = Filled 0 plan₀ planCount plan i
 
 abbrev μ-loop : tie.MeasureT-loop
-μ-loop plan₀ i₀ plan i = 2593 - i
+μ-loop plan₀ i₀ plan i = planCount - i
 
 loop-holds : tie.Need-loop-holds Inv-loop μ-loop
-loop-holds c = filled-none 0 (now (c .args .plan)) 2593
+loop-holds c = filled-none 0 (now (c .args .plan)) planCount
 
 mul-plan : tie.Need-mul-plan Inv-loop μ-loop
 mul-plan c = search needs
@@ -32,7 +33,7 @@ loop-less : tie.Need-loop-less Inv-loop μ-loop
 loop-less c = search needs
 
 loop-again : tie.Need-loop-again Inv-loop μ-loop
-loop-again c = filled-more 0 (now (c .before .before .args .plan)) (c .before .loop .plan) 2593 (c .before .loop .i) (c .before .loop .inv) (omega arith) (omega arith)
+loop-again c = filled-more 0 (now (c .before .before .args .plan)) (c .before .loop .plan) planCount (c .before .loop .i) (c .before .loop .inv) (omega arith) (omega arith)
 
 same-length : tie.Need-same-length Inv-loop μ-loop
 same-length c = search needs
@@ -40,8 +41,8 @@ same-length c = search needs
 returns : tie.Need-returns Inv-loop μ-loop
 returns c =
     let l : List ℕ = now (c .before .before .args .plan) in
-    let e : c .before .loop .i ≡ 2593 = omega arith in
-    c .before .loop .inv .1 ∙ ap (λ (n : ℕ). replicate n 0 ++ drop n l) e ∙ sym (blank-front 0 2593 l (omega arith))
+    let e : c .before .loop .i ≡ planCount = omega arith in
+    c .before .loop .inv .1 ∙ ap (λ (n : ℕ). replicate n 0 ++ drop n l) e ∙ sym (blank-front 0 planCount l (omega arith))
 
 pub clear-plan-spec : {M : Type 1} → statement M
 clear-plan-spec =

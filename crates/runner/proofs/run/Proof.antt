@@ -4,6 +4,8 @@ use native.Mathlib.Nat.{le-of-eq}
 use denote.Ref.{now}
 use lib.Seq.{length-take-le}
 use borrow.Author.Needs.{needs}
+use Rattle.tables.specs.Layout.{cellCount, valueCount}
+use Rattle.plan.specs.Layout.{planCount}
 use Rattle.runner.proofs.Answers.{Lent, bothRight, Right, short, lent, right, malformed, done}
 use Rattle.runner.proofs.run.Statement.{statement}
 use Rattle.runner.proofs.run.Tie as tie
@@ -37,10 +39,10 @@ returns : tie.Need-returns
 returns c = short (now (c .before .before .before .before .before .before .before .args .names)) (now (c .before .before .before .before .before .before .before .args .cells)) (now (c .before .before .before .before .before .before .before .args .values)) (now (c .before .before .before .before .before .before .before .args .plan)) (now (c .before .before .before .before .before .before .before .args .work)) (c .before .lent-long .result) (c .before .lent-long .ensures) (c .if1 .taken)
 
 slice-aggregate-cs : tie.Need-slice-aggregate-cs
-slice-aggregate-cs c = sym (length-take-le 16602 (now (c .before .before .before .before .before .before .before .before .args .cells)) (is-lent (c .before) .tables .cells))
+slice-aggregate-cs c = sym (length-take-le cellCount (now (c .before .before .before .before .before .before .before .before .args .cells)) (is-lent (c .before) .tables .cells))
 
 slice-aggregate-ps : tie.Need-slice-aggregate-ps
-slice-aggregate-ps c = sym (length-take-le 2593 (now (c .before .before .before .before .before .before .before .before .before .args .plan)) (is-lent (c .before .before) .plan))
+slice-aggregate-ps c = sym (length-take-le planCount (now (c .before .before .before .before .before .before .before .before .before .args .plan)) (is-lent (c .before .before) .plan))
 
 both-right-requires : tie.Need-both-right-requires
 both-right-requires c κs = search needs
@@ -52,10 +54,10 @@ returns-2 : tie.Need-returns-2
 returns-2 c = malformed (is-lent (c .before .before .before .before)) (c .before .both-right .result) (said (c .before)) (c .if2 .taken)
 
 slice-aggregate-run-steps : tie.Need-slice-aggregate-run-steps
-slice-aggregate-run-steps c = sym (length-take-le 1136 (now (c .before .before .before .before .before .before .before .before .before .before .before .before .before .args .values)) (is-lent (c .before .before .before .before .before .before) .tables .values))
+slice-aggregate-run-steps c = sym (length-take-le valueCount (now (c .before .before .before .before .before .before .before .before .before .before .before .before .before .args .values)) (is-lent (c .before .before .before .before .before .before) .tables .values))
 
 run-steps-requires : tie.Need-run-steps-requires
-run-steps-requires c κs = (le-of-eq (sym (length-take-le 16602 (now (c .before .before .before .before .before .before .before .before .before .before .before .before .before .args .cells)) (is-lent (c .before .before .before .before .before .before) .tables .cells))), is-right (c .before .before) .tables, is-right (c .before .before) .plan, is-lent (c .before .before .before .before .before .before) .work)
+run-steps-requires c κs = (le-of-eq (sym (length-take-le cellCount (now (c .before .before .before .before .before .before .before .before .before .before .before .before .before .args .cells)) (is-lent (c .before .before .before .before .before .before) .tables .cells))), is-right (c .before .before) .tables, is-right (c .before .before) .plan, is-lent (c .before .before .before .before .before .before) .work)
 
 same-length-3 : tie.Need-same-length-3
 same-length-3 c = search needs
