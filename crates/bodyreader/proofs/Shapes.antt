@@ -10,7 +10,8 @@ use Rattle.model.specs.Shapes.{Shape}
 use Rattle.model.specs.Books.{Name, Line, shape, Book, shapes, newNames, joins, newTriples, newShapes, newRules}
 use Rattle.model.specs.Sizes.{sumOver}
 use Rattle.model.specs.Valid.{capacity}
-use Rattle.tables.specs.Layout.{roots, cellCount, valueCount}
+use Rattle.model.specs.Limits.{maxShapes, nameBytes}
+use Rattle.tables.specs.Layout.{roots, cellCount, valueCount, nameCount}
 use Rattle.grammar.specs.Syntax.{new, form}
 use Rattle.grammar.specs.Reading.{Read, refused, Begun, after, begunAbove}
 use Rattle.stores.specs.Entries.{shapeCells, shapeValues}
@@ -74,10 +75,10 @@ pub done-past : (a : Book) (c : Counts) (x : Read Line) (r : LineAnswer) (k : �
 done-past a c x r k ns cs cs′ vs vs′ e q f g = subst (λ (y : Read Line). Done a c y r ns ns cs cs′ vs vs′) (sym e) (q, refl, f, g)
 
 -- the place of a new shape
-pub shape-place : (n : ℕ) → n < 64 → poolBase shapes + n * 32 + 32 ≤ 45056
+pub shape-place : (n : ℕ) → n < maxShapes → poolBase shapes + n * nameBytes + nameBytes ≤ nameCount
 unfolding poolBase
 shape-place n h = omega arith
 
-pub shape-room : (n : ℕ) → n < capacity shapes → n < 64
+pub shape-room : (n : ℕ) → n < capacity shapes → n < maxShapes
 unfolding capacity
 shape-room n h = h

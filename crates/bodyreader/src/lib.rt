@@ -6,9 +6,11 @@ use itemreader::Item;
 use itemreader::Pool;
 use itemreader::line_head;
 use itemreader::read_new;
+use itemreader::words;
 use leafreader::Ended;
 use leafreader::Form;
 use linereader::LineAnswer;
+use linereader::MAX_WITHIN;
 use linereader::fact_line;
 use linereader::line_end;
 use linereader::name_line;
@@ -20,6 +22,7 @@ use linereader::rule_line;
 use linereader::text_line;
 use linereader::words_line;
 use model::Counts;
+use tables::codes;
 use tables::layout::ROOTS;
 ghost use mathlib.Core.Path.{_≡_};
 ghost use mathlib.Core.List.{List};
@@ -30,15 +33,17 @@ ghost use lib.ListN.{length, getD};
 ghost use lib.Seq.{slice};
 ghost use Rattle.model.specs.Shapes.{Shape};
 ghost use Rattle.model.specs.Books.{Book, shape};
+ghost use Rattle.model.specs.Limits.{maxShapes, maxForms, maxName};
 ghost use Rattle.grammar.specs.Syntax.{linkL, shapeL, lineFamily};
 ghost use Rattle.grammar.specs.Reading.{lineAt};
+ghost use Rattle.tables.specs.Layout.{cellCount, valueCount, nameCount};
 ghost use Rattle.itemreader.specs.Held.{Limits, Held, Kinds, Indexed};
 ghost use Rattle.linereader.specs.Storing.{lineEnd, lineBody, Done, Fits};
 ghost use Rattle.bodyreader.specs.Storing.{shaped, FormHeld};
 
 // The counts with a shape, with which n entries and items have ended.
 fn with_shape(mut counts: Counts, n: Ended) -> Counts
-    requires { ⌜ counts .shapes ≤ 64 ⌝ }
+    requires { ⌜ counts .shapes ≤ maxShapes ⌝ }
     ensures { λ r. ⌜ r ≡ shaped n counts ⌝ }
 {
     counts.shapes += 1;
@@ -60,7 +65,7 @@ fn shape_end(
     n: Ended,
     last: usize,
 ) -> LineAnswer
-    requires { ⌜ (at + 1 ≤ end) × (end ≤ length (now book)) × (end - (at + 1) ≤ 31) × (last ≤ length (now book)) × (counts .shapes < 64) × (0 < n .forms) × (n .forms ≤ 112) × (45056 ≤ length (now names)) × (16602 ≤ length (now cells)) × Limits counts ⌝ }
+    requires { ⌜ (at + 1 ≤ end) × (end ≤ length (now book)) × (end - (at + 1) ≤ maxName) × (last ≤ length (now book)) × (counts .shapes < maxShapes) × (0 < n .forms) × (n .forms ≤ maxForms) × (nameCount ≤ length (now names)) × (cellCount ≤ length (now cells)) × Limits counts ⌝ }
     ensures { λ r. ⌜ ((a : Book) (φ : Shape) (cs : List ℕ) (vs vs′ : List ℤ) → Held (now (names .entry)) counts a → FormHeld a φ n cs (now (cells .entry)) vs vs′ → Done a counts (lineEnd (now (book .entry)) a true (shape (slice (at + 1) end (now (book .entry))) φ) last) r (now (names .entry)) (now (names .exit)) cs (now (cells .exit)) vs vs′) ⌝ }
 {
     let done = line_end(book, last, true, with_shape(counts, n));
@@ -84,7 +89,7 @@ fn shape_line(
     book: &[u8],
     at: usize,
 ) -> LineAnswer
-    requires { ⌜ (at ≤ length (now book)) × (45056 ≤ length (now names)) × (16602 ≤ length (now cells)) × (1136 ≤ length (now values)) × Limits counts × Fits counts × ((a : Book) × Held (now names) counts a) × Indexed (now names) counts (now index) ⌝ }
+    requires { ⌜ (at ≤ length (now book)) × (nameCount ≤ length (now names)) × (cellCount ≤ length (now cells)) × (valueCount ≤ length (now values)) × Limits counts × Fits counts × ((a : Book) × Held (now names) counts a) × Indexed (now names) counts (now index) ⌝ }
     ensures { λ r. ⌜ ((a : Book) → Held (now (names .entry)) counts a → Done a counts (lineBody (now (book .entry)) a shapeL at) r (now (names .entry)) (now (names .exit)) (now (cells .entry)) (now (cells .exit)) (now (values .entry)) (now (values .exit))) ⌝ }
 {
     let new = read_new(names, index, counts, Pool::Shapes, book, at);
@@ -96,7 +101,18 @@ fn shape_line(
         paths: counts.paths,
         items: counts.items,
     };
-    match read_form(cells, values, names, index, counts, book, end, 31, n, 0) {
+    match read_form(
+        cells,
+        values,
+        names,
+        index,
+        counts,
+        book,
+        end,
+        MAX_WITHIN,
+        n,
+        0,
+    ) {
         Form::No(k) => LineAnswer::No(k),
         Form::Is(m, last) => shape_end(names, cells, counts, book, at, end, m, last),
     }
@@ -113,20 +129,38 @@ fn read_body(
     book: &[u8],
     at: usize,
 ) -> LineAnswer
-    requires { ⌜ (at ≤ length (now book)) × (k < 11) × (45056 ≤ length (now names)) × (16602 ≤ length (now cells)) × (1136 ≤ length (now values)) × Limits counts × Fits counts × ((a : Book) × Held (now names) counts a) × Indexed (now names) counts (now index) ⌝ }
+    requires { ⌜ (at ≤ length (now book)) × (k < 11) × (nameCount ≤ length (now names)) × (cellCount ≤ length (now cells)) × (valueCount ≤ length (now values)) × Limits counts × Fits counts × ((a : Book) × Held (now names) counts a) × Indexed (now names) counts (now index) ⌝ }
     ensures { λ r. ⌜ ((a : Book) → Held (now (names .entry)) counts a → Kinds (now (cells .entry)) a → Done a counts (lineBody (now (book .entry)) a (getD (lineFamily .codes) k linkL) at) r (now (names .entry)) (now (names .exit)) (now (cells .entry)) (now (cells .exit)) (now (values .entry)) (now (values .exit))) ⌝ }
 {
     match k {
-        0 => name_line(names, index, counts, Pool::Links, book, at),
-        1 => name_line(names, index, counts, Pool::Types, book, at),
-        2 => name_line(names, index, counts, Pool::Langs, book, at),
-        3 => resource_line(names, cells, values, index, counts, 0, book, at),
-        4 => resource_line(names, cells, values, index, counts, 1, book, at),
-        5 => number_line(names, cells, values, index, counts, book, at),
-        6 => text_line(names, cells, values, index, counts, book, at),
-        7 => words_line(names, cells, values, index, counts, book, at),
-        8 => fact_line(cells, names, index, counts, book, at),
-        9 => shape_line(names, cells, values, index, counts, book, at),
+        words::LINE_LINK => name_line(names, index, counts, Pool::Links, book, at),
+        words::LINE_TYPE => name_line(names, index, counts, Pool::Types, book, at),
+        words::LINE_LANG => name_line(names, index, counts, Pool::Langs, book, at),
+        words::LINE_THING => resource_line(
+            names,
+            cells,
+            values,
+            index,
+            counts,
+            codes::NODE_THING,
+            book,
+            at,
+        ),
+        words::LINE_BLANK => resource_line(
+            names,
+            cells,
+            values,
+            index,
+            counts,
+            codes::NODE_BLANK,
+            book,
+            at,
+        ),
+        words::LINE_NUMBER => number_line(names, cells, values, index, counts, book, at),
+        words::LINE_TEXT => text_line(names, cells, values, index, counts, book, at),
+        words::LINE_WORDS => words_line(names, cells, values, index, counts, book, at),
+        words::LINE_FACT => fact_line(cells, names, index, counts, book, at),
+        words::LINE_SHAPE => shape_line(names, cells, values, index, counts, book, at),
         _ => rule_line(cells, names, index, counts, book, at),
     }
 }
@@ -141,7 +175,7 @@ pub fn read_line(
     book: &[u8],
     at: usize,
 ) -> LineAnswer
-    requires { ⌜ (at ≤ length (now book)) × (45056 ≤ length (now names)) × (16602 ≤ length (now cells)) × (1136 ≤ length (now values)) × Limits counts × Fits counts × ((a : Book) × Held (now names) counts a) × Indexed (now names) counts (now index) ⌝ }
+    requires { ⌜ (at ≤ length (now book)) × (nameCount ≤ length (now names)) × (cellCount ≤ length (now cells)) × (valueCount ≤ length (now values)) × Limits counts × Fits counts × ((a : Book) × Held (now names) counts a) × Indexed (now names) counts (now index) ⌝ }
     ensures { λ r. ⌜ ((a : Book) → Held (now (names .entry)) counts a → Kinds (now (cells .entry)) a → Done a counts (lineAt (now (book .entry)) a at) r (now (names .entry)) (now (names .exit)) (now (cells .entry)) (now (cells .exit)) (now (values .entry)) (now (values .exit))) ⌝ }
 {
     match line_head(book, at, 1, false) {

@@ -4,7 +4,7 @@ use mathlib.Core.List.{List, [], _∷_}
 use mathlib.Core.Path.{_≡_, refl, sym, ap, _∙_, subst}
 use native.Mathlib.Nat.{add-zero}
 use lib.ListN.{getD, List·getD-eq-default}
-use Rattle.tables.specs.Layout.{formCodeAt, formFirstAt, formSecondAt, formThirdAt, formFourthAt, limitAt, rootAt}
+use Rattle.tables.specs.Layout.{formCodeAt, formFirstAt, formSecondAt, formThirdAt, formFourthAt, limitAt, rootAt, noNumber}
 use Rattle.tables.specs.Entries.{Entry, entryOf}
 use Rattle.tables.specs.Decode.{entryAt}
 use Rattle.tablecheck.proofs.Codes.{in-range}
@@ -44,7 +44,7 @@ module _ (cs ps qs ks bs : List ℕ) (e n code next k m : ℕ) (ec : code ≡ fo
   unfolding entryOf entryPart numbersOf
   arm-top z r = arm-two 0 Step.all Step.none z refl r
 
-  pub arm-is : code ≡ 1 → TwoAdded ps qs n (2 ∷ formFirstAt cs e ∷ 0 ∷ 0 ∷ 0 ∷ []) (3 ∷ formFirstAt cs e ∷ 0 ∷ 0 ∷ 0 ∷ []) next k m → Done (part (entryAt cs [] e))
+  pub arm-is : code ≡ 1 → TwoAdded ps qs n (numbersOf (Step.is (formFirstAt cs e))) (numbersOf (Step.isnot (formFirstAt cs e))) next k m → Done (part (entryAt cs [] e))
   unfolding entryOf entryPart numbersOf
   arm-is z r = arm-two 1 (Step.is (formFirstAt cs e)) (Step.isnot (formFirstAt cs e)) z refl r
 
@@ -72,9 +72,9 @@ module _ (cs ps qs ks bs : List ℕ) (e n code next k m : ℕ) (ec : code ≡ fo
   unfolding entryOf entryPart numberIn
   arm-count z r = arm 13 (countPart n (formFirstAt cs e) (getD ks (formSecondAt cs e) 0) (formThirdAt cs e) (formFourthAt cs e)) z refl r
 
-  pub arm-all : code ≡ 14 → TwoAdded ps qs n (9 ∷ formFirstAt cs e ∷ getD ks (formSecondAt cs e) 0 ∷ 0 ∷ 0 ∷ []) (8 ∷ formFirstAt cs e ∷ getD bs (formSecondAt cs e) 0 ∷ 1 ∷ 65535 ∷ []) next k m → Done (part (entryAt cs [] e))
+  pub arm-all : code ≡ 14 → TwoAdded ps qs n (numbersOf (Step.every (formFirstAt cs e) (getD ks (formSecondAt cs e) 0))) (numbersOf (Step.count (formFirstAt cs e) (getD bs (formSecondAt cs e) 0) 1 noNumber)) next k m → Done (part (entryAt cs [] e))
   unfolding entryOf entryPart numbersOf numberIn
-  arm-all z r = arm-two 14 (Step.every (formFirstAt cs e) (getD ks (formSecondAt cs e) 0)) (Step.count (formFirstAt cs e) (getD bs (formSecondAt cs e) 0) 1 65535) z refl r
+  arm-all z r = arm-two 14 (Step.every (formFirstAt cs e) (getD ks (formSecondAt cs e) 0)) (Step.count (formFirstAt cs e) (getD bs (formSecondAt cs e) 0) 1 noNumber) z refl r
 
   pub arm-equal : code ≡ 15 → TwoAdded ps qs n (10 ∷ formFirstAt cs e ∷ formSecondAt cs e ∷ 0 ∷ 0 ∷ []) (11 ∷ formFirstAt cs e ∷ formSecondAt cs e ∷ 0 ∷ 0 ∷ []) next k m → Done (part (entryAt cs [] e))
   unfolding entryOf entryPart numbersOf
@@ -96,7 +96,7 @@ module _ (cs ps qs ks bs : List ℕ) (e n code next k m : ℕ) (ec : code ≡ fo
   unfolding entryOf entryPart numbersOf
   arm-lesseq z r = arm-two 19 (Step.lesseq (formFirstAt cs e) (formSecondAt cs e)) (Step.notlesseq (formFirstAt cs e) (formSecondAt cs e)) z refl r
 
-  pub arm-onelang : code ≡ 20 → TwoAdded ps qs n (20 ∷ formFirstAt cs e ∷ 0 ∷ 0 ∷ 0 ∷ []) (21 ∷ formFirstAt cs e ∷ 0 ∷ 0 ∷ 0 ∷ []) next k m → Done (part (entryAt cs [] e))
+  pub arm-onelang : code ≡ 20 → TwoAdded ps qs n (numbersOf (Step.onelang (formFirstAt cs e))) (numbersOf (Step.manylang (formFirstAt cs e))) next k m → Done (part (entryAt cs [] e))
   unfolding entryOf entryPart numbersOf
   arm-onelang z r = arm-two 20 (Step.onelang (formFirstAt cs e)) (Step.manylang (formFirstAt cs e)) z refl r
 

@@ -12,6 +12,7 @@ use lib.Seq.{getD-set-same, getD-set-other}
 use borrow.Author.Tests.{eqb-true, eqb-false}
 use Rattle.base.specs.Lists.{values}
 use Rattle.base.proofs.Lists.{length-valuesFrom, valuesFrom-snoc}
+use Rattle.model.specs.Limits.{maxRules, maxForms, maxSteps}
 use Rattle.tables.specs.Layout.{formCount, ruleCount, rootAt, ruleShapeAt, ruleTargetAt, ruleOperandAt}
 use Rattle.tables.specs.Decode.{entryAt, targetOf, ruleAt}
 use Rattle.tables.specs.Sizes.{cleared}
@@ -75,9 +76,9 @@ pub forms-none : (cs ps bs : List ℕ) → ((j : ℕ) → getD bs j 0 ≡ 0) →
 unfolding made withSteps
 forms-none cs ps bs h = record { stored = refl; after = refl; breaks = h }
 
-pub keeps-none : (cs : List ℕ) (j : ℕ) → getD (replicate 112 0) j 0 ≡ made cs 0 .keep j
+pub keeps-none : (cs : List ℕ) (j : ℕ) → getD (replicate maxForms 0) j 0 ≡ made cs 0 .keep j
 unfolding made
-keeps-none cs j = zeros 112 j
+keeps-none cs j = zeros maxForms j
 
 -- ---- targets by their codes
 module _ (cs ps qs : List ℕ) (r n code a : ℕ) (ec : code ≡ ruleTargetAt cs r) (ea : a ≡ ruleOperandAt cs r) where
@@ -113,7 +114,7 @@ pub rule-next : (cs : List ℕ) (r n : ℕ) → n ≡ length (stepsTo cs r) → 
 rule-next cs r n e = ap (λ (k : ℕ). k + 2) e ∙ sym (length-to cs r) ∙ ap (λ (k : ℕ). length (stepsTo cs k)) (sym (add-one r))
 
 -- the rules below r are there, and the plan has one more
-pub rule-more : (cs t qs rs : List ℕ) (r n b : ℕ) → r < 32 → n + 2 ≤ 512 → n ≡ length (stepsTo cs r) → b ≡ made cs (formCount cs) .brk (rootAt cs (ruleShapeAt cs r)) → rs ≡ ruleStored cs qs r n b → qs ≡ laid t [] (values (ruleStep cs) r) (stepsTo cs r) → rs ≡ laid t [] (values (ruleStep cs) (r + 1)) (stepsTo cs (r + 1))
+pub rule-more : (cs t qs rs : List ℕ) (r n b : ℕ) → r < maxRules → n + 2 ≤ maxSteps → n ≡ length (stepsTo cs r) → b ≡ made cs (formCount cs) .brk (rootAt cs (ruleShapeAt cs r)) → rs ≡ ruleStored cs qs r n b → qs ≡ laid t [] (values (ruleStep cs) r) (stepsTo cs r) → rs ≡ laid t [] (values (ruleStep cs) (r + 1)) (stepsTo cs (r + 1))
 unfolding ruleStored stepsTo ruleSteps ruleStep
 rule-more cs t qs rs r n b lr ln en eb f g =
     let new : List Step = ruleSteps cs r (length (stepsTo cs r)) in
@@ -124,7 +125,7 @@ rule-more cs t qs rs r n b lr ln en eb f g =
     ∙ ap (λ (k : ℕ). laid t [] (values (ruleStep cs) k) (stepsTo cs k)) (sym (add-one r))
 
 -- ---- the whole plan
-pub forms-laid : (cs ps p0 p1 : List ℕ) → planCount ≤ length ps → length (made cs (formCount cs) .steps) ≤ 512 → p0 ≡ cleared planCount 0 ps → p1 ≡ withSteps p0 0 (made cs (formCount cs) .steps) → p1 ≡ laid (drop planCount ps) [] [] (stepsTo cs 0)
+pub forms-laid : (cs ps p0 p1 : List ℕ) → planCount ≤ length ps → length (made cs (formCount cs) .steps) ≤ maxSteps → p0 ≡ cleared planCount 0 ps → p1 ≡ withSteps p0 0 (made cs (formCount cs) .steps) → p1 ≡ laid (drop planCount ps) [] [] (stepsTo cs 0)
 unfolding stepsTo
 forms-laid cs ps p0 p1 l few e f = f ∙ ap (λ (p : List ℕ). withSteps p 0 (made cs (formCount cs) .steps)) (e ∙ cleared-laid ps) ∙ store-steps (drop planCount ps) [] [] [] 0 (made cs (formCount cs) .steps) refl (omega arith)
 

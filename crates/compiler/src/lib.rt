@@ -1,11 +1,14 @@
 // Tables to a plan: the code for the definition of translation. Operations: compile.
 use base::cell;
+use model::MAX_FORMS;
 use model::Refusal;
 use plan::PLAN_CELLS;
 use plan::RULE_STEPS;
 use plan::clear_plan;
 use plan::put_step;
+use plan::steps;
 use tablecheck::well_formed;
+use tables::codes;
 use tables::layout::CELLS;
 use tables::layout::NO_NUMBER;
 use tables::lent::enough;
@@ -29,9 +32,10 @@ ghost use mathlib.Core.List.{List, [], _∷_, _++_};
 ghost use Prim.Native.Nat.{ℕ, _+_, _<_, _≤_};
 ghost use lib.ListN.{length, getD, replicate, drop};
 ghost use Rattle.base.specs.Lists.{values};
-ghost use Rattle.tables.specs.Layout.{formCount, ruleCount, formFirstAt, formSecondAt, formThirdAt, formFourthAt, rootAt, ruleShapeAt};
+ghost use Rattle.model.specs.Limits.{maxRules, maxForms, maxSteps};
+ghost use Rattle.tables.specs.Layout.{formCount, ruleCount, formFirstAt, formSecondAt, formThirdAt, formFourthAt, rootAt, ruleShapeAt, noNumber};
 ghost use Rattle.tables.specs.Decode.{entryAt, ruleAt};
-ghost use Rattle.plan.specs.Steps.{numbersOf};
+ghost use Rattle.plan.specs.Steps.{Step, numbersOf};
 ghost use Rattle.plan.specs.Layout.{planCount, withNumbers, laid};
 ghost use Rattle.translation.specs.Compile.{countPart, entryPart, made, targetStep, stepsTo, stepsOf, ruleStep, planOf};
 ghost use Rattle.compiler.specs.Stores.{numberIn, TwoAdded, Added, FormsAdded, ruleStored, Fits};
@@ -52,12 +56,21 @@ fn narrow(x: usize) -> u16
 }
 
 // A keeping step and a breaking one, neither of them a count.
-fn two(plan: &mut [u16], n: usize, c: u16, a: u16, b: u16, d: u16, x: u16, y: u16) -> Out
-    requires { ⌜ (planCount ≤ length (now plan)) × (n + 2 ≤ 512) ⌝ }
-    ensures { λ r. ⌜ TwoAdded (now (plan .entry)) (now (plan .exit)) n (c ∷ a ∷ b ∷ 0 ∷ 0 ∷ []) (d ∷ x ∷ y ∷ 0 ∷ 0 ∷ []) (r .next) (r .keep) (r .brk) ⌝ }
+fn two(
+    plan: &mut [u16],
+    n: usize,
+    keeping: u16,
+    a: u16,
+    b: u16,
+    breaking: u16,
+    x: u16,
+    y: u16,
+) -> Out
+    requires { ⌜ (planCount ≤ length (now plan)) × (n + 2 ≤ maxSteps) ⌝ }
+    ensures { λ r. ⌜ TwoAdded (now (plan .entry)) (now (plan .exit)) n (keeping ∷ a ∷ b ∷ 0 ∷ 0 ∷ []) (breaking ∷ x ∷ y ∷ 0 ∷ 0 ∷ []) (r .next) (r .keep) (r .brk) ⌝ }
 {
-    put_step(plan, n, c, a, b, 0, 0);
-    put_step(plan, n + 1, d, x, y, 0, 0);
+    put_step(plan, n, keeping, a, b, 0, 0);
+    put_step(plan, n + 1, breaking, x, y, 0, 0);
     Out {
         next: n + 2,
         keep: narrow(n),
@@ -67,39 +80,46 @@ fn two(plan: &mut [u16], n: usize, c: u16, a: u16, b: u16, d: u16, x: u16, y: u1
 
 // `is`.
 fn is_steps(plan: &mut [u16], cells: &[u16], e: usize, n: usize) -> Out
-    requires { ⌜ (planCount ≤ length (now plan)) × (n + 2 ≤ 512) ⌝ }
-    ensures { λ r. ⌜ TwoAdded (now (plan .entry)) (now (plan .exit)) n (2 ∷ formFirstAt (now (cells .entry)) e ∷ 0 ∷ 0 ∷ 0 ∷ []) (3 ∷ formFirstAt (now (cells .entry)) e ∷ 0 ∷ 0 ∷ 0 ∷ []) (r .next) (r .keep) (r .brk) ⌝ }
+    requires { ⌜ (planCount ≤ length (now plan)) × (n + 2 ≤ maxSteps) ⌝ }
+    ensures { λ r. ⌜ TwoAdded (now (plan .entry)) (now (plan .exit)) n (numbersOf (Step.is (formFirstAt (now (cells .entry)) e))) (numbersOf (Step.isnot (formFirstAt (now (cells .entry)) e))) (r .next) (r .keep) (r .brk) ⌝ }
 {
     let c = form_node(cells, e);
-    two(plan, n, 2, c.0, 0, 3, c.0, 0)
+    two(plan, n, steps::IS, c.0, 0, steps::ISNOT, c.0, 0)
 }
 
 // The tests and `closed`: the steps name the entry.
-fn own_steps(plan: &mut [u16], e: usize, n: usize, c: u16, d: u16) -> Out
-    requires { ⌜ (planCount ≤ length (now plan)) × (n + 2 ≤ 512) × (e < 112) ⌝ }
-    ensures { λ r. ⌜ TwoAdded (now (plan .entry)) (now (plan .exit)) n (c ∷ e ∷ 0 ∷ 0 ∷ 0 ∷ []) (d ∷ e ∷ 0 ∷ 0 ∷ 0 ∷ []) (r .next) (r .keep) (r .brk) ⌝ }
+fn own_steps(plan: &mut [u16], e: usize, n: usize, keeping: u16, breaking: u16) -> Out
+    requires { ⌜ (planCount ≤ length (now plan)) × (n + 2 ≤ maxSteps) × (e < maxForms) ⌝ }
+    ensures { λ r. ⌜ TwoAdded (now (plan .entry)) (now (plan .exit)) n (keeping ∷ e ∷ 0 ∷ 0 ∷ 0 ∷ []) (breaking ∷ e ∷ 0 ∷ 0 ∷ 0 ∷ []) (r .next) (r .keep) (r .brk) ⌝ }
 {
     let me = narrow(e);
-    two(plan, n, c, me, 0, d, me, 0)
+    two(plan, n, keeping, me, 0, breaking, me, 0)
 }
 
 // `onelang`.
 fn path_steps(plan: &mut [u16], cells: &[u16], e: usize, n: usize) -> Out
-    requires { ⌜ (planCount ≤ length (now plan)) × (n + 2 ≤ 512) ⌝ }
-    ensures { λ r. ⌜ TwoAdded (now (plan .entry)) (now (plan .exit)) n (20 ∷ formFirstAt (now (cells .entry)) e ∷ 0 ∷ 0 ∷ 0 ∷ []) (21 ∷ formFirstAt (now (cells .entry)) e ∷ 0 ∷ 0 ∷ 0 ∷ []) (r .next) (r .keep) (r .brk) ⌝ }
+    requires { ⌜ (planCount ≤ length (now plan)) × (n + 2 ≤ maxSteps) ⌝ }
+    ensures { λ r. ⌜ TwoAdded (now (plan .entry)) (now (plan .exit)) n (numbersOf (Step.onelang (formFirstAt (now (cells .entry)) e))) (numbersOf (Step.manylang (formFirstAt (now (cells .entry)) e))) (r .next) (r .keep) (r .brk) ⌝ }
 {
     let p = form_first(cells, e);
-    two(plan, n, 20, p, 0, 21, p, 0)
+    two(plan, n, steps::ONELANG, p, 0, steps::MANYLANG, p, 0)
 }
 
 // A path or `id`, and a link: `equal`, `apart`, `less`, `lesseq`.
-fn link_steps(plan: &mut [u16], cells: &[u16], e: usize, n: usize, c: u16, d: u16) -> Out
-    requires { ⌜ (planCount ≤ length (now plan)) × (n + 2 ≤ 512) ⌝ }
-    ensures { λ r. ⌜ TwoAdded (now (plan .entry)) (now (plan .exit)) n (c ∷ formFirstAt (now (cells .entry)) e ∷ formSecondAt (now (cells .entry)) e ∷ 0 ∷ 0 ∷ []) (d ∷ formFirstAt (now (cells .entry)) e ∷ formSecondAt (now (cells .entry)) e ∷ 0 ∷ 0 ∷ []) (r .next) (r .keep) (r .brk) ⌝ }
+fn link_steps(
+    plan: &mut [u16],
+    cells: &[u16],
+    e: usize,
+    n: usize,
+    keeping: u16,
+    breaking: u16,
+) -> Out
+    requires { ⌜ (planCount ≤ length (now plan)) × (n + 2 ≤ maxSteps) ⌝ }
+    ensures { λ r. ⌜ TwoAdded (now (plan .entry)) (now (plan .exit)) n (keeping ∷ formFirstAt (now (cells .entry)) e ∷ formSecondAt (now (cells .entry)) e ∷ 0 ∷ 0 ∷ []) (breaking ∷ formFirstAt (now (cells .entry)) e ∷ formSecondAt (now (cells .entry)) e ∷ 0 ∷ 0 ∷ []) (r .next) (r .keep) (r .brk) ⌝ }
 {
     let p = form_first(cells, e);
     let l = form_link(cells, e);
-    two(plan, n, c, p, l.0, d, p, l.0)
+    two(plan, n, keeping, p, l.0, breaking, p, l.0)
 }
 
 // `and`, `or`: one step of the keeps, one of the breaks.
@@ -110,11 +130,11 @@ fn joined(
     breaks: &[u16],
     e: usize,
     n: usize,
-    c: u16,
-    d: u16,
+    keeping: u16,
+    breaking: u16,
 ) -> Out
-    requires { ⌜ (planCount ≤ length (now plan)) × (n + 2 ≤ 512) ⌝ }
-    ensures { λ r. ⌜ TwoAdded (now (plan .entry)) (now (plan .exit)) n (c ∷ getD (now (keeps .entry)) (formFirstAt (now (cells .entry)) e) 0 ∷ getD (now (keeps .entry)) (formSecondAt (now (cells .entry)) e) 0 ∷ 0 ∷ 0 ∷ []) (d ∷ getD (now (breaks .entry)) (formFirstAt (now (cells .entry)) e) 0 ∷ getD (now (breaks .entry)) (formSecondAt (now (cells .entry)) e) 0 ∷ 0 ∷ 0 ∷ []) (r .next) (r .keep) (r .brk) ⌝ }
+    requires { ⌜ (planCount ≤ length (now plan)) × (n + 2 ≤ maxSteps) ⌝ }
+    ensures { λ r. ⌜ TwoAdded (now (plan .entry)) (now (plan .exit)) n (keeping ∷ getD (now (keeps .entry)) (formFirstAt (now (cells .entry)) e) 0 ∷ getD (now (keeps .entry)) (formSecondAt (now (cells .entry)) e) 0 ∷ 0 ∷ 0 ∷ []) (breaking ∷ getD (now (breaks .entry)) (formFirstAt (now (cells .entry)) e) 0 ∷ getD (now (breaks .entry)) (formSecondAt (now (cells .entry)) e) 0 ∷ 0 ∷ 0 ∷ []) (r .next) (r .keep) (r .brk) ⌝ }
 {
     let a = wide(form_first(cells, e));
     let b = wide(form_second(cells, e));
@@ -122,16 +142,16 @@ fn joined(
     let y = cell(keeps, b);
     let z = cell(breaks, a);
     let w = cell(breaks, b);
-    two(plan, n, c, x, y, d, z, w)
+    two(plan, n, keeping, x, y, breaking, z, w)
 }
 
 // `all`: Every of the keep, Count 1 * of the break.
 fn all_steps(plan: &mut [u16], n: usize, p: u16, j: u16, k: u16) -> Out
-    requires { ⌜ (planCount ≤ length (now plan)) × (n + 2 ≤ 512) ⌝ }
-    ensures { λ r. ⌜ TwoAdded (now (plan .entry)) (now (plan .exit)) n (9 ∷ p ∷ j ∷ 0 ∷ 0 ∷ []) (8 ∷ p ∷ k ∷ 1 ∷ 65535 ∷ []) (r .next) (r .keep) (r .brk) ⌝ }
+    requires { ⌜ (planCount ≤ length (now plan)) × (n + 2 ≤ maxSteps) ⌝ }
+    ensures { λ r. ⌜ TwoAdded (now (plan .entry)) (now (plan .exit)) n (numbersOf (Step.every p j)) (numbersOf (Step.count p k 1 noNumber)) (r .next) (r .keep) (r .brk) ⌝ }
 {
-    put_step(plan, n, 9, p, j, 0, 0);
-    put_step(plan, n + 1, 8, p, k, 1, NO_NUMBER);
+    put_step(plan, n, steps::EVERY, p, j, 0, 0);
+    put_step(plan, n + 1, steps::COUNT, p, k, 1, NO_NUMBER);
     Out {
         next: n + 2,
         keep: narrow(n),
@@ -147,8 +167,8 @@ fn all_entry(
     e: usize,
     n: usize,
 ) -> Out
-    requires { ⌜ (planCount ≤ length (now plan)) × (n + 2 ≤ 512) ⌝ }
-    ensures { λ r. ⌜ TwoAdded (now (plan .entry)) (now (plan .exit)) n (9 ∷ formFirstAt (now (cells .entry)) e ∷ getD (now (keeps .entry)) (formSecondAt (now (cells .entry)) e) 0 ∷ 0 ∷ 0 ∷ []) (8 ∷ formFirstAt (now (cells .entry)) e ∷ getD (now (breaks .entry)) (formSecondAt (now (cells .entry)) e) 0 ∷ 1 ∷ 65535 ∷ []) (r .next) (r .keep) (r .brk) ⌝ }
+    requires { ⌜ (planCount ≤ length (now plan)) × (n + 2 ≤ maxSteps) ⌝ }
+    ensures { λ r. ⌜ TwoAdded (now (plan .entry)) (now (plan .exit)) n (numbersOf (Step.every (formFirstAt (now (cells .entry)) e) (getD (now (keeps .entry)) (formSecondAt (now (cells .entry)) e) 0))) (numbersOf (Step.count (formFirstAt (now (cells .entry)) e) (getD (now (breaks .entry)) (formSecondAt (now (cells .entry)) e) 0) 1 noNumber)) (r .next) (r .keep) (r .brk) ⌝ }
 {
     let a = wide(form_second(cells, e));
     let j = cell(keeps, a);
@@ -158,7 +178,7 @@ fn all_entry(
 
 // `count`: Count of the keep, and the steps that break it.
 fn count_steps(plan: &mut [u16], n: usize, p: u16, j: u16, lo: u16, hi: u16) -> Out
-    requires { ⌜ (planCount ≤ length (now plan)) × (n + 4 ≤ 512) ⌝ }
+    requires { ⌜ (planCount ≤ length (now plan)) × (n + 4 ≤ maxSteps) ⌝ }
     ensures { λ r. ⌜ Added (now (plan .entry)) (now (plan .exit)) n (countPart n p j lo hi) (r .next) (r .keep) (r .brk) ⌝ }
 {
     let own = Out {
@@ -166,21 +186,21 @@ fn count_steps(plan: &mut [u16], n: usize, p: u16, j: u16, lo: u16, hi: u16) -> 
         keep: narrow(n),
         brk: narrow(n + 1),
     };
-    put_step(plan, n, 8, p, j, lo, hi);
+    put_step(plan, n, steps::COUNT, p, j, lo, hi);
     if lo == 0 {
         if hi == NO_NUMBER {
-            put_step(plan, n + 1, 1, 0, 0, 0, 0);
+            put_step(plan, n + 1, steps::NONE, 0, 0, 0, 0);
             return own;
         }
-        put_step(plan, n + 1, 8, p, j, hi + 1, NO_NUMBER);
+        put_step(plan, n + 1, steps::COUNT, p, j, hi + 1, NO_NUMBER);
         return own;
     }
-    put_step(plan, n + 1, 8, p, j, 0, lo - 1);
+    put_step(plan, n + 1, steps::COUNT, p, j, 0, lo - 1);
     if hi == NO_NUMBER {
         return own;
     }
-    put_step(plan, n + 2, 8, p, j, hi + 1, NO_NUMBER);
-    put_step(plan, n + 3, 7, own.brk, narrow(n + 2), 0, 0);
+    put_step(plan, n + 2, steps::COUNT, p, j, hi + 1, NO_NUMBER);
+    put_step(plan, n + 3, steps::EITHER, own.brk, narrow(n + 2), 0, 0);
     Out {
         next: n + 4,
         keep: own.keep,
@@ -189,7 +209,7 @@ fn count_steps(plan: &mut [u16], n: usize, p: u16, j: u16, lo: u16, hi: u16) -> 
 }
 
 fn count_entry(plan: &mut [u16], cells: &[u16], keeps: &[u16], e: usize, n: usize) -> Out
-    requires { ⌜ (planCount ≤ length (now plan)) × (n + 4 ≤ 512) ⌝ }
+    requires { ⌜ (planCount ≤ length (now plan)) × (n + 4 ≤ maxSteps) ⌝ }
     ensures { λ r. ⌜ Added (now (plan .entry)) (now (plan .exit)) n (countPart n (formFirstAt (now (cells .entry)) e) (getD (now (keeps .entry)) (formSecondAt (now (cells .entry)) e) 0) (formThirdAt (now (cells .entry)) e) (formFourthAt (now (cells .entry)) e)) (r .next) (r .keep) (r .brk) ⌝ }
 {
     let j = cell(keeps, wide(form_second(cells, e)));
@@ -231,27 +251,27 @@ fn compile_entry(
     e: usize,
     n: usize,
 ) -> Out
-    requires { ⌜ (planCount ≤ length (now plan)) × (e < 112) × (n + 4 ≤ 512) ⌝ }
+    requires { ⌜ (planCount ≤ length (now plan)) × (e < maxForms) × (n + 4 ≤ maxSteps) ⌝ }
     ensures { λ r. ⌜ Added (now (plan .entry)) (now (plan .exit)) n (entryPart (now (cells .entry)) (numberIn (now (keeps .entry))) (numberIn (now (breaks .entry))) n e (entryAt (now (cells .entry)) [] e)) (r .next) (r .keep) (r .brk) ⌝ }
 {
     let code = form_code(cells, e);
     match code {
-        0 => two(plan, n, 0, 0, 0, 1, 0, 0),
-        1 => is_steps(plan, cells, e, n),
-        2 => same_steps(cells, keeps, breaks, e, n),
-        3 => joined(plan, cells, keeps, breaks, e, n, 6, 7),
-        4 => joined(plan, cells, keeps, breaks, e, n, 7, 6),
-        5 => swapped(cells, keeps, breaks, e, n),
-        6..=12 => own_steps(plan, e, n, 4, 5),
-        13 => count_entry(plan, cells, keeps, e, n),
-        14 => all_entry(plan, cells, keeps, breaks, e, n),
-        15 => link_steps(plan, cells, e, n, 10, 11),
-        16 => link_steps(plan, cells, e, n, 12, 13),
-        17 => own_steps(plan, e, n, 14, 15),
-        18 => link_steps(plan, cells, e, n, 16, 17),
-        19 => link_steps(plan, cells, e, n, 18, 19),
-        20 => path_steps(plan, cells, e, n),
-        21..=65535 => Out {
+        codes::FORM_TRUE => two(plan, n, steps::ALL, 0, 0, steps::NONE, 0, 0),
+        codes::FORM_IS => is_steps(plan, cells, e, n),
+        codes::FORM_SHAPE => same_steps(cells, keeps, breaks, e, n),
+        codes::FORM_AND => joined(plan, cells, keeps, breaks, e, n, steps::BOTH, steps::EITHER),
+        codes::FORM_OR => joined(plan, cells, keeps, breaks, e, n, steps::EITHER, steps::BOTH),
+        codes::FORM_NOT => swapped(cells, keeps, breaks, e, n),
+        codes::FORM_KIND..=codes::FORM_BELOW => own_steps(plan, e, n, steps::TEST, steps::UNTEST),
+        codes::FORM_COUNT => count_entry(plan, cells, keeps, e, n),
+        codes::FORM_ALL => all_entry(plan, cells, keeps, breaks, e, n),
+        codes::FORM_EQUAL => link_steps(plan, cells, e, n, steps::EQUAL, steps::UNEQUAL),
+        codes::FORM_APART => link_steps(plan, cells, e, n, steps::APART, steps::MEET),
+        codes::FORM_CLOSED => own_steps(plan, e, n, steps::CLOSED, steps::OPEN),
+        codes::FORM_LESS => link_steps(plan, cells, e, n, steps::LESS, steps::NOTLESS),
+        codes::FORM_LESSEQ => link_steps(plan, cells, e, n, steps::LESSEQ, steps::NOTLESSEQ),
+        codes::FORM_ONELANG => path_steps(plan, cells, e, n),
+        codes::FORM_UNKNOWN..=codes::LAST => Out {
             next: n,
             keep: 0,
             brk: 0,
@@ -261,11 +281,11 @@ fn compile_entry(
 
 // The steps of all entries; breaks gets each entry's breaking step.
 fn fill_forms(plan: &mut [u16], breaks: &mut [u16], cells: &[u16]) -> usize
-    requires { ⌜ Fits (now cells) (now plan) × (now breaks ≡ replicate 112 0) ⌝ }
+    requires { ⌜ Fits (now cells) (now plan) × (now breaks ≡ replicate maxForms 0) ⌝ }
     ensures { λ r. ⌜ FormsAdded (now (cells .entry)) (now (plan .entry)) (now (plan .exit)) (formCount (now (cells .entry))) r (now (breaks .exit)) ⌝ }
 {
     let forms = form_count(cells);
-    let mut keeps = [0u16; 112];
+    let mut keeps = [0u16; MAX_FORMS];
     let mut n: usize = 0;
     for e in 0..forms {
         let out = compile_entry(plan, cells, &keeps, &breaks[..], e, n);
@@ -278,28 +298,28 @@ fn fill_forms(plan: &mut [u16], breaks: &mut [u16], cells: &[u16]) -> usize
 
 // The step of rule r's target, as step n.
 fn target_step(plan: &mut [u16], cells: &[u16], r: usize, n: usize)
-    requires { ⌜ (planCount ≤ length (now plan)) × (n < 512) ⌝ }
+    requires { ⌜ (planCount ≤ length (now plan)) × (n < maxSteps) ⌝ }
     ensures { λ _. ⌜ now (plan .exit) ≡ withNumbers (now (plan .entry)) n (numbersOf (targetStep (ruleAt (now (cells .entry)) r .target))) ⌝ }
 {
     let c = rule_node(cells, r);
     let l = rule_link(cells, r);
     let code = rule_target(cells, r);
     match code {
-        0 => put_step(plan, n, 2, c.0, 0, 0, 0),
-        1 => put_step(plan, n, 22, l.0, 0, 0, 0),
-        2 => put_step(plan, n, 23, l.0, 0, 0, 0),
-        3..=65535 => put_step(plan, n, 24, c.0, 0, 0, 0),
+        codes::TARGET_NODE => put_step(plan, n, steps::IS, c.0, 0, 0, 0),
+        codes::TARGET_SUBJECTS => put_step(plan, n, steps::FROM, l.0, 0, 0, 0),
+        codes::TARGET_OBJECTS => put_step(plan, n, steps::INTO, l.0, 0, 0, 0),
+        codes::TARGET_CLASS..=codes::LAST => put_step(plan, n, steps::TYPED, c.0, 0, 0, 0),
     }
 }
 
 // The two steps of rule r, and its step's number.
 fn rule_steps(plan: &mut [u16], cells: &[u16], breaks: &[u16], r: usize, n: usize)
-    requires { ⌜ (planCount ≤ length (now plan)) × (r < 32) × (n + 2 ≤ 512) ⌝ }
+    requires { ⌜ (planCount ≤ length (now plan)) × (r < maxRules) × (n + 2 ≤ maxSteps) ⌝ }
     ensures { λ _. ⌜ now (plan .exit) ≡ ruleStored (now (cells .entry)) (now (plan .entry)) r n (getD (now (breaks .entry)) (rootAt (now (cells .entry)) (ruleShapeAt (now (cells .entry)) r)) 0) ⌝ }
 {
     let b = cell(breaks, root(cells, rule_shape(cells, r)));
     target_step(plan, cells, r, n);
-    put_step(plan, n + 1, 6, narrow(n), b, 0, 0);
+    put_step(plan, n + 1, steps::BOTH, narrow(n), b, 0, 0);
     plan[RULE_STEPS + r] = narrow(n + 1);
 }
 
@@ -324,7 +344,7 @@ fn make_plan(plan: &mut [u16], cells: &[u16]) -> usize
     ensures { λ _. ⌜ now (plan .exit) ≡ planOf (now (cells .entry)) ++ drop planCount (now (plan .entry)) ⌝ }
 {
     clear_plan(plan);
-    let mut breaks = [0u16; 112];
+    let mut breaks = [0u16; MAX_FORMS];
     let n = fill_forms(plan, &mut breaks, cells);
     let m = fill_rules(plan, cells, &breaks, n);
     plan[0] = narrow(m);

@@ -1,5 +1,5 @@
 -- The tables of the empty book, at every place: one link `a`, one type `langstring`, and zeros.
-use Prim.Native.Nat.{ℕ, zero, suc, _+_, _<_}
+use Prim.Native.Nat.{ℕ, zero, suc, _+_, _<_, _*_}
 use mathlib.Core.List.{List, [], _∷_, append-nil}
 use mathlib.Core.Bool.{true}
 use mathlib.Core.Path.{_≡_, refl, sym, ap, _∙_}
@@ -17,6 +17,7 @@ use Rattle.text.specs.Pool.{padded, poolOf}
 use Rattle.model.specs.Books.{nodes, links, types, builtIn, collect, names, rules}
 use Rattle.model.specs.Sizes.{sumOver, formsIn, pathsIn, itemsIn}
 use Rattle.model.specs.Valid.{capacity}
+use Rattle.model.specs.Limits.{maxTypes, nameBytes}
 use Rattle.tables.specs.Layout.{cellCount, valueCount, linkNames, typeNames}
 use Rattle.encoding.specs.Flatten.{addShapes, rootsOf}
 use Rattle.encoding.specs.Encode.{col, cellColumns, valueColumns, nameColumns, entriesOf, countsOf, contentOf, encodeCells, encodeValues, encodeNames, poolBase}
@@ -85,4 +86,4 @@ pub type-names-empty : (i : ℕ) → getD (encodeNames []) (typeNames + i) 0 ≡
 unfolding encodeNames names builtIn collect padded poolOf allb
 type-names-empty i =
     let cs = nameColumns [] in
-    at-rest 0 cs 2 i ∙ at-first 0 (col 1024 (poolOf (names types []))) (drop 3 cs) (omega arith) (at-blank 0 (drop 3 cs) refl) i ∙ one-name (bytes "langstring") i
+    at-rest 0 cs 2 i ∙ at-first 0 (col (maxTypes * nameBytes) (poolOf (names types []))) (drop 3 cs) (omega arith) (at-blank 0 (drop 3 cs) refl) i ∙ one-name (bytes "langstring") i

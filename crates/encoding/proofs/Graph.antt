@@ -12,6 +12,7 @@ use Rattle.model.specs.Graph.{Term, iri, blankNode, numeric, plain, tagged, Tri
 use Rattle.model.specs.Rules.{Target, targetNode, subjectsOf, objectsOf, targetClass, Rule}
 use Rattle.model.specs.Books.{Book, nodes, newTerms, newTriples, collect, rules, graphOf}
 use Rattle.model.specs.Valid.{capacity, admissible}
+use Rattle.model.specs.Limits.{maxNodes}
 use Rattle.tables.specs.Layout.{nodeCount, factCount, ruleCount, kindAt, typeAt, langAt, numberAt, ruleShapeAt, ruleTargetAt, ruleOperandAt}
 use Rattle.tables.specs.Decode.{termOf, termAt, tripleAt, triplesAt, graphAt, targetOf, ruleAt, rulesAt}
 use Rattle.encoding.specs.Rows.{nodeRow, targetCode, targetOperand}
@@ -38,7 +39,7 @@ target-back (targetClass c) = refl
 
 module _ (b : Book) (ok : admissible b ≡ true) where
   -- ---- the terms
-  pub terms-within : length (collect newTerms b) ≤ 1024
+  pub terms-within : length (collect newTerms b) ≤ maxNodes
   unfolding capacity
   terms-within = omega (arith, terms-counted b, names-within nodes b ok)
 

@@ -15,7 +15,7 @@ use Rattle.base.proofs.Columns.{at-flat}
 use Rattle.base.proofs.Lists.{allb-at}
 use Rattle.text.proofs.Pool.{padded-length}
 use Rattle.text.specs.Pool.{padded, poolOf}
-use Rattle.model.specs.Limits.{maxName}
+use Rattle.model.specs.Limits.{maxName, nameBytes}
 use Rattle.model.specs.Books.{Book, Name, Pool, nodes, links, types, langs, shapes, names}
 use Rattle.model.specs.Valid.{capacity, admissible}
 use Rattle.tables.specs.Layout.{nameCount}
@@ -37,32 +37,32 @@ same-everywhere a (suc n) (suc j) = same-everywhere a n j
 pub padded-at : (w : Name) (i : ℕ) → getD (padded w) i 0 ≡ getD w i 0
 unfolding padded
 padded-at w i =
-    let r : List ℕ = replicate (32 - length w) 0 in
+    let r : List ℕ = replicate (nameBytes - length w) 0 in
     below-or (getD (w ++ r) i 0 ≡ getD w i 0) i (length w) (List·getD-append w r 0 i)
     (λ k. let e : i ≡ length w + (i - length w) = omega arith in
-    ap (λ (j : ℕ). getD (w ++ r) j 0) e ∙ getD-append-add w r (i - length w) 0 ∙ same-everywhere 0 (32 - length w) (i - length w) ∙ sym (List·getD-eq-default w 0 k))
+    ap (λ (j : ℕ). getD (w ++ r) j 0) e ∙ getD-append-add w r (i - length w) 0 ∙ same-everywhere 0 (nameBytes - length w) (i - length w) ∙ sym (List·getD-eq-default w 0 k))
 
 -- ---- a pool
-pub pool-length : (ws : List Name) → short ws ≡ true → length (poolOf ws) ≡ length ws * 32
+pub pool-length : (ws : List Name) → short ws ≡ true → length (poolOf ws) ≡ length ws * nameBytes
 unfolding poolOf allb
 pool-length [] h = refl
 pool-length (w ∷ ws) h = omega (arith, length-append (padded w) (poolOf ws), padded-length w (omega (arith, leb-true (length w) maxName (and-left _ _ h))), pool-length ws (and-right (leb (length w) maxName) _ h))
 
 -- byte i of number k; a number past the last has none
-pub pool-at : (ws : List Name) → short ws ≡ true → (k i : ℕ) → i < 32 → getD (poolOf ws) (k * 32 + i) 0 ≡ getD (getD ws k []) i 0
+pub pool-at : (ws : List Name) → short ws ≡ true → (k i : ℕ) → i < nameBytes → getD (poolOf ws) (k * nameBytes + i) 0 ≡ getD (getD ws k []) i 0
 unfolding poolOf allb
 pool-at [] h k i l = refl
 pool-at (w ∷ ws) h zero i l =
     let n = padded-length w (omega (arith, leb-true (length w) maxName (and-left _ _ h))) in
-    let e : 0 * 32 + i ≡ i = omega arith in
+    let e : 0 * nameBytes + i ≡ i = omega arith in
     ap (λ (j : ℕ). getD (padded w ++ poolOf ws) j 0) e ∙ List·getD-append (padded w) (poolOf ws) 0 i (omega arith) ∙ padded-at w i
 pool-at (w ∷ ws) h (suc k) i l =
     let n = padded-length w (omega (arith, leb-true (length w) maxName (and-left _ _ h))) in
-    let e : suc k * 32 + i ≡ length (padded w) + (k * 32 + i) = omega arith in
-    ap (λ (j : ℕ). getD (padded w ++ poolOf ws) j 0) e ∙ getD-append-add (padded w) (poolOf ws) (k * 32 + i) 0 ∙ pool-at ws (and-right (leb (length w) maxName) _ h) k i l
+    let e : suc k * nameBytes + i ≡ length (padded w) + (k * nameBytes + i) = omega arith in
+    ap (λ (j : ℕ). getD (padded w ++ poolOf ws) j 0) e ∙ getD-append-add (padded w) (poolOf ws) (k * nameBytes + i) 0 ∙ pool-at ws (and-right (leb (length w) maxName) _ h) k i l
 
 -- ---- the table
-pub pool-place : (b : Book) (p : Pool) (i : ℕ) → i < capacity p * 32 → getD (encodeNames b) (poolBase p + i) 0 ≡ getD (poolOf (names p b)) i 0
+pub pool-place : (b : Book) (p : Pool) (i : ℕ) → i < capacity p * nameBytes → getD (encodeNames b) (poolBase p + i) 0 ≡ getD (poolOf (names p b)) i 0
 unfolding encodeNames poolBase capacity
 pool-place b nodes i l = at-flat 0 (nameColumns b) 0 i l
 pool-place b links i l = at-flat 0 (nameColumns b) 1 i l
@@ -70,7 +70,7 @@ pool-place b types i l = at-flat 0 (nameColumns b) 2 i l
 pool-place b langs i l = at-flat 0 (nameColumns b) 3 i l
 pool-place b shapes i l = at-flat 0 (nameColumns b) 4 i l
 
-pool-inside : (p : Pool) → poolBase p + capacity p * 32 ≤ nameCount
+pool-inside : (p : Pool) → poolBase p + capacity p * nameBytes ≤ nameCount
 unfolding poolBase capacity
 pool-inside nodes = omega arith
 pool-inside links = omega arith
@@ -80,8 +80,8 @@ pool-inside shapes = omega arith
 
 module _ (b : Book) (p : Pool) (s : short (names p b) ≡ true) where
   -- every place of the pool: byte i of number k, zero past the name and past the last name
-  pub name-at : (k i : ℕ) → k < capacity p → i < 32 → getD (encodeNames b) (poolBase p + (k * 32 + i)) 0 ≡ getD (getD (names p b) k []) i 0
-  name-at k i h l = pool-place b p (k * 32 + i) (omega arith) ∙ pool-at (names p b) s k i l
+  pub name-at : (k i : ℕ) → k < capacity p → i < nameBytes → getD (encodeNames b) (poolBase p + (k * nameBytes + i)) 0 ≡ getD (getD (names p b) k []) i 0
+  name-at k i h l = pool-place b p (k * nameBytes + i) (omega arith) ∙ pool-at (names p b) s k i l
 
   module _ (ok : admissible b ≡ true) where
     -- the pool as a whole, and each of its names
@@ -92,12 +92,12 @@ module _ (b : Book) (p : Pool) (s : short (names p b) ≡ true) where
         let m = names-within p b ok in
         slice-is 0 (encodeNames b) w (poolBase p) (omega (arith, pool-inside p, names-length b)) (λ j l. pool-place b p j (omega arith))
 
-    pub name-stored : (k : ℕ) → k < length (names p b) → slice (poolBase p + k * 32) (poolBase p + k * 32 + 32) (encodeNames b) ≡ padded (getD (names p b) k [])
+    pub name-stored : (k : ℕ) → k < length (names p b) → slice (poolBase p + k * nameBytes) (poolBase p + k * nameBytes + nameBytes) (encodeNames b) ≡ padded (getD (names p b) k [])
     name-stored k h =
         let w = getD (names p b) k [] in
-        let n : length (padded w) ≡ 32 = padded-length w (omega (arith, leb-true (length w) maxName (allb-at (λ w. leb (length w) maxName) (names p b) [] s k h))) in
-        let f = poolBase p + k * 32 in
+        let n : length (padded w) ≡ nameBytes = padded-length w (omega (arith, leb-true (length w) maxName (allb-at (λ w. leb (length w) maxName) (names p b) [] s k h))) in
+        let f = poolBase p + k * nameBytes in
         let m = names-within p b ok in
         subst (λ (t : ℕ). slice f (f + t) (encodeNames b) ≡ padded w) n
         (slice-is 0 (encodeNames b) (padded w) f (omega (arith, pool-inside p, names-length b)) (λ j l.
-        ap (λ (i : ℕ). getD (encodeNames b) i 0) (add-assoc (poolBase p) (k * 32) j) ∙ name-at k j (omega arith) (omega arith) ∙ sym (padded-at w j)))
+        ap (λ (i : ℕ). getD (encodeNames b) i 0) (add-assoc (poolBase p) (k * nameBytes) j) ∙ name-at k j (omega arith) (omega arith) ∙ sym (padded-at w j)))

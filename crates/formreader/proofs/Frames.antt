@@ -16,6 +16,7 @@ use Rattle.base.proofs.Bounded.{every-at}
 use Rattle.model.specs.Shapes.{Upper, Shape}
 use Rattle.model.specs.Books.{Book}
 use Rattle.model.specs.Sizes.{pathEntries}
+use Rattle.model.specs.Limits.{maxForms, maxPaths}
 use Rattle.grammar.specs.Syntax.{low, high, path, form, countC, formOf, formFamily}
 use Rattle.grammar.specs.Reading.{Read, got, refused, Readers, Begun, formBegun, after, spaceAt, argAt, bodyAt, bracketAt, trueAt, noReaders, within, readersAt}
 use Rattle.stores.specs.Entries.{pathCells}
@@ -42,7 +43,7 @@ module _ (left up len : ℕ) (n : Ended) (r : Opening) (p : Opened left up len n
   pub whole-within : (f : Form) → r ≡ Opening.Whole f → Within (n .forms) up len f
   whole-within f e = rw e at p
 
-  pub part-within : (front : Front) → r ≡ Opening.Part front → (0 < left) × (n .forms + up < 112) × (front .paths ≤ 128) × (front .next ≤ len)
+  pub part-within : (front : Front) → r ≡ Opening.Part front → (0 < left) × (n .forms + up < maxForms) × (front .paths ≤ maxPaths) × (front .next ≤ len)
   part-within front e = rw e at p
 
 -- ---- the PATH of count and all
@@ -104,7 +105,7 @@ inner s a zero = noReaders s a
 inner s a (suc left) = readersAt s a left
 
 module _ (s : List ℕ) (a : Book) (b : Begun) (at m : ℕ) (q : b .forms ≡ m) where
-  form-arg : (left : ℕ) → argAt s a (readersAt s a left) form b at ≡ spaceAt s a at (λ k. bracketAt s a formFamily (inner s a left) (eqb left 0) (leb 112 m) (λ c. true) (trueAt s a (leb 112 m) k) (formBegun b) k)
+  form-arg : (left : ℕ) → argAt s a (readersAt s a left) form b at ≡ spaceAt s a at (λ k. bracketAt s a formFamily (inner s a left) (eqb left 0) (leb maxForms m) (λ c. true) (trueAt s a (leb maxForms m) k) (formBegun b) k)
   unfolding argAt readersAt within
   form-arg zero = rw (← q)
   form-arg (suc left) = rw (← q, ne-eqb (suc left) 0 (λ e. omega arith))
@@ -112,18 +113,18 @@ module _ (s : List ℕ) (a : Book) (b : Begun) (at m : ℕ) (q : b .forms ≡ m)
   pub form-unspaced : (left : ℕ) → (getD s at 0 ≡ 32 → ⊥) → argAt s a (readersAt s a left) form b at ≡ refused 2
   form-unspaced left n = form-arg left ∙ rw (ne-eqb (getD s at 0) 32 n)
 
-  module _ (z : getD s at 0 ≡ 32) (left : ℕ) (h : Head) (e : h ≡ headAt s (wordsOf formFamily) (eqb left 0) (leb 112 m) (at + 1)) where
-    form-bracket : argAt s a (readersAt s a left) form b at ≡ bracketAt s a formFamily (inner s a left) (eqb left 0) (leb 112 m) (λ c. true) (trueAt s a (leb 112 m) (at + 1)) (formBegun b) (at + 1)
+  module _ (z : getD s at 0 ≡ 32) (left : ℕ) (h : Head) (e : h ≡ headAt s (wordsOf formFamily) (eqb left 0) (leb maxForms m) (at + 1)) where
+    form-bracket : argAt s a (readersAt s a left) form b at ≡ bracketAt s a formFamily (inner s a left) (eqb left 0) (leb maxForms m) (λ c. true) (trueAt s a (leb maxForms m) (at + 1)) (formBegun b) (at + 1)
     form-bracket = form-arg left ∙ rw (eq-eqb (getD s at 0) 32 z)
 
-    pub form-bare : h ≡ Head.Bare → argAt s a (readersAt s a left) form b at ≡ trueAt s a (leb 112 m) (at + 1)
-    form-bare f = form-bracket ∙ bracket-bare s a formFamily (inner s a left) (eqb left 0) (leb 112 m) (λ c. true) (trueAt s a (leb 112 m) (at + 1)) (formBegun b) (at + 1) (sym e ∙ f)
+    pub form-bare : h ≡ Head.Bare → argAt s a (readersAt s a left) form b at ≡ trueAt s a (leb maxForms m) (at + 1)
+    form-bare f = form-bracket ∙ bracket-bare s a formFamily (inner s a left) (eqb left 0) (leb maxForms m) (λ c. true) (trueAt s a (leb maxForms m) (at + 1)) (formBegun b) (at + 1) (sym e ∙ f)
 
     pub form-head-refused : (k : ℕ) → h ≡ Head.No k → argAt s a (readersAt s a left) form b at ≡ refused k
-    form-head-refused k f = form-bracket ∙ bracket-refused s a formFamily (inner s a left) (eqb left 0) (leb 112 m) (λ c. true) (trueAt s a (leb 112 m) (at + 1)) (formBegun b) (at + 1) k (sym e ∙ f)
+    form-head-refused k f = form-bracket ∙ bracket-refused s a formFamily (inner s a left) (eqb left 0) (leb maxForms m) (λ c. true) (trueAt s a (leb maxForms m) (at + 1)) (formBegun b) (at + 1) k (sym e ∙ f)
 
     pub form-word : (k stop : ℕ) → 0 < left → h ≡ Head.Word k stop → argAt s a (readersAt s a left) form b at ≡ formBody s a (left - 1) k (formBegun b) stop
-    form-word k stop l f = form-bracket ∙ (bracket-word s a formFamily (inner s a left) (eqb left 0) (leb 112 m) (λ c. true) (trueAt s a (leb 112 m) (at + 1)) (formBegun b) (at + 1) k stop (sym e ∙ f) .1 ∙ ap (λ (R : Readers). bodyAt s a formFamily R (λ c. true) (getD (formFamily .codes) k (formFamily .other)) (formBegun b) stop) (deeper left l))
+    form-word k stop l f = form-bracket ∙ (bracket-word s a formFamily (inner s a left) (eqb left 0) (leb maxForms m) (λ c. true) (trueAt s a (leb maxForms m) (at + 1)) (formBegun b) (at + 1) k stop (sym e ∙ f) .1 ∙ ap (λ (R : Readers). bodyAt s a formFamily R (λ c. true) (getD (formFamily .codes) k (formFamily .other)) (formBegun b) stop) (deeper left l))
       where
         deeper : (left : ℕ) → 0 < left → inner s a left ≡ readersAt s a (left - 1)
         deeper zero l = absurd (omega arith)

@@ -9,6 +9,8 @@ use Rattle.model.specs.Paths.{Path}
 use Rattle.model.specs.Shapes.{Upper, Shape, conj, disj, neg, count, forAll}
 use Rattle.model.specs.Books.{Book}
 use Rattle.model.specs.Sizes.{pathEntries}
+use Rattle.model.specs.Limits.{maxForms, maxPaths}
+use Rattle.tables.specs.Codes as codes
 use Rattle.encoding.specs.Flatten.{upperNumber}
 use Rattle.grammar.specs.Syntax.{Slot, Args, path, form}
 use Rattle.grammar.specs.Reading.{Read, Readers, Begun, after}
@@ -30,8 +32,8 @@ quantify every e φ = forAll e φ
 
 -- the code of its entry, and the operands LO and HI
 abbrev pub codeOf : Quantifier → ℕ
-codeOf (times lo hi) = 13
-codeOf every = 14
+codeOf (times lo hi) = codes.formCount
+codeOf every = codes.formAll
 
 abbrev pub lowOf : Quantifier → ℕ
 lowOf (times lo hi) = lo
@@ -61,9 +63,9 @@ shapeOf (along q e) xs = quantify q e (xs .0)
 
 -- what the code holds of a frame that ends at a position, where n path entries have ended before it
 abbrev pub frontOf : ℕ → Frame → ℕ → Front
-frontOf n both next = record { code = 3; low = 0; high = 0; path = 0; paths = n; next = next }
-frontOf n either next = record { code = 4; low = 0; high = 0; path = 0; paths = n; next = next }
-frontOf n negated next = record { code = 5; low = 0; high = 0; path = 0; paths = n; next = next }
+frontOf n both next = record { code = codes.formAnd; low = 0; high = 0; path = 0; paths = n; next = next }
+frontOf n either next = record { code = codes.formOr; low = 0; high = 0; path = 0; paths = n; next = next }
+frontOf n negated next = record { code = codes.formNot; low = 0; high = 0; path = 0; paths = n; next = next }
 frontOf n (along q e) next = record { code = codeOf q; low = lowOf q; high = highOf q; path = n + pathEntries e - 1; paths = n + pathEntries e; next = next }
 
 -- what has begun with a frame
@@ -96,8 +98,8 @@ OpenRead s a R b x n cs cs' vs vs' (Opening.Part front) = Fronted s a R b x (n .
 -- a form within its limits; or, where one is open, a bracket to open, room for its entry, and a position in a text of a length
 abbrev pub Opened : ℕ → ℕ → ℕ → Ended → Opening → Type 0
 Opened left up len n (Opening.Whole r) = Within (n .forms) up len r
-Opened left up len n (Opening.Part front) = (0 < left) × (n .forms + up < 112) × (front .paths ≤ 128) × (front .next ≤ len)
+Opened left up len n (Opening.Part front) = (0 < left) × (n .forms + up < maxForms) × (front .paths ≤ maxPaths) × (front .next ≤ len)
 
 -- the entry of a form with one FORM within, which ended right before it
 abbrev pub putChild : Front → ℕ → List ℕ → List ℕ
-putChild front e cs = putForm e (front .code) (cond (eqb (front .code) 5) (e - 1) (front .path)) (cond (eqb (front .code) 5) 0 (e - 1)) (front .low) (front .high) cs
+putChild front e cs = putForm e (front .code) (cond (eqb (front .code) codes.formNot) (e - 1) (front .path)) (cond (eqb (front .code) codes.formNot) 0 (e - 1)) (front .low) (front .high) cs

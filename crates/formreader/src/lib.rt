@@ -6,13 +6,16 @@ use itemreader::Item;
 use itemreader::form_head;
 use itemreader::read_high;
 use itemreader::read_low;
+use itemreader::words;
 use leafreader::Ended;
 use leafreader::Form;
 use leafreader::close_form;
 use leafreader::read_leaf;
 use leafreader::read_true;
 use model::Counts;
+use model::MAX_FORMS;
 use pathreader::read_path;
+use tables::codes;
 use text::byte;
 ghost use mathlib.Core.Path.{_≡_};
 ghost use mathlib.Core.List.{List, [], _∷_};
@@ -22,8 +25,10 @@ ghost use lib.Dec.{eqb};
 ghost use lib.IntN.{ℤ};
 ghost use lib.ListN.{length, getD, drop};
 ghost use Rattle.model.specs.Books.{Book};
+ghost use Rattle.model.specs.Limits.{maxForms, maxPaths, maxItems};
 ghost use Rattle.grammar.specs.Syntax.{path, form};
 ghost use Rattle.grammar.specs.Reading.{Begun, formBegun, argAt, readersAt};
+ghost use Rattle.tables.specs.Layout.{cellCount, valueCount, nameCount};
 ghost use Rattle.itemreader.specs.Answers.{restAt};
 ghost use Rattle.itemreader.specs.Held.{Limits, Held, Indexed};
 ghost use Rattle.leafreader.specs.Forms.{begunOf, FormRead, closedForm, Within, formBody};
@@ -61,10 +66,10 @@ fn open_path(
     low: u16,
     high: u16,
 ) -> Opening
-    requires { ⌜ (at ≤ length (now book)) × (45056 ≤ length (now names)) × (16602 ≤ length (now cells)) × (0 < left) × (n .forms + up < 112) × (n .paths ≤ 128) × Limits counts × Indexed (now names) counts (now index) ⌝ }
+    requires { ⌜ (at ≤ length (now book)) × (nameCount ≤ length (now names)) × (cellCount ≤ length (now cells)) × (0 < left) × (n .forms + up < maxForms) × (n .paths ≤ maxPaths) × Limits counts × Indexed (now names) counts (now index) ⌝ }
     ensures { λ r. ⌜ ((a : Book) → Held (now (names .entry)) counts a → (b : Begun) → b .paths ≡ n .paths → (q : Quantifier) → code ≡ codeOf q → low ≡ lowOf q → high ≡ highOf q → (vs : List ℤ) → OpenRead (now (book .entry)) a (readersAt (now (book .entry)) a (left - 1)) b (restAt (now (book .entry)) a (readersAt (now (book .entry)) a (left - 1)) true (path ∷ form ∷ []) (λ xs. quantify q (xs .0) (xs .1 .0)) b at) (begunOf n) (now (cells .entry)) (now (cells .exit)) vs vs r) ⌝ }
     ensures { λ r. ⌜ Opened left up (length (now (book .entry))) n r ⌝ }
-    ensures { λ _. ⌜ drop 16602 (now (cells .exit)) ≡ drop 16602 (now (cells .entry)) ⌝ }
+    ensures { λ _. ⌜ drop cellCount (now (cells .exit)) ≡ drop cellCount (now (cells .entry)) ⌝ }
 {
     let paths = n.paths;
     match read_path(cells, names, index, counts, book, at, left - 1, paths, 0) {
@@ -92,10 +97,10 @@ fn open_count(
     n: Ended,
     up: usize,
 ) -> Opening
-    requires { ⌜ (at ≤ length (now book)) × (45056 ≤ length (now names)) × (16602 ≤ length (now cells)) × (0 < left) × (n .forms + up < 112) × (n .paths ≤ 128) × Limits counts × Indexed (now names) counts (now index) ⌝ }
+    requires { ⌜ (at ≤ length (now book)) × (nameCount ≤ length (now names)) × (cellCount ≤ length (now cells)) × (0 < left) × (n .forms + up < maxForms) × (n .paths ≤ maxPaths) × Limits counts × Indexed (now names) counts (now index) ⌝ }
     ensures { λ r. ⌜ ((a : Book) → Held (now (names .entry)) counts a → (b : Begun) → b .paths ≡ n .paths → (vs : List ℤ) → OpenRead (now (book .entry)) a (readersAt (now (book .entry)) a (left - 1)) b (formBody (now (book .entry)) a (left - 1) 12 b at) (begunOf n) (now (cells .entry)) (now (cells .exit)) vs vs r) ⌝ }
     ensures { λ r. ⌜ Opened left up (length (now (book .entry))) n r ⌝ }
-    ensures { λ _. ⌜ drop 16602 (now (cells .exit)) ≡ drop 16602 (now (cells .entry)) ⌝ }
+    ensures { λ _. ⌜ drop cellCount (now (cells .exit)) ≡ drop cellCount (now (cells .entry)) ⌝ }
 {
     match read_low(book, at) {
         Item::No(k) => Opening::Whole(Form::No(k)),
@@ -111,7 +116,7 @@ fn open_count(
                 left,
                 n,
                 up,
-                13,
+                codes::FORM_COUNT,
                 low as u16,
                 high as u16,
             ),
@@ -133,14 +138,14 @@ fn open_word(
     n: Ended,
     up: usize,
 ) -> Opening
-    requires { ⌜ (at ≤ length (now book)) × (45056 ≤ length (now names)) × (16602 ≤ length (now cells)) × (1136 ≤ length (now values)) × (0 < left) × (n .forms + up < 112) × (n .paths ≤ 128) × (n .items ≤ 128) × Limits counts × (code < 20) × Indexed (now names) counts (now index) ⌝ }
+    requires { ⌜ (at ≤ length (now book)) × (nameCount ≤ length (now names)) × (cellCount ≤ length (now cells)) × (valueCount ≤ length (now values)) × (0 < left) × (n .forms + up < maxForms) × (n .paths ≤ maxPaths) × (n .items ≤ maxItems) × Limits counts × (code < 20) × Indexed (now names) counts (now index) ⌝ }
     ensures { λ r. ⌜ ((a : Book) → Held (now (names .entry)) counts a → (b : Begun) → b .paths ≡ n .paths → b .items ≡ n .items → OpenRead (now (book .entry)) a (readersAt (now (book .entry)) a (left - 1)) b (formBody (now (book .entry)) a (left - 1) code b at) (begunOf n) (now (cells .entry)) (now (cells .exit)) (now (values .entry)) (now (values .exit)) r) ⌝ }
     ensures { λ r. ⌜ Opened left up (length (now (book .entry))) n r ⌝ }
-    ensures { λ _. ⌜ drop 16602 (now (cells .exit)) ≡ drop 16602 (now (cells .entry)) ⌝ }
-    ensures { λ _. ⌜ drop 1136 (now (values .exit)) ≡ drop 1136 (now (values .entry)) ⌝ }
+    ensures { λ _. ⌜ drop cellCount (now (cells .exit)) ≡ drop cellCount (now (cells .entry)) ⌝ }
+    ensures { λ _. ⌜ drop valueCount (now (values .exit)) ≡ drop valueCount (now (values .entry)) ⌝ }
 {
     match code {
-        2..=4 => Opening::Part(Front {
+        words::FORM_AND..=words::FORM_NOT => Opening::Part(Front {
             code: (code + 1) as u16,
             low: 0,
             high: 0,
@@ -148,8 +153,21 @@ fn open_word(
             paths: n.paths,
             next: at,
         }),
-        12 => open_count(cells, names, index, counts, book, at, left, n, up),
-        13 => open_path(cells, names, index, counts, book, at, left, n, up, 14, 0, 0),
+        words::FORM_COUNT => open_count(cells, names, index, counts, book, at, left, n, up),
+        words::FORM_ALL => open_path(
+            cells,
+            names,
+            index,
+            counts,
+            book,
+            at,
+            left,
+            n,
+            up,
+            codes::FORM_ALL,
+            0,
+            0,
+        ),
         _ => Opening::Whole(read_leaf(
             cells,
             values,
@@ -179,17 +197,17 @@ fn open_form(
     n: Ended,
     up: usize,
 ) -> Opening
-    requires { ⌜ (at ≤ length (now book)) × (45056 ≤ length (now names)) × (16602 ≤ length (now cells)) × (1136 ≤ length (now values)) × (n .forms + up ≤ 112) × (n .paths ≤ 128) × (n .items ≤ 128) × Limits counts × Indexed (now names) counts (now index) ⌝ }
+    requires { ⌜ (at ≤ length (now book)) × (nameCount ≤ length (now names)) × (cellCount ≤ length (now cells)) × (valueCount ≤ length (now values)) × (n .forms + up ≤ maxForms) × (n .paths ≤ maxPaths) × (n .items ≤ maxItems) × Limits counts × Indexed (now names) counts (now index) ⌝ }
     ensures { λ r. ⌜ ((a : Book) → Held (now (names .entry)) counts a → (b : Begun) → b .forms ≡ n .forms + up → b .paths ≡ n .paths → b .items ≡ n .items → OpenRead (now (book .entry)) a (readersAt (now (book .entry)) a (left - 1)) (formBegun b) (argAt (now (book .entry)) a (readersAt (now (book .entry)) a left) form b at) (begunOf n) (now (cells .entry)) (now (cells .exit)) (now (values .entry)) (now (values .exit)) r) ⌝ }
     ensures { λ r. ⌜ Opened left up (length (now (book .entry))) n r ⌝ }
-    ensures { λ _. ⌜ drop 16602 (now (cells .exit)) ≡ drop 16602 (now (cells .entry)) ⌝ }
-    ensures { λ _. ⌜ drop 1136 (now (values .exit)) ≡ drop 1136 (now (values .entry)) ⌝ }
+    ensures { λ _. ⌜ drop cellCount (now (cells .exit)) ≡ drop cellCount (now (cells .entry)) ⌝ }
+    ensures { λ _. ⌜ drop valueCount (now (values .exit)) ≡ drop valueCount (now (values .entry)) ⌝ }
 {
     if byte(book, at) != 32 {
         return Opening::Whole(Form::No(2));
     }
     let forms = n.forms;
-    match form_head(book, at + 1, left, 112 <= forms + up) {
+    match form_head(book, at + 1, left, MAX_FORMS <= forms + up) {
         Head::Bare => Opening::Whole(read_true(cells, book, at + 1, n, up)),
         Head::No(k) => Opening::Whole(Form::No(k)),
         Head::Word(code, end) => {
@@ -212,13 +230,13 @@ fn open_form(
 
 // The closing bracket of a form with one FORM within: not, count or all.
 fn close_child(cells: &mut [u16], book: &[u8], at: usize, n: Ended, front: Front) -> Form
-    requires { ⌜ (0 < n .forms) × (n .forms < 112) × (16602 ≤ length (now cells)) ⌝ }
+    requires { ⌜ (0 < n .forms) × (n .forms < maxForms) × (cellCount ≤ length (now cells)) ⌝ }
     ensures { λ r. ⌜ r ≡ closedForm (now (book .entry)) at n ⌝ }
     ensures { λ _. ⌜ now (cells .exit) ≡ cond (eqb (getD (now (book .entry)) at 0) 41) (putChild front (n .forms) (now (cells .entry))) (now (cells .entry)) ⌝ }
-    ensures { λ _. ⌜ drop 16602 (now (cells .exit)) ≡ drop 16602 (now (cells .entry)) ⌝ }
+    ensures { λ _. ⌜ drop cellCount (now (cells .exit)) ≡ drop cellCount (now (cells .entry)) ⌝ }
 {
     let child = (n.forms - 1) as u16;
-    let lone = front.code == 5;
+    let lone = front.code == codes::FORM_NOT;
     close_form(
         cells,
         book,
@@ -246,11 +264,11 @@ pub fn read_form(
     n: Ended,
     up: usize,
 ) -> Form
-    requires { ⌜ (at ≤ length (now book)) × (45056 ≤ length (now names)) × (16602 ≤ length (now cells)) × (1136 ≤ length (now values)) × (n .forms + up ≤ 112) × (n .paths ≤ 128) × (n .items ≤ 128) × Limits counts × Indexed (now names) counts (now index) ⌝ }
+    requires { ⌜ (at ≤ length (now book)) × (nameCount ≤ length (now names)) × (cellCount ≤ length (now cells)) × (valueCount ≤ length (now values)) × (n .forms + up ≤ maxForms) × (n .paths ≤ maxPaths) × (n .items ≤ maxItems) × Limits counts × Indexed (now names) counts (now index) ⌝ }
     ensures { λ r. ⌜ ((a : Book) → Held (now (names .entry)) counts a → (b : Begun) → b .forms ≡ n .forms + up → b .paths ≡ n .paths → b .items ≡ n .items → FormRead (argAt (now (book .entry)) a (readersAt (now (book .entry)) a left) form b at) (begunOf n) (now (cells .entry)) (now (cells .exit)) (now (values .entry)) (now (values .exit)) r) ⌝ }
     ensures { λ r. ⌜ Within (n .forms) up (length (now (book .entry))) r ⌝ }
-    ensures { λ _. ⌜ drop 16602 (now (cells .exit)) ≡ drop 16602 (now (cells .entry)) ⌝ }
-    ensures { λ _. ⌜ drop 1136 (now (values .exit)) ≡ drop 1136 (now (values .entry)) ⌝ }
+    ensures { λ _. ⌜ drop cellCount (now (cells .exit)) ≡ drop cellCount (now (cells .entry)) ⌝ }
+    ensures { λ _. ⌜ drop valueCount (now (values .exit)) ≡ drop valueCount (now (values .entry)) ⌝ }
 {
     match open_form(cells, values, names, index, counts, book, at, left, n, up) {
         Opening::Whole(form) => form,
@@ -266,7 +284,7 @@ pub fn read_form(
             let Form::Is(l, next) = first else {
                 return first;
             };
-            if 4 < p.code {
+            if codes::FORM_OR < p.code {
                 return close_child(cells, book, next, l, p);
             }
             let second = read_form(cells, values, names, index, counts, book, next, d, l, u);

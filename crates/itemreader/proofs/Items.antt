@@ -24,7 +24,8 @@ use Rattle.model.specs.Graph.{iri, langString}
 use Rattle.model.specs.Shapes.{anIri, aBlank, aLiteral, atMost, unbounded}
 use Rattle.model.specs.Books.{Book, Pool, nodes, links, types, langs, shapes, names, collect, newTerms}
 use Rattle.model.specs.Valid.{capacity, hasRoom, isResource}
-use Rattle.tables.specs.Layout.{items}
+use Rattle.model.specs.Limits.{maxNodes, maxCount, maxName, nameBytes}
+use Rattle.tables.specs.Layout.{items, nameCount}
 use Rattle.encoding.specs.Flatten.{kindCode, upperNumber}
 use Rattle.stores.specs.Entries.{putItems}
 use Rattle.encoding.specs.Encode.{poolBase}
@@ -47,7 +48,7 @@ module _ (s : List ℕ) (at end x : ℕ) (z : getD s at 0 ≡ suc x) (q : end �
       (omega (arith, itemEnd-from s (at + 1)), omega (arith, itemEnd-within s (at + 1) (omega arith)))
 
 -- a part that is free for use as a name is short
-pub named-short : (p : Pool) (s : List ℕ) (at end : ℕ) → end ≤ length s → wellNamed p (slice at end s) ≡ true → end - at ≤ 31
+pub named-short : (p : Pool) (s : List ℕ) (at end : ℕ) → end ≤ length s → wellNamed p (slice at end s) ≡ true → end - at ≤ maxName
 unfolding wellNamed
 named-short p s at end h e =
     let n = name-short (slice at end s) (and-left (isName (slice at end s)) (not (reserved p (slice at end s))) e) in
@@ -57,11 +58,11 @@ pub found-below : (ns : List ℕ) (base n : ℕ) (w : List ℕ) (k : ℕ) → fi
 found-below ns base n w k e = find-at ns base n w k .0 e .0
 
 -- a bound that was read is up to 1,024
-pub bound-below : (w : List ℕ) (n : ℕ) → boundOf w ≡ Bound.Value n → n < 1025
+pub bound-below : (w : List ℕ) (n : ℕ) → boundOf w ≡ Bound.Value n → n < maxCount + 1
 unfolding boundOf
-bound-below w n e = go (isMag w) (leb (valueFrom 0 w) 1024) (leb-true (valueFrom 0 w) 1024) e
+bound-below w n e = go (isMag w) (leb (valueFrom 0 w) maxCount) (leb-true (valueFrom 0 w) maxCount) e
   where
-    go : (b c : Bool) → (c ≡ true → valueFrom 0 w ≤ 1024) → cond b (cond c (Bound.Value (valueFrom 0 w)) Bound.Over) Bound.Not ≡ Bound.Value n → n < 1025
+    go : (b c : Bool) → (c ≡ true → valueFrom 0 w ≤ maxCount) → cond b (cond c (Bound.Value (valueFrom 0 w)) Bound.Over) Bound.Not ≡ Bound.Value n → n < maxCount + 1
     go true true h e = let q : valueFrom 0 w ≡ n = cc in let l = h refl in omega arith
     go true false h e = let z : _≡_ {A = ℕ} 0 1 = cc in absurd (omega arith)
     go false c h e = let z : _≡_ {A = ℕ} 0 1 = cc in absurd (omega arith)
@@ -78,7 +79,7 @@ below-more m n len (Item.Is k next) l h = let b = h .0 in (omega arith, h .1)
 below-more m n len (Item.No k) l h = tt
 
 -- a pool within its limit lies within the names
-pub pool-within : (n : Counts) (p : code.Pool) → Limits n → poolBase (poolOf p) + countOf n (poolOf p) * 32 ≤ 45056
+pub pool-within : (n : Counts) (p : code.Pool) → Limits n → poolBase (poolOf p) + countOf n (poolOf p) * nameBytes ≤ nameCount
 unfolding poolBase
 pool-within n code.Pool.Nodes l = omega arith
 pool-within n code.Pool.Links l = omega arith
@@ -86,7 +87,7 @@ pool-within n code.Pool.Types l = omega arith
 pool-within n code.Pool.Langs l = omega arith
 pool-within n code.Pool.Shapes l = omega arith
 
-pub count-limit : (n : Counts) (p : Pool) → Limits n → countOf n p ≤ 1024
+pub count-limit : (n : Counts) (p : Pool) → Limits n → countOf n p ≤ maxNodes
 count-limit n nodes l = omega arith
 count-limit n links l = omega arith
 count-limit n types l = omega arith

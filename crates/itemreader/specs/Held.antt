@@ -11,6 +11,7 @@ use Rattle.model.specs.Graph.{iri}
 use Rattle.model.specs.Books.{Name, Book, Pool, nodes, links, types, langs, shapes, names, collect, newTerms, newTriples, rules}
 use Rattle.model.specs.Sizes.{formsIn, pathsIn, itemsIn}
 use Rattle.model.specs.Valid.{capacity, isResource}
+use Rattle.model.specs.Limits.{maxNodes, maxLinks, maxTypes, maxLangs, maxShapes, nameBytes}
 use Rattle.tables.specs.Layout.{nodeKinds}
 use Rattle.grammar.specs.Valid.{wellNamed}
 use Rattle.encoding.specs.Encode.{poolBase}
@@ -25,11 +26,11 @@ countOf n shapes = n .shapes
 
 -- the counts are within the limits
 pub record Limits (n : Counts) : Type 0 where
-  pub node-limit : n .nodes ≤ 1024
-  pub link-limit : n .links ≤ 256
-  pub type-limit : n .types ≤ 32
-  pub lang-limit : n .langs ≤ 32
-  pub shape-limit : n .shapes ≤ 64
+  pub node-limit : n .nodes ≤ maxNodes
+  pub link-limit : n .links ≤ maxLinks
+  pub type-limit : n .types ≤ maxTypes
+  pub lang-limit : n .langs ≤ maxLangs
+  pub shape-limit : n .shapes ≤ maxShapes
 
 -- the table of names and the counts are those of the lines above
 pub record Held (ns : List ℕ) (n : Counts) (above : Book) : Type 0 where
@@ -45,7 +46,14 @@ pub record Held (ns : List ℕ) (n : Counts) (above : Book) : Type 0 where
 abbrev pub Kinds : List ℕ → Book → Type 0
 Kinds cs above = (v : ℕ) → v < length (names nodes above) → leb (getD cs (nodeKinds + v) 0) 1 ≡ isResource (getD (collect newTerms above) v iri)
 
--- the names of each pool in chains by their keys: where the chains begin, at the pool's place among 1,408 names, and what
--- follows each name 1,408 after its place
+-- how many names there may be in all pools, and how long their index is: where each chain begins and what follows each name
+abbrev pub namePlaces : ℕ
+namePlaces = maxNodes + maxLinks + maxTypes + maxLangs + maxShapes
+
+abbrev pub nameIndexCount : ℕ
+nameIndexCount = namePlaces + namePlaces
+
+-- the names of each pool in chains by their keys: where the chains begin, at the pool's place among all names, and what
+-- follows each name as many places after its own
 pub record Indexed (ns : List ℕ) (n : Counts) (index : List ℕ) : Type 0 where
-  pub chains : (p : Pool) → Chained (nameKey ns (poolBase p) (capacity p)) (countOf n p) (capacity p) (poolBase p / 32) (1408 + poolBase p / 32) index
+  pub chains : (p : Pool) → Chained (nameKey ns (poolBase p) (capacity p)) (countOf n p) (capacity p) (poolBase p / nameBytes) (namePlaces + poolBase p / nameBytes) index

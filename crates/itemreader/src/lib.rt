@@ -1,6 +1,24 @@
 // The reader of single items: names used and new, decimals, lists, and the words after opening brackets.
-// Functions for the crates above, on positions of a text that these have shown to lie within it. Operations: none.
+// Functions for the crates above, on positions of a text that these have shown to lie within it. Operations: none. words has the words
+// by their numbers.
+pub mod words;
+
 use model::Counts;
+use model::MAX_ITEMS;
+use model::MAX_LANGS;
+use model::MAX_LINKS;
+use model::MAX_NODES;
+use model::MAX_SHAPES;
+use model::MAX_TYPES;
+use model::NAME_BYTES;
+use tables::codes;
+use tables::layout::ITEMS;
+use tables::layout::LANG_NAMES;
+use tables::layout::LINK_NAMES;
+use tables::layout::NO_NUMBER;
+use tables::layout::NODE_KINDS;
+use tables::layout::SHAPE_NAMES;
+use tables::layout::TYPE_NAMES;
 use text::Bound;
 use text::Found;
 use text::Number;
@@ -22,10 +40,12 @@ ghost use lib.Seq.{slice};
 ghost use Rattle.text.specs.Pool.{allNames, indexOf, find};
 ghost use Rattle.text.specs.Pool as pools;
 ghost use Rattle.model.specs.Books.{Book};
+ghost use Rattle.model.specs.Limits.{maxItems, maxCount, maxName, nameBytes};
 ghost use Rattle.grammar.specs.Syntax.{used, new, subject, literalType, kindWord, value, low, high, pathFamily, formFamily, targetFamily, lineFamily};
 ghost use Rattle.grammar.specs.Reading.{Readers, Begun, argAt, listAt};
 ghost use Rattle.grammar.specs.Valid.{wellNamed};
 ghost use Rattle.model.specs.Valid.{capacity};
+ghost use Rattle.tables.specs.Layout.{cellCount, nameCount};
 ghost use Rattle.encoding.specs.Flatten.{kindCode, upperNumber};
 ghost use Rattle.encoding.specs.Encode.{poolBase};
 ghost use Rattle.itemreader.specs.Answers.{poolOf, same, itemOf, valueOf, Reads, Below, Counted, Inside, itemsAfter, Listed, headAt, Headed, wordsOf};
@@ -57,16 +77,24 @@ pub enum Head {
     No(u8),
 }
 
+// How many names there may be in all pools, and how long their index is.
+pub const NAME_PLACES: usize = MAX_NODES + MAX_LINKS + MAX_TYPES + MAX_LANGS + MAX_SHAPES;
+
+pub const NAME_INDEX: usize = NAME_PLACES + NAME_PLACES;
+
+// `*` for HI.
+const STAR: usize = NO_NUMBER as usize;
+
 // Where a pool begins among the names.
 pub fn base(pool: Pool) -> usize
     ensures { λ r. ⌜ r ≡ poolBase (poolOf pool) ⌝ }
 {
     match pool {
         Pool::Nodes => 0,
-        Pool::Links => 32768,
-        Pool::Types => 40960,
-        Pool::Langs => 41984,
-        Pool::Shapes => 43008,
+        Pool::Links => LINK_NAMES,
+        Pool::Types => TYPE_NAMES,
+        Pool::Langs => LANG_NAMES,
+        Pool::Shapes => SHAPE_NAMES,
     }
 }
 
@@ -87,11 +115,11 @@ pub fn most(pool: Pool) -> usize
     ensures { λ r. ⌜ r ≡ capacity (poolOf pool) ⌝ }
 {
     match pool {
-        Pool::Nodes => 1024,
-        Pool::Links => 256,
-        Pool::Types => 32,
-        Pool::Langs => 32,
-        Pool::Shapes => 64,
+        Pool::Nodes => MAX_NODES,
+        Pool::Links => MAX_LINKS,
+        Pool::Types => MAX_TYPES,
+        Pool::Langs => MAX_LANGS,
+        Pool::Shapes => MAX_SHAPES,
     }
 }
 
@@ -122,7 +150,7 @@ fn look_up(
     at: usize,
     end: usize,
 ) -> Found
-    requires { ⌜ (at ≤ end) × (end ≤ length (now book)) × (end - at ≤ 31) × (45056 ≤ length (now names)) × Limits counts × Indexed (now names) counts (now index) ⌝ }
+    requires { ⌜ (at ≤ end) × (end ≤ length (now book)) × (end - at ≤ maxName) × (nameCount ≤ length (now names)) × Limits counts × Indexed (now names) counts (now index) ⌝ }
     ensures { λ r. ⌜ r ≡ find (now (names .entry)) (poolBase (poolOf pool)) (countOf counts (poolOf pool)) (slice at end (now (book .entry))) ⌝ }
 {
     let first = base(pool);
@@ -131,8 +159,8 @@ fn look_up(
         first,
         count(counts, pool),
         index,
-        first / 32,
-        1408 + first / 32,
+        first / NAME_BYTES,
+        NAME_PLACES + first / NAME_BYTES,
         most(pool),
         book,
         at,
@@ -149,7 +177,7 @@ pub fn read_used(
     book: &[u8],
     at: usize,
 ) -> Item
-    requires { ⌜ (at ≤ length (now book)) × (45056 ≤ length (now names)) × Limits counts × Indexed (now names) counts (now index) ⌝ }
+    requires { ⌜ (at ≤ length (now book)) × (nameCount ≤ length (now names)) × Limits counts × Indexed (now names) counts (now index) ⌝ }
     ensures { λ r. ⌜ ((a : Book) → Held (now (names .entry)) counts a → Reads (now (book .entry)) a (used (poolOf pool)) same at r) ⌝ }
     ensures { λ r. ⌜ Below (countOf counts (poolOf pool)) (length (now (book .entry))) r ⌝ }
 {
@@ -175,9 +203,9 @@ pub fn read_new(
     book: &[u8],
     at: usize,
 ) -> Item
-    requires { ⌜ (at ≤ length (now book)) × (45056 ≤ length (now names)) × Limits counts × Indexed (now names) counts (now index) ⌝ }
+    requires { ⌜ (at ≤ length (now book)) × (nameCount ≤ length (now names)) × Limits counts × Indexed (now names) counts (now index) ⌝ }
     ensures { λ r. ⌜ ((a : Book) → Held (now (names .entry)) counts a → Reads (now (book .entry)) a (new (poolOf pool)) length at r) ⌝ }
-    ensures { λ r. ⌜ Below 32 (length (now (book .entry))) r ⌝ }
+    ensures { λ r. ⌜ Below (maxName + 1) (length (now (book .entry))) r ⌝ }
 {
     if byte(book, at) != 32 {
         return Item::No(2);
@@ -204,7 +232,7 @@ pub fn read_subject(
     book: &[u8],
     at: usize,
 ) -> Item
-    requires { ⌜ (at ≤ length (now book)) × (45056 ≤ length (now names)) × (16602 ≤ length (now cells)) × Limits counts × Indexed (now names) counts (now index) ⌝ }
+    requires { ⌜ (at ≤ length (now book)) × (nameCount ≤ length (now names)) × (cellCount ≤ length (now cells)) × Limits counts × Indexed (now names) counts (now index) ⌝ }
     ensures { λ r. ⌜ ((a : Book) → Held (now (names .entry)) counts a → Kinds (now (cells .entry)) a → Reads (now (book .entry)) a subject same at r) ⌝ }
     ensures { λ r. ⌜ Below (counts .nodes) (length (now (book .entry))) r ⌝ }
 {
@@ -212,7 +240,7 @@ pub fn read_subject(
     let Item::Is(v, next) = used else {
         return used;
     };
-    if 1 < cells[10 + v] {
+    if codes::NODE_BLANK < cells[NODE_KINDS + v] {
         return Item::No(2);
     }
     Item::Is(v, next)
@@ -220,7 +248,7 @@ pub fn read_subject(
 
 // A type other than `langstring`.
 pub fn read_type(names: &[u8], index: &[u16], counts: Counts, book: &[u8], at: usize) -> Item
-    requires { ⌜ (at ≤ length (now book)) × (45056 ≤ length (now names)) × Limits counts × Indexed (now names) counts (now index) ⌝ }
+    requires { ⌜ (at ≤ length (now book)) × (nameCount ≤ length (now names)) × Limits counts × Indexed (now names) counts (now index) ⌝ }
     ensures { λ r. ⌜ ((a : Book) → Held (now (names .entry)) counts a → Reads (now (book .entry)) a literalType same at r) ⌝ }
     ensures { λ r. ⌜ Below (counts .types) (length (now (book .entry))) r ⌝ }
 {
@@ -255,7 +283,7 @@ pub fn read_value(book: &[u8], at: usize) -> Value
 pub fn read_low(book: &[u8], at: usize) -> Item
     requires { ⌜ at ≤ length (now book) ⌝ }
     ensures { λ r. ⌜ ((a : Book) → Reads (now (book .entry)) a low same at r) ⌝ }
-    ensures { λ r. ⌜ Below 1025 (length (now (book .entry))) r ⌝ }
+    ensures { λ r. ⌜ Below (maxCount + 1) (length (now (book .entry))) r ⌝ }
 {
     if byte(book, at) != 32 {
         return Item::No(2);
@@ -268,7 +296,7 @@ pub fn read_low(book: &[u8], at: usize) -> Item
     }
 }
 
-// HI of a count; `*` is 65,535.
+// HI of a count.
 pub fn read_high(book: &[u8], at: usize) -> Item
     requires { ⌜ at ≤ length (now book) ⌝ }
     ensures { λ r. ⌜ ((a : Book) → Reads (now (book .entry)) a high upperNumber at r) ⌝ }
@@ -279,14 +307,14 @@ pub fn read_high(book: &[u8], at: usize) -> Item
     }
     let end = item_end(book, at + 1);
     if is_word(book, at + 1, end, b"*") {
-        return Item::Is(65535, end);
+        return Item::Is(STAR, end);
     }
     read_low(book, at)
 }
 
 // The number of the word from at to end in a table of count padded words.
 fn keyword(words: &[u8], count: usize, book: &[u8], at: usize, end: usize) -> Found
-    requires { ⌜ (at ≤ end) × (end ≤ length (now book)) × (count * 32 ≤ length (now words)) ⌝ }
+    requires { ⌜ (at ≤ end) × (end ≤ length (now book)) × (count * nameBytes ≤ length (now words)) ⌝ }
     ensures { λ r. ⌜ ((ws : List (List ℕ)) → allNames ws ≡ true → now (words .entry) ≡ pools.poolOf ws → count ≡ length ws → r ≡ indexOf ws (slice at end (now (book .entry)))) ⌝ }
 {
     if !is_name(book, at, end) {
@@ -328,11 +356,11 @@ pub fn read_list(
     at: usize,
     i: usize,
 ) -> Item
-    requires { ⌜ (at ≤ length (now book)) × (45056 ≤ length (now names)) × (16602 ≤ length (now cells)) × (i ≤ 128) × Limits counts × Indexed (now names) counts (now index) ⌝ }
-    ensures { λ r. ⌜ ((a : Book) → Held (now (names .entry)) counts a → r ≡ itemOf (itemsAfter i) (listAt (now (book .entry)) a (poolOf pool) (128 - i) at)) ⌝ }
-    ensures { λ _. ⌜ ((a : Book) → Held (now (names .entry)) counts a → Listed (listAt (now (book .entry)) a (poolOf pool) (128 - i) at) i (now (cells .entry)) (now (cells .exit))) ⌝ }
-    ensures { λ r. ⌜ Counted i 128 (length (now (book .entry))) r ⌝ }
-    ensures { λ _. ⌜ drop 16602 (now (cells .exit)) ≡ drop 16602 (now (cells .entry)) ⌝ }
+    requires { ⌜ (at ≤ length (now book)) × (nameCount ≤ length (now names)) × (cellCount ≤ length (now cells)) × (i ≤ maxItems) × Limits counts × Indexed (now names) counts (now index) ⌝ }
+    ensures { λ r. ⌜ ((a : Book) → Held (now (names .entry)) counts a → r ≡ itemOf (itemsAfter i) (listAt (now (book .entry)) a (poolOf pool) (maxItems - i) at)) ⌝ }
+    ensures { λ _. ⌜ ((a : Book) → Held (now (names .entry)) counts a → Listed (listAt (now (book .entry)) a (poolOf pool) (maxItems - i) at) i (now (cells .entry)) (now (cells .exit))) ⌝ }
+    ensures { λ r. ⌜ Counted i maxItems (length (now (book .entry))) r ⌝ }
+    ensures { λ _. ⌜ drop cellCount (now (cells .exit)) ≡ drop cellCount (now (cells .entry)) ⌝ }
 {
     if byte(book, at) != 32 {
         return Item::Is(i, at);
@@ -341,16 +369,16 @@ pub fn read_list(
     let Item::Is(k, next) = used else {
         return used;
     };
-    if 128 <= i {
+    if MAX_ITEMS <= i {
         return Item::No(7);
     }
-    cells[16314 + i] = k as u16;
+    cells[ITEMS + i] = k as u16;
     read_list(cells, names, index, counts, pool, book, next, i + 1)
 }
 
 // What stands at a place for a bracket, by a table of count padded words.
 fn head_at(words: &[u8], count: usize, book: &[u8], at: usize, left: usize, full: bool) -> Head
-    requires { ⌜ (at ≤ length (now book)) × (count * 32 ≤ length (now words)) ⌝ }
+    requires { ⌜ (at ≤ length (now book)) × (count * nameBytes ≤ length (now words)) ⌝ }
     ensures { λ r. ⌜ ((ws : List (List ℕ)) → allNames ws ≡ true → now (words .entry) ≡ pools.poolOf ws → count ≡ length ws → r ≡ headAt (now (book .entry)) ws (eqb left 0) full at) ⌝ }
 {
     if byte(book, at) != 40 {

@@ -18,8 +18,10 @@ use Rattle.model.specs.Paths.{Path, predicate, inverse, sequence, alternative, 
 use Rattle.model.specs.Shapes.{Shape, top}
 use Rattle.model.specs.Books.{Book, Pool}
 use Rattle.model.specs.Sizes.{pathEntries, endEntries}
+use Rattle.model.specs.Limits.{maxForms, maxPaths, maxItems}
 use Rattle.grammar.specs.Syntax.{Slot, Arg, list, form}
 use Rattle.grammar.specs.Reading.{Read, got, refused, Readers, Begun, after, argAt, listAt, closeAt, trueAt}
+use Rattle.tables.specs.Layout.{cellCount, formCodes, formFirsts, formSeconds, formThirds, formFourths}
 use Rattle.stores.specs.Entries.{putForm, putItems, pathCells, endCells, endOperand, shapeCells, shapeValues}
 use Rattle.itemreader.specs.Answers.{restAt}
 use Rattle.itemreader.proofs.Heads.{rest-none, rest-got}
@@ -41,17 +43,17 @@ ended-eq n m p q r = parts (n .forms) (n .paths) (n .items) (m .forms) (m .paths
     parts : (a b c a' b' c' : ℕ) → a ≡ a' → b ≡ b' → c ≡ c' → _≡_ {A = Ended} (record { forms = a; paths = b; items = c }) (record { forms = a'; paths = b'; items = c' })
     parts a b c a' b' c' p q r = rw (p, q, r)
 
-pub form-drop : (e code a b c d : ℕ) (cs : List ℕ) → e < 112 → drop 16602 (putForm e code a b c d cs) ≡ drop 16602 cs
+pub form-drop : (e code a b c d : ℕ) (cs : List ℕ) → e < maxForms → drop cellCount (putForm e code a b c d cs) ≡ drop cellCount cs
 unfolding putForm
 form-drop e code a b c d cs h =
-    let c1 : List ℕ = set cs (15754 + e) code in
-    let c2 : List ℕ = set c1 (15866 + e) a in
-    let c3 : List ℕ = set c2 (15978 + e) b in
-    let c4 : List ℕ = set c3 (16090 + e) c in
-    drop-set-lt 16602 c4 (16202 + e) d (omega arith)
-    ∙ (drop-set-lt 16602 c3 (16090 + e) c (omega arith)
-    ∙ (drop-set-lt 16602 c2 (15978 + e) b (omega arith)
-    ∙ (drop-set-lt 16602 c1 (15866 + e) a (omega arith) ∙ drop-set-lt 16602 cs (15754 + e) code (omega arith))))
+    let c1 : List ℕ = set cs (formCodes + e) code in
+    let c2 : List ℕ = set c1 (formFirsts + e) a in
+    let c3 : List ℕ = set c2 (formSeconds + e) b in
+    let c4 : List ℕ = set c3 (formThirds + e) c in
+    drop-set-lt cellCount c4 (formFourths + e) d (omega arith)
+    ∙ (drop-set-lt cellCount c3 (formThirds + e) c (omega arith)
+    ∙ (drop-set-lt cellCount c2 (formSeconds + e) b (omega arith)
+    ∙ (drop-set-lt cellCount c1 (formFirsts + e) a (omega arith) ∙ drop-set-lt cellCount cs (formCodes + e) code (omega arith))))
 
 -- ---- the closing bracket
 module _ (s : List ℕ) (at : ℕ) (l : Ended) where
@@ -63,7 +65,7 @@ module _ (s : List ℕ) (at : ℕ) (l : Ended) where
       go true q w = record { answer = q ∙ ap (λ (m : Ended). Form.Is m (at + 1)) (sym (c .ended)); stored = (w ∙ c .cells, c .values) }
       go false q w = record { answer = q; stored = tt }
 
-  pub closed-within : (e up : ℕ) → e ≤ l .forms → l .forms + up < 112 → l .paths ≤ 128 → l .items ≤ 128 → Within e up (length s) (closedForm s at l)
+  pub closed-within : (e up : ℕ) → e ≤ l .forms → l .forms + up < maxForms → l .paths ≤ maxPaths → l .items ≤ maxItems → Within e up (length s) (closedForm s at l)
   unfolding closedForm
   closed-within e up h k p i =
       bool-cases (λ t. Within e up (length s) (cond t (Form.Is (formEnded l) (at + 1)) (Form.No 2))) (eqb (getD s at 0) 41)
@@ -78,7 +80,7 @@ rest-one s a R k f b at y next e = rest-got s a R true k [] (λ xs. f (xs .0)) b
 pub put-item : (lone : Bool) (e code a : ℕ) (cs : List ℕ) (p q x y : ℕ) → p ≡ cond lone x a → q ≡ cond lone 0 x → y ≡ x → putForm e code p q 0 0 cs ≡ putItem lone e code a cs y
 put-item lone e code a cs p q x y f g h = rw (f, g, h)
 
-pub list-arg : (s : List ℕ) (a : Book) (R : Readers) (p : Pool) (b : Begun) (i at : ℕ) → b .items ≡ i → argAt s a R (list p) b at ≡ listAt s a p (128 - i) at
+pub list-arg : (s : List ℕ) (a : Book) (R : Readers) (p : Pool) (b : Begun) (i at : ℕ) → b .items ≡ i → argAt s a R (list p) b at ≡ listAt s a p (maxItems - i) at
 unfolding argAt
 list-arg s a R p b i at e = rw e
 
@@ -152,7 +154,7 @@ module _ {n : Begun} {cs cs' : List ℕ} {vs vs' : List ℤ} {r : Form} where
       go (got φ last) p = let z : _≡_ {A = ℕ} 0 1 = cc in absurd (omega arith)
       go (refused j) p = cc
 
-pub within-is : (e up len : ℕ) (r : Form) (m : Ended) (next : ℕ) → Within e up len r → r ≡ Form.Is m next → (e < m .forms) × (m .forms + up ≤ 112) × (m .paths ≤ 128) × (m .items ≤ 128) × (next ≤ len)
+pub within-is : (e up len : ℕ) (r : Form) (m : Ended) (next : ℕ) → Within e up len r → r ≡ Form.Is m next → (e < m .forms) × (m .forms + up ≤ maxForms) × (m .paths ≤ maxPaths) × (m .items ≤ maxItems) × (next ≤ len)
 within-is e up len r m next g q = rw q at g
 
 -- ---- words by their numbers

@@ -10,8 +10,10 @@ use Rattle.model.specs.Paths.{Path, End}
 use Rattle.model.specs.Shapes.{Shape}
 use Rattle.model.specs.Books.{Book}
 use Rattle.model.specs.Sizes.{pathEntries, endEntries}
+use Rattle.model.specs.Limits.{maxForms, maxPaths, maxItems}
 use Rattle.grammar.specs.Syntax.{Slot, Arg, form, formFamily}
 use Rattle.grammar.specs.Reading.{Read, got, refused, Readers, Begun, after, argAt, bodyAt, readersAt}
+use Rattle.tables.specs.Layout.{noNumber}
 use Rattle.stores.specs.Entries.{putForm, putItems, putValue, pathCells, endCells, endOperand, shapeCells, shapeValues}
 use Rattle.itemreader.specs.declared.Item.{Item}
 use Rattle.itemreader.specs.Answers.{itemOf, restAt}
@@ -56,7 +58,7 @@ closedForm s at l = cond (eqb (getD s at 0) 41) (Form.Is (formEnded l) (at + 1))
 
 -- more than e form entries with room for up more, other entries within their limits, and a position in a text of a length
 abbrev pub Within : ℕ → ℕ → ℕ → Form → Type 0
-Within e up len (Form.Is m next) = (e < m .forms) × (m .forms + up ≤ 112) × (m .paths ≤ 128) × (m .items ≤ 128) × (next ≤ len)
+Within e up len (Form.Is m next) = (e < m .forms) × (m .forms + up ≤ maxForms) × (m .paths ≤ maxPaths) × (m .items ≤ maxItems) × (next ≤ len)
 Within e up len (Form.No k) = Unit {0}
 
 -- how many FORMs stand within the bracket of a word
@@ -103,4 +105,4 @@ PathShape f code = (n : Ended) (e : Path) (p : ℕ) (cs : List ℕ) (vs : List �
 
 -- the number by which an entry names its END: by the path entries before and after it
 abbrev pub endNumber : ℕ → ℕ → ℕ
-endNumber before after = cond (eqb after before) 65535 (after - 1)
+endNumber before after = cond (eqb after before) noNumber (after - 1)

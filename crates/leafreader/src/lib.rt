@@ -8,9 +8,19 @@ use itemreader::read_kind;
 use itemreader::read_list;
 use itemreader::read_used;
 use itemreader::read_value;
+use itemreader::words;
 use model::Counts;
+use model::MAX_FORMS;
 use pathreader::read_end;
 use pathreader::read_path;
+use tables::codes;
+use tables::layout::FORM_CODES;
+use tables::layout::FORM_FIRSTS;
+use tables::layout::FORM_FOURTHS;
+use tables::layout::FORM_SECONDS;
+use tables::layout::FORM_THIRDS;
+use tables::layout::FORM_VALUES;
+use tables::layout::NO_NUMBER;
 use text::byte;
 use text::is_word;
 use text::item_end;
@@ -24,8 +34,10 @@ ghost use lib.IntN.{ℤ};
 ghost use Rattle.model.specs.Paths.{Path, End};
 ghost use Rattle.model.specs.Shapes.{Shape, uniqueLang};
 ghost use Rattle.model.specs.Books.{Book, links};
+ghost use Rattle.model.specs.Limits.{maxForms, maxPaths, maxItems};
 ghost use Rattle.grammar.specs.Syntax.{used, value, path, end, list};
 ghost use Rattle.grammar.specs.Reading.{Readers, Begun, trueAt, readersAt};
+ghost use Rattle.tables.specs.Layout.{cellCount, valueCount, nameCount};
 ghost use Rattle.stores.specs.Entries.{putForm};
 ghost use Rattle.itemreader.specs.Answers.{poolOf, Below, restAt};
 ghost use Rattle.itemreader.specs.Held.{Limits, Held, Indexed};
@@ -45,15 +57,23 @@ pub enum Form {
 }
 
 // Form entry e.
-fn put_form(cells: &mut [u16], e: usize, code: u16, a: u16, b: u16, c: u16, d: u16)
-    requires { ⌜ (e < 112) × (16602 ≤ length (now cells)) ⌝ }
-    ensures { λ _. ⌜ now (cells .exit) ≡ putForm e code a b c d (now (cells .entry)) ⌝ }
+fn put_form(
+    cells: &mut [u16],
+    e: usize,
+    code: u16,
+    first: u16,
+    second: u16,
+    third: u16,
+    fourth: u16,
+)
+    requires { ⌜ (e < maxForms) × (cellCount ≤ length (now cells)) ⌝ }
+    ensures { λ _. ⌜ now (cells .exit) ≡ putForm e code first second third fourth (now (cells .entry)) ⌝ }
 {
-    cells[15754 + e] = code;
-    cells[15866 + e] = a;
-    cells[15978 + e] = b;
-    cells[16090 + e] = c;
-    cells[16202 + e] = d;
+    cells[FORM_CODES + e] = code;
+    cells[FORM_FIRSTS + e] = first;
+    cells[FORM_SECONDS + e] = second;
+    cells[FORM_THIRDS + e] = third;
+    cells[FORM_FOURTHS + e] = fourth;
 }
 
 // A closing bracket, and the entry of the form that it closes, after n.
@@ -63,21 +83,21 @@ pub fn close_form(
     at: usize,
     n: Ended,
     code: u16,
-    a: u16,
-    b: u16,
-    c: u16,
-    d: u16,
+    first: u16,
+    second: u16,
+    third: u16,
+    fourth: u16,
 ) -> Form
-    requires { ⌜ (n .forms < 112) × (16602 ≤ length (now cells)) ⌝ }
+    requires { ⌜ (n .forms < maxForms) × (cellCount ≤ length (now cells)) ⌝ }
     ensures { λ r. ⌜ r ≡ closedForm (now (book .entry)) at n ⌝ }
-    ensures { λ _. ⌜ now (cells .exit) ≡ cond (eqb (getD (now (book .entry)) at 0) 41) (putForm (n .forms) code a b c d (now (cells .entry))) (now (cells .entry)) ⌝ }
-    ensures { λ _. ⌜ drop 16602 (now (cells .exit)) ≡ drop 16602 (now (cells .entry)) ⌝ }
+    ensures { λ _. ⌜ now (cells .exit) ≡ cond (eqb (getD (now (book .entry)) at 0) 41) (putForm (n .forms) code first second third fourth (now (cells .entry))) (now (cells .entry)) ⌝ }
+    ensures { λ _. ⌜ drop cellCount (now (cells .exit)) ≡ drop cellCount (now (cells .entry)) ⌝ }
 {
     if byte(book, at) != 41 {
         return Form::No(2);
     }
     let forms = n.forms;
-    put_form(cells, forms, code, a, b, c, d);
+    put_form(cells, forms, code, first, second, third, fourth);
     Form::Is(
         Ended {
             forms: forms + 1,
@@ -88,7 +108,7 @@ pub fn close_form(
     )
 }
 
-// A form whose last item was read: its number is the form's only operand, or the second after a.
+// A form whose last item was read: its number is the form's only operand, or the second.
 fn item_form(
     cells: &mut [u16],
     book: &[u8],
@@ -96,13 +116,13 @@ fn item_form(
     n: Ended,
     up: usize,
     code: u16,
-    a: u16,
+    first: u16,
     lone: bool,
 ) -> Form
-    requires { ⌜ (n .forms + up < 112) × (n .paths ≤ 128) × (n .items ≤ 128) × (16602 ≤ length (now cells)) × Below 65536 (length (now book)) item ⌝ }
-    ensures { λ r. ⌜ ItemForm (now (book .entry)) item n (putItem lone (n .forms) code a (now (cells .entry))) (now (cells .exit)) r ⌝ }
+    requires { ⌜ (n .forms + up < maxForms) × (n .paths ≤ maxPaths) × (n .items ≤ maxItems) × (cellCount ≤ length (now cells)) × Below 65536 (length (now book)) item ⌝ }
+    ensures { λ r. ⌜ ItemForm (now (book .entry)) item n (putItem lone (n .forms) code first (now (cells .entry))) (now (cells .exit)) r ⌝ }
     ensures { λ r. ⌜ Within (n .forms) up (length (now (book .entry))) r ⌝ }
-    ensures { λ _. ⌜ drop 16602 (now (cells .exit)) ≡ drop 16602 (now (cells .entry)) ⌝ }
+    ensures { λ _. ⌜ drop cellCount (now (cells .exit)) ≡ drop cellCount (now (cells .entry)) ⌝ }
 {
     match item {
         Item::No(k) => Form::No(k),
@@ -114,7 +134,7 @@ fn item_form(
                 next,
                 n,
                 code,
-                pick_cell(lone, x, a),
+                pick_cell(lone, x, first),
                 pick_cell(lone, 0, x),
                 0,
                 0,
@@ -136,10 +156,10 @@ fn used_form(
     up: usize,
     code: u16,
 ) -> Form
-    requires { ⌜ (at ≤ length (now book)) × (45056 ≤ length (now names)) × (16602 ≤ length (now cells)) × (n .forms + up < 112) × (n .paths ≤ 128) × (n .items ≤ 128) × Limits counts × Indexed (now names) counts (now index) ⌝ }
+    requires { ⌜ (at ≤ length (now book)) × (nameCount ≤ length (now names)) × (cellCount ≤ length (now cells)) × (n .forms + up < maxForms) × (n .paths ≤ maxPaths) × (n .items ≤ maxItems) × Limits counts × Indexed (now names) counts (now index) ⌝ }
     ensures { λ r. ⌜ ((a : Book) → Held (now (names .entry)) counts a → (R : Readers) (b : Begun) (f : ℕ → Shape) → UsedShape f code → (vs : List ℤ) → FormRead (restAt (now (book .entry)) a R true (used (poolOf pool) ∷ []) (λ xs. f (xs .0)) b at) (begunOf n) (now (cells .entry)) (now (cells .exit)) vs vs r) ⌝ }
     ensures { λ r. ⌜ Within (n .forms) up (length (now (book .entry))) r ⌝ }
-    ensures { λ _. ⌜ drop 16602 (now (cells .exit)) ≡ drop 16602 (now (cells .entry)) ⌝ }
+    ensures { λ _. ⌜ drop cellCount (now (cells .exit)) ≡ drop cellCount (now (cells .entry)) ⌝ }
 {
     let item = read_used(names, index, counts, pool, book, at);
     item_form(cells, book, item, n, up, code, 0, true)
@@ -158,10 +178,10 @@ fn list_form(
     up: usize,
     code: u16,
 ) -> Form
-    requires { ⌜ (at ≤ length (now book)) × (45056 ≤ length (now names)) × (16602 ≤ length (now cells)) × (n .forms + up < 112) × (n .paths ≤ 128) × (n .items ≤ 128) × Limits counts × Indexed (now names) counts (now index) ⌝ }
+    requires { ⌜ (at ≤ length (now book)) × (nameCount ≤ length (now names)) × (cellCount ≤ length (now cells)) × (n .forms + up < maxForms) × (n .paths ≤ maxPaths) × (n .items ≤ maxItems) × Limits counts × Indexed (now names) counts (now index) ⌝ }
     ensures { λ r. ⌜ ((a : Book) → Held (now (names .entry)) counts a → (R : Readers) (b : Begun) → b .items ≡ n .items → (f : List ℕ → Shape) → ListShape f code → (vs : List ℤ) → FormRead (restAt (now (book .entry)) a R true (list (poolOf pool) ∷ []) (λ xs. f (xs .0)) b at) (begunOf n) (now (cells .entry)) (now (cells .exit)) vs vs r) ⌝ }
     ensures { λ r. ⌜ Within (n .forms) up (length (now (book .entry))) r ⌝ }
-    ensures { λ _. ⌜ drop 16602 (now (cells .exit)) ≡ drop 16602 (now (cells .entry)) ⌝ }
+    ensures { λ _. ⌜ drop cellCount (now (cells .exit)) ≡ drop cellCount (now (cells .entry)) ⌝ }
 {
     let items = n.items;
     match read_list(cells, names, index, counts, pool, book, at, items) {
@@ -197,17 +217,17 @@ fn value_form(
     up: usize,
     code: u16,
 ) -> Form
-    requires { ⌜ (at ≤ length (now book)) × (16602 ≤ length (now cells)) × (1136 ≤ length (now values)) × (n .forms + up < 112) × (n .paths ≤ 128) × (n .items ≤ 128) ⌝ }
+    requires { ⌜ (at ≤ length (now book)) × (cellCount ≤ length (now cells)) × (valueCount ≤ length (now values)) × (n .forms + up < maxForms) × (n .paths ≤ maxPaths) × (n .items ≤ maxItems) ⌝ }
     ensures { λ r. ⌜ ((a : Book) (R : Readers) (b : Begun) (f : ℤ → Shape) → ValueShape f code → FormRead (restAt (now (book .entry)) a R true (value ∷ []) (λ xs. f (xs .0)) b at) (begunOf n) (now (cells .entry)) (now (cells .exit)) (now (values .entry)) (now (values .exit)) r) ⌝ }
     ensures { λ r. ⌜ Within (n .forms) up (length (now (book .entry))) r ⌝ }
-    ensures { λ _. ⌜ drop 16602 (now (cells .exit)) ≡ drop 16602 (now (cells .entry)) ⌝ }
-    ensures { λ _. ⌜ drop 1136 (now (values .exit)) ≡ drop 1136 (now (values .entry)) ⌝ }
+    ensures { λ _. ⌜ drop cellCount (now (cells .exit)) ≡ drop cellCount (now (cells .entry)) ⌝ }
+    ensures { λ _. ⌜ drop valueCount (now (values .exit)) ≡ drop valueCount (now (values .entry)) ⌝ }
 {
     match read_value(book, at) {
         Value::No(k) => Form::No(k),
         Value::Is(x, next) => {
             let forms = n.forms;
-            values[1024 + forms] = x;
+            values[FORM_VALUES + forms] = x;
             close_form(cells, book, next, n, code, 0, 0, 0, 0)
         }
     }
@@ -215,11 +235,11 @@ fn value_form(
 
 // `id` for an END that has no entry, else the number of its last entry.
 fn end_number(before: usize, after: usize) -> u16
-    requires { ⌜ (before ≤ after) × (after ≤ 128) ⌝ }
+    requires { ⌜ (before ≤ after) × (after ≤ maxPaths) ⌝ }
     ensures { λ r. ⌜ r ≡ endNumber before after ⌝ }
 {
     if after == before {
-        65535
+        NO_NUMBER
     } else {
         (after - 1) as u16
     }
@@ -238,10 +258,10 @@ fn end_form(
     up: usize,
     code: u16,
 ) -> Form
-    requires { ⌜ (at ≤ length (now book)) × (45056 ≤ length (now names)) × (16602 ≤ length (now cells)) × (n .forms + up < 112) × (n .paths ≤ 128) × (n .items ≤ 128) × Limits counts × Indexed (now names) counts (now index) ⌝ }
+    requires { ⌜ (at ≤ length (now book)) × (nameCount ≤ length (now names)) × (cellCount ≤ length (now cells)) × (n .forms + up < maxForms) × (n .paths ≤ maxPaths) × (n .items ≤ maxItems) × Limits counts × Indexed (now names) counts (now index) ⌝ }
     ensures { λ r. ⌜ ((a : Book) → Held (now (names .entry)) counts a → (b : Begun) → b .paths ≡ n .paths → (f : End → ℕ → Shape) → EndShape f code → (vs : List ℤ) → FormRead (restAt (now (book .entry)) a (readersAt (now (book .entry)) a left) true (end ∷ used links ∷ []) (λ xs. f (xs .0) (xs .1 .0)) b at) (begunOf n) (now (cells .entry)) (now (cells .exit)) vs vs r) ⌝ }
     ensures { λ r. ⌜ Within (n .forms) up (length (now (book .entry))) r ⌝ }
-    ensures { λ _. ⌜ drop 16602 (now (cells .exit)) ≡ drop 16602 (now (cells .entry)) ⌝ }
+    ensures { λ _. ⌜ drop cellCount (now (cells .exit)) ≡ drop cellCount (now (cells .entry)) ⌝ }
 {
     let paths = n.paths;
     match read_end(cells, names, index, counts, book, at, left, paths) {
@@ -271,10 +291,10 @@ fn less_form(
     up: usize,
     code: u16,
 ) -> Form
-    requires { ⌜ (at ≤ length (now book)) × (45056 ≤ length (now names)) × (16602 ≤ length (now cells)) × (n .forms + up < 112) × (n .paths ≤ 128) × (n .items ≤ 128) × Limits counts × Indexed (now names) counts (now index) ⌝ }
+    requires { ⌜ (at ≤ length (now book)) × (nameCount ≤ length (now names)) × (cellCount ≤ length (now cells)) × (n .forms + up < maxForms) × (n .paths ≤ maxPaths) × (n .items ≤ maxItems) × Limits counts × Indexed (now names) counts (now index) ⌝ }
     ensures { λ r. ⌜ ((a : Book) → Held (now (names .entry)) counts a → (b : Begun) → b .paths ≡ n .paths → (f : Path → ℕ → Shape) → PathShape f code → (vs : List ℤ) → FormRead (restAt (now (book .entry)) a (readersAt (now (book .entry)) a left) true (path ∷ used links ∷ []) (λ xs. f (xs .0) (xs .1 .0)) b at) (begunOf n) (now (cells .entry)) (now (cells .exit)) vs vs r) ⌝ }
     ensures { λ r. ⌜ Within (n .forms) up (length (now (book .entry))) r ⌝ }
-    ensures { λ _. ⌜ drop 16602 (now (cells .exit)) ≡ drop 16602 (now (cells .entry)) ⌝ }
+    ensures { λ _. ⌜ drop cellCount (now (cells .exit)) ≡ drop cellCount (now (cells .entry)) ⌝ }
 {
     let paths = n.paths;
     match read_path(cells, names, index, counts, book, at, left, paths, 0) {
@@ -303,10 +323,10 @@ fn onelang_form(
     n: Ended,
     up: usize,
 ) -> Form
-    requires { ⌜ (at ≤ length (now book)) × (45056 ≤ length (now names)) × (16602 ≤ length (now cells)) × (n .forms + up < 112) × (n .paths ≤ 128) × (n .items ≤ 128) × Limits counts × Indexed (now names) counts (now index) ⌝ }
+    requires { ⌜ (at ≤ length (now book)) × (nameCount ≤ length (now names)) × (cellCount ≤ length (now cells)) × (n .forms + up < maxForms) × (n .paths ≤ maxPaths) × (n .items ≤ maxItems) × Limits counts × Indexed (now names) counts (now index) ⌝ }
     ensures { λ r. ⌜ ((a : Book) → Held (now (names .entry)) counts a → (b : Begun) → b .paths ≡ n .paths → (vs : List ℤ) → FormRead (restAt (now (book .entry)) a (readersAt (now (book .entry)) a left) true (path ∷ []) (λ xs. uniqueLang (xs .0)) b at) (begunOf n) (now (cells .entry)) (now (cells .exit)) vs vs r) ⌝ }
     ensures { λ r. ⌜ Within (n .forms) up (length (now (book .entry))) r ⌝ }
-    ensures { λ _. ⌜ drop 16602 (now (cells .exit)) ≡ drop 16602 (now (cells .entry)) ⌝ }
+    ensures { λ _. ⌜ drop cellCount (now (cells .exit)) ≡ drop cellCount (now (cells .entry)) ⌝ }
 {
     let paths = n.paths;
     match read_path(cells, names, index, counts, book, at, left, paths, 0) {
@@ -317,27 +337,37 @@ fn onelang_form(
                 paths: m,
                 items: n.items,
             };
-            close_form(cells, book, next, l, 20, (m - 1) as u16, 0, 0, 0)
+            close_form(
+                cells,
+                book,
+                next,
+                l,
+                codes::FORM_ONELANG,
+                (m - 1) as u16,
+                0,
+                0,
+                0,
+            )
         }
     }
 }
 
 // `true` after a space.
 pub fn read_true(cells: &mut [u16], book: &[u8], at: usize, n: Ended, up: usize) -> Form
-    requires { ⌜ (at ≤ length (now book)) × (16602 ≤ length (now cells)) × (n .forms + up ≤ 112) × (n .paths ≤ 128) × (n .items ≤ 128) ⌝ }
-    ensures { λ r. ⌜ ((a : Book) (vs : List ℤ) → FormRead (trueAt (now (book .entry)) a (leb 112 (n .forms + up)) at) (begunOf n) (now (cells .entry)) (now (cells .exit)) vs vs r) ⌝ }
+    requires { ⌜ (at ≤ length (now book)) × (cellCount ≤ length (now cells)) × (n .forms + up ≤ maxForms) × (n .paths ≤ maxPaths) × (n .items ≤ maxItems) ⌝ }
+    ensures { λ r. ⌜ ((a : Book) (vs : List ℤ) → FormRead (trueAt (now (book .entry)) a (leb maxForms (n .forms + up)) at) (begunOf n) (now (cells .entry)) (now (cells .exit)) vs vs r) ⌝ }
     ensures { λ r. ⌜ Within (n .forms) up (length (now (book .entry))) r ⌝ }
-    ensures { λ _. ⌜ drop 16602 (now (cells .exit)) ≡ drop 16602 (now (cells .entry)) ⌝ }
+    ensures { λ _. ⌜ drop cellCount (now (cells .exit)) ≡ drop cellCount (now (cells .entry)) ⌝ }
 {
     let end = item_end(book, at);
     if !is_word(book, at, end, b"true") {
         return Form::No(2);
     }
     let forms = n.forms;
-    if 112 <= forms + up {
+    if MAX_FORMS <= forms + up {
         return Form::No(7);
     }
-    put_form(cells, forms, 0, 0, 0, 0, 0);
+    put_form(cells, forms, codes::FORM_TRUE, 0, 0, 0, 0);
     Form::Is(
         Ended {
             forms: forms + 1,
@@ -362,15 +392,26 @@ pub fn read_leaf(
     n: Ended,
     up: usize,
 ) -> Form
-    requires { ⌜ (at ≤ length (now book)) × (45056 ≤ length (now names)) × (16602 ≤ length (now cells)) × (1136 ≤ length (now values)) × (n .forms + up < 112) × (n .paths ≤ 128) × (n .items ≤ 128) × Limits counts × (code < 20) × (childrenOf code ≡ 0) × Indexed (now names) counts (now index) ⌝ }
+    requires { ⌜ (at ≤ length (now book)) × (nameCount ≤ length (now names)) × (cellCount ≤ length (now cells)) × (valueCount ≤ length (now values)) × (n .forms + up < maxForms) × (n .paths ≤ maxPaths) × (n .items ≤ maxItems) × Limits counts × (code < 20) × (childrenOf code ≡ 0) × Indexed (now names) counts (now index) ⌝ }
     ensures { λ r. ⌜ ((a : Book) → Held (now (names .entry)) counts a → (b : Begun) → b .paths ≡ n .paths → b .items ≡ n .items → FormRead (formBody (now (book .entry)) a left code b at) (begunOf n) (now (cells .entry)) (now (cells .exit)) (now (values .entry)) (now (values .exit)) r) ⌝ }
     ensures { λ r. ⌜ Within (n .forms) up (length (now (book .entry))) r ⌝ }
-    ensures { λ _. ⌜ drop 16602 (now (cells .exit)) ≡ drop 16602 (now (cells .entry)) ⌝ }
-    ensures { λ _. ⌜ drop 1136 (now (values .exit)) ≡ drop 1136 (now (values .entry)) ⌝ }
+    ensures { λ _. ⌜ drop cellCount (now (cells .exit)) ≡ drop cellCount (now (cells .entry)) ⌝ }
+    ensures { λ _. ⌜ drop valueCount (now (values .exit)) ≡ drop valueCount (now (values .entry)) ⌝ }
 {
     match code {
-        0 => used_form(cells, names, index, counts, Pool::Nodes, book, at, n, up, 1),
-        1 => used_form(
+        words::FORM_IS => used_form(
+            cells,
+            names,
+            index,
+            counts,
+            Pool::Nodes,
+            book,
+            at,
+            n,
+            up,
+            codes::FORM_IS,
+        ),
+        words::FORM_SHAPE => used_form(
             cells,
             names,
             index,
@@ -380,18 +421,71 @@ pub fn read_leaf(
             at,
             n,
             up,
-            2,
+            codes::FORM_SHAPE,
         ),
-        5 => item_form(cells, book, read_kind(book, at), n, up, 6, 0, true),
-        6 => used_form(cells, names, index, counts, Pool::Types, book, at, n, up, 7),
-        7 => list_form(cells, names, index, counts, Pool::Langs, book, at, n, up, 8),
-        8 => value_form(cells, values, book, at, n, up, 9),
-        9 => value_form(cells, values, book, at, n, up, 10),
-        10 => value_form(cells, values, book, at, n, up, 11),
-        11 => value_form(cells, values, book, at, n, up, 12),
-        14 => end_form(cells, names, index, counts, book, at, left, n, up, 15),
-        15 => end_form(cells, names, index, counts, book, at, left, n, up, 16),
-        16 => list_form(
+        words::FORM_KIND => item_form(
+            cells,
+            book,
+            read_kind(book, at),
+            n,
+            up,
+            codes::FORM_KIND,
+            0,
+            true,
+        ),
+        words::FORM_DATATYPE => used_form(
+            cells,
+            names,
+            index,
+            counts,
+            Pool::Types,
+            book,
+            at,
+            n,
+            up,
+            codes::FORM_DATATYPE,
+        ),
+        words::FORM_LANG => list_form(
+            cells,
+            names,
+            index,
+            counts,
+            Pool::Langs,
+            book,
+            at,
+            n,
+            up,
+            codes::FORM_LANG,
+        ),
+        words::FORM_FROM => value_form(cells, values, book, at, n, up, codes::FORM_FROM),
+        words::FORM_ABOVE => value_form(cells, values, book, at, n, up, codes::FORM_ABOVE),
+        words::FORM_TO => value_form(cells, values, book, at, n, up, codes::FORM_TO),
+        words::FORM_BELOW => value_form(cells, values, book, at, n, up, codes::FORM_BELOW),
+        words::FORM_EQUAL => end_form(
+            cells,
+            names,
+            index,
+            counts,
+            book,
+            at,
+            left,
+            n,
+            up,
+            codes::FORM_EQUAL,
+        ),
+        words::FORM_APART => end_form(
+            cells,
+            names,
+            index,
+            counts,
+            book,
+            at,
+            left,
+            n,
+            up,
+            codes::FORM_APART,
+        ),
+        words::FORM_CLOSED => list_form(
             cells,
             names,
             index,
@@ -401,10 +495,32 @@ pub fn read_leaf(
             at,
             n,
             up,
-            17,
+            codes::FORM_CLOSED,
         ),
-        17 => less_form(cells, names, index, counts, book, at, left, n, up, 18),
-        18 => less_form(cells, names, index, counts, book, at, left, n, up, 19),
+        words::FORM_LESS => less_form(
+            cells,
+            names,
+            index,
+            counts,
+            book,
+            at,
+            left,
+            n,
+            up,
+            codes::FORM_LESS,
+        ),
+        words::FORM_LESSEQ => less_form(
+            cells,
+            names,
+            index,
+            counts,
+            book,
+            at,
+            left,
+            n,
+            up,
+            codes::FORM_LESSEQ,
+        ),
         _ => onelang_form(cells, names, index, counts, book, at, left, n, up),
     }
 }

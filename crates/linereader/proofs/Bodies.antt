@@ -18,8 +18,9 @@ use Rattle.model.specs.Rules.{Rule}
 use Rattle.model.specs.Books.{Name, Line, node, fact, rule, Book, Pool, nodes, links, types, langs, shapes, joins, newNames, newTriples, newShapes, newRules, names, collect, rules}
 use Rattle.model.specs.Sizes.{sumOver}
 use Rattle.model.specs.Valid.{capacity, hasRoom}
+use Rattle.model.specs.Limits.{maxNodes, maxRules, maxFacts, maxName, nameBytes}
 use Rattle.grammar.specs.Valid.{wellNamed}
-use Rattle.tables.specs.Layout.{nodeKinds, nodeTypes, nodeLangs, subjects, predicates, objects, ruleShapes, ruleTargets, ruleOperands}
+use Rattle.tables.specs.Layout.{nodeKinds, nodeTypes, nodeLangs, subjects, predicates, objects, ruleShapes, ruleTargets, ruleOperands, nameCount}
 use Rattle.encoding.specs.Rows.{nodeRow, targetCode, targetOperand}
 use Rattle.grammar.specs.Syntax.{Slot, Arg, Args, new, LineCode, linkL, typeL, langL, thingL, blankL, factL, ruleL, lineFamily}
 use Rattle.grammar.specs.Reading.{Read, got, refused, andThen, Readers, Begun, after, unknown, newAt, argAt, argsAt, closeAt, bodyAt, readersAt, lineRoom, begunAbove}
@@ -114,7 +115,7 @@ value-within len r v next h e = subst (λ (x : Value). Inside len x) e h
 pub record NewName (s : List ℕ) (a : Book) (p : Pool) (at next : ℕ) : Type 0 where
   pub from : at + 1 ≤ next
   pub within : next ≤ length s
-  pub short : next - (at + 1) ≤ 31
+  pub short : next - (at + 1) ≤ maxName
   pub room : length (names p a) < capacity p
 
 new-name : (s : List ℕ) (a : Book) (R : Readers) (b : Begun) (p : Pool) (at : ℕ) (w : Name) (next : ℕ) → argAt s a R (new p) b at ≡ got w next → (w ≡ slice (at + 1) next s) × NewName s a p at next
@@ -150,7 +151,7 @@ module _ (s : List ℕ) (a : Book) (p : Pool) (n : Begun) (at : ℕ) (r : Item) 
   new-facts = new-name s a (readersAt s a 31) n p at (slice (at + 1) next s) next new-got .1
 
 -- its place in the pool
-pub new-place : (p : Pool) (n : ℕ) → n < capacity p → poolBase p + n * 32 + 32 ≤ 45056
+pub new-place : (p : Pool) (n : ℕ) → n < capacity p → poolBase p + n * nameBytes + nameBytes ≤ nameCount
 unfolding poolBase capacity
 new-place nodes n h = omega arith
 new-place links n h = omega arith
@@ -158,11 +159,11 @@ new-place types n h = omega arith
 new-place langs n h = omega arith
 new-place shapes n h = omega arith
 
-pub node-room : (n : ℕ) → n < capacity nodes → n < 1024
+pub node-room : (n : ℕ) → n < capacity nodes → n < maxNodes
 unfolding capacity
 node-room n h = h
 
-pub node-place : (n : ℕ) → n < 1024 → poolBase nodes + n * 32 + 32 ≤ 45056
+pub node-place : (n : ℕ) → n < maxNodes → poolBase nodes + n * nameBytes + nameBytes ≤ nameCount
 unfolding poolBase
 node-place n h = omega arith
 
@@ -308,10 +309,10 @@ rule-cells a k code x r cs e q p = rw (e, q, p)
 
 -- ---- room at the closing bracket
 module _ (s : List ℕ) (a : Book) (n : ℕ) where
-  pub fact-room : n ≡ length (collect newTriples a) → ltb n 4096 ≡ lineRoom s a factL
+  pub fact-room : n ≡ length (collect newTriples a) → ltb n maxFacts ≡ lineRoom s a factL
   unfolding lineRoom
   fact-room e = rw e
 
-  pub rule-room : n ≡ length (rules a) → ltb n 32 ≡ lineRoom s a ruleL
+  pub rule-room : n ≡ length (rules a) → ltb n maxRules ≡ lineRoom s a ruleL
   unfolding lineRoom
   rule-room e = rw e

@@ -11,7 +11,9 @@ use Rattle.model.specs.Books.{Name, Line, link, type, lang, node, shape, Book, 
 use Rattle.model.specs.Shapes.{top}
 use Rattle.model.specs.Rules.{Target}
 use Rattle.model.specs.Sizes.{formEntries, shapePaths, listItems, sumOver}
+use Rattle.model.specs.Limits.{maxRules, maxFacts, maxForms, maxPaths, maxItems}
 use Rattle.tables.specs.Layout.{nameCount, cellCount, valueCount}
+use Rattle.tables.specs.Codes as codes
 use Rattle.encoding.specs.Rows.{nodeRow, targetCode, targetOperand}
 use Rattle.grammar.specs.Syntax.{LineCode, linkL, typeL, langL, thingL, blankL, shapeL, lineFamily}
 use Rattle.grammar.specs.Reading.{Read, got, refused, andThen, closeAt, bodyAt, readersAt, lineRoom, begunAbove}
@@ -49,11 +51,11 @@ counted l c =
 
 -- facts, rules and entries within their limits
 pub record Fits (c : Counts) : Type 0 where
-  pub fact-limit : c .facts ≤ 4096
-  pub rule-limit : c .rules ≤ 32
-  pub form-limit : c .forms ≤ 112
-  pub path-limit : c .paths ≤ 128
-  pub item-limit : c .items ≤ 128
+  pub fact-limit : c .facts ≤ maxFacts
+  pub rule-limit : c .rules ≤ maxRules
+  pub form-limit : c .forms ≤ maxForms
+  pub path-limit : c .paths ≤ maxPaths
+  pub item-limit : c .items ≤ maxItems
 
 -- ---- a line from the end of its word on
 -- the LF after a line
@@ -123,7 +125,7 @@ Row x v t = (x .kind ≡ nodeRow t .kind) × (x .datatype ≡ nodeRow t .type) �
 -- ---- targets
 -- the pool of the name in target number k
 abbrev pub operandPool : ℕ → Pool
-operandPool k = cond (eqb k 1 || eqb k 2) links nodes
+operandPool k = cond (eqb k codes.targetSubjects || eqb k codes.targetObjects) links nodes
 
 abbrev pub targetAnswer : Read Target → TargetAnswer
 targetAnswer (got t next) = TargetAnswer.Is (targetCode t) (targetOperand t) next

@@ -13,7 +13,13 @@ use itemreader::read_type;
 use itemreader::read_used;
 use itemreader::read_value;
 use itemreader::target_head;
+use itemreader::words;
 use model::Counts;
+use model::MAX_DEPTH;
+use model::MAX_FACTS;
+use model::MAX_RULES;
+use model::NAME_BYTES;
+use tables::codes;
 use tables::layout::NODE_KINDS;
 use tables::layout::NODE_LANGS;
 use tables::layout::NODE_TYPES;
@@ -33,15 +39,21 @@ ghost use lib.IntN.{ℤ};
 ghost use lib.ListN.{length};
 ghost use lib.Seq.{slice};
 ghost use Rattle.model.specs.Graph.{Term, Triple};
-ghost use Rattle.model.specs.Books.{Book, Line, node, fact, rule, nodes};
+ghost use Rattle.model.specs.Books.{Book, Line, node, fact, rule};
 ghost use Rattle.model.specs.Rules.{Rule};
+ghost use Rattle.model.specs.Limits.{maxNodes, maxRules, maxFacts, maxName, nameBytes};
+ghost use Rattle.tables.specs.Codes as codes;
 ghost use Rattle.grammar.specs.Syntax.{target, numberL, textL, wordsL, factL, ruleL};
 ghost use Rattle.grammar.specs.Reading.{Begun, argAt, readersAt};
+ghost use Rattle.tables.specs.Layout.{cellCount, valueCount, nameCount};
 ghost use Rattle.encoding.specs.Encode.{poolBase};
 ghost use Rattle.stores.specs.Lines.{putName};
 ghost use Rattle.itemreader.specs.Answers.{poolOf};
 ghost use Rattle.itemreader.specs.Held.{countOf, Limits, Held, Kinds, Indexed};
 ghost use Rattle.linereader.specs.Storing.{named, endedWith, lineEnd, lineBody, Done, Lone, loneCode, resourceCode, Row, Fits, counted, refusalOf, operandPool, targetAnswer, Targeted, put₃};
+
+// How many brackets may be open together within a line's own.
+pub const MAX_WITHIN: usize = MAX_DEPTH - 1;
 
 // The position after a line and the counts with it; or the number of a refusal.
 pub enum LineAnswer {
@@ -107,12 +119,12 @@ pub fn line_end(book: &[u8], at: usize, room: bool, counts: Counts) -> LineAnswe
 
 // Stores the name that ends at end, a space at its start, as the next of its pool.
 pub fn put_new(names: &mut [u8], counts: Counts, pool: Pool, book: &[u8], at: usize, end: usize)
-    requires { ⌜ (at + 1 ≤ end) × (end ≤ length (now book)) × (end - (at + 1) ≤ 31) × (poolBase (poolOf pool) + countOf counts (poolOf pool) * 32 + 32 ≤ 45056) × (45056 ≤ length (now names)) × Limits counts ⌝ }
+    requires { ⌜ (at + 1 ≤ end) × (end ≤ length (now book)) × (end - (at + 1) ≤ maxName) × (poolBase (poolOf pool) + countOf counts (poolOf pool) * nameBytes + nameBytes ≤ nameCount) × (nameCount ≤ length (now names)) × Limits counts ⌝ }
     ensures { λ _. ⌜ now (names .exit) ≡ putName (poolOf pool) (countOf counts (poolOf pool)) (slice (at + 1) end (now (book .entry))) (now (names .entry)) ⌝ }
 {
     put_name(
         names,
-        base(pool) + count(counts, pool) * 32,
+        base(pool) + count(counts, pool) * NAME_BYTES,
         book,
         at + 1,
         end,
@@ -138,7 +150,7 @@ pub fn name_line(
     book: &[u8],
     at: usize,
 ) -> LineAnswer
-    requires { ⌜ (at ≤ length (now book)) × (45056 ≤ length (now names)) × Limits counts × ((a : Book) × Held (now names) counts a) × Lone (poolOf pool) × Indexed (now names) counts (now index) ⌝ }
+    requires { ⌜ (at ≤ length (now book)) × (nameCount ≤ length (now names)) × Limits counts × ((a : Book) × Held (now names) counts a) × Lone (poolOf pool) × Indexed (now names) counts (now index) ⌝ }
     ensures { λ r. ⌜ ((a : Book) (cs : List ℕ) (vs : List ℤ) → Held (now (names .entry)) counts a → Done a counts (lineBody (now (book .entry)) a (loneCode (poolOf pool)) at) r (now (names .entry)) (now (names .exit)) cs cs vs vs) ⌝ }
 {
     let new = read_new(names, index, counts, pool, book, at);
@@ -155,7 +167,7 @@ pub fn name_line(
 
 // The counts with one fact more, and with one rule more.
 fn with_fact(mut counts: Counts) -> Counts
-    requires { ⌜ counts .facts ≤ 4096 ⌝ }
+    requires { ⌜ counts .facts ≤ maxFacts ⌝ }
     ensures { λ r. ⌜ ((t : Triple) → r ≡ counted (fact t) counts) ⌝ }
 {
     counts.facts += 1;
@@ -163,7 +175,7 @@ fn with_fact(mut counts: Counts) -> Counts
 }
 
 fn with_rule(mut counts: Counts) -> Counts
-    requires { ⌜ counts .rules ≤ 32 ⌝ }
+    requires { ⌜ counts .rules ≤ maxRules ⌝ }
     ensures { λ r. ⌜ ((x : Rule) → r ≡ counted (rule x) counts) ⌝ }
 {
     counts.rules += 1;
@@ -183,7 +195,7 @@ fn node_end(
     value: i64,
     last: usize,
 ) -> LineAnswer
-    requires { ⌜ (at + 1 ≤ end) × (end ≤ length (now book)) × (end - (at + 1) ≤ 31) × (last ≤ length (now book)) × (counts .nodes < 1024) × (45056 ≤ length (now names)) × (16602 ≤ length (now cells)) × (1136 ≤ length (now values)) × Limits counts ⌝ }
+    requires { ⌜ (at + 1 ≤ end) × (end ≤ length (now book)) × (end - (at + 1) ≤ maxName) × (last ≤ length (now book)) × (counts .nodes < maxNodes) × (nameCount ≤ length (now names)) × (cellCount ≤ length (now cells)) × (valueCount ≤ length (now values)) × Limits counts ⌝ }
     ensures { λ r. ⌜ ((a : Book) (t : Term) → Held (now (names .entry)) counts a → Row x value t → Done a counts (lineEnd (now (book .entry)) a true (node (slice (at + 1) end (now (book .entry))) t) last) r (now (names .entry)) (now (names .exit)) (now (cells .entry)) (now (cells .exit)) (now (values .entry)) (now (values .exit))) ⌝ }
 {
     let done = line_end(book, last, true, with_name(counts, Pool::Nodes));
@@ -205,7 +217,7 @@ fn node_end(
     done
 }
 
-// `(thing N)` for kind 0, `(blank N)` for kind 1.
+// `(thing N)` or `(blank N)`, by the kind.
 pub fn resource_line(
     names: &mut [u8],
     cells: &mut [u16],
@@ -216,7 +228,7 @@ pub fn resource_line(
     book: &[u8],
     at: usize,
 ) -> LineAnswer
-    requires { ⌜ (at ≤ length (now book)) × (kind ≤ 1) × (45056 ≤ length (now names)) × (16602 ≤ length (now cells)) × (1136 ≤ length (now values)) × Limits counts × ((a : Book) × Held (now names) counts a) × Indexed (now names) counts (now index) ⌝ }
+    requires { ⌜ (at ≤ length (now book)) × (kind ≤ codes.nodeBlank) × (nameCount ≤ length (now names)) × (cellCount ≤ length (now cells)) × (valueCount ≤ length (now values)) × Limits counts × ((a : Book) × Held (now names) counts a) × Indexed (now names) counts (now index) ⌝ }
     ensures { λ r. ⌜ ((a : Book) → Held (now (names .entry)) counts a → Done a counts (lineBody (now (book .entry)) a (resourceCode kind) at) r (now (names .entry)) (now (names .exit)) (now (cells .entry)) (now (cells .exit)) (now (values .entry)) (now (values .exit))) ⌝ }
 {
     let new = read_new(names, index, counts, Pool::Nodes, book, at);
@@ -241,7 +253,7 @@ pub fn number_line(
     book: &[u8],
     at: usize,
 ) -> LineAnswer
-    requires { ⌜ (at ≤ length (now book)) × (45056 ≤ length (now names)) × (16602 ≤ length (now cells)) × (1136 ≤ length (now values)) × Limits counts × ((a : Book) × Held (now names) counts a) × Indexed (now names) counts (now index) ⌝ }
+    requires { ⌜ (at ≤ length (now book)) × (nameCount ≤ length (now names)) × (cellCount ≤ length (now cells)) × (valueCount ≤ length (now values)) × Limits counts × ((a : Book) × Held (now names) counts a) × Indexed (now names) counts (now index) ⌝ }
     ensures { λ r. ⌜ ((a : Book) → Held (now (names .entry)) counts a → Done a counts (lineBody (now (book .entry)) a numberL at) r (now (names .entry)) (now (names .exit)) (now (cells .entry)) (now (cells .exit)) (now (values .entry)) (now (values .exit))) ⌝ }
 {
     let new = read_new(names, index, counts, Pool::Nodes, book, at);
@@ -256,7 +268,7 @@ pub fn number_line(
         Value::No(k) => LineAnswer::No(k),
         Value::Is(value, last) => {
             let x = Node {
-                kind: 2,
+                kind: codes::NODE_NUMBER,
                 datatype: t as u16,
                 lang: 0,
             };
@@ -275,7 +287,7 @@ pub fn text_line(
     book: &[u8],
     at: usize,
 ) -> LineAnswer
-    requires { ⌜ (at ≤ length (now book)) × (45056 ≤ length (now names)) × (16602 ≤ length (now cells)) × (1136 ≤ length (now values)) × Limits counts × ((a : Book) × Held (now names) counts a) × Indexed (now names) counts (now index) ⌝ }
+    requires { ⌜ (at ≤ length (now book)) × (nameCount ≤ length (now names)) × (cellCount ≤ length (now cells)) × (valueCount ≤ length (now values)) × Limits counts × ((a : Book) × Held (now names) counts a) × Indexed (now names) counts (now index) ⌝ }
     ensures { λ r. ⌜ ((a : Book) → Held (now (names .entry)) counts a → Done a counts (lineBody (now (book .entry)) a textL at) r (now (names .entry)) (now (names .exit)) (now (cells .entry)) (now (cells .exit)) (now (values .entry)) (now (values .exit))) ⌝ }
 {
     let new = read_new(names, index, counts, Pool::Nodes, book, at);
@@ -287,7 +299,7 @@ pub fn text_line(
         return LineAnswer::No(refusal(datatype));
     };
     let x = Node {
-        kind: 3,
+        kind: codes::NODE_TEXT,
         datatype: t as u16,
         lang: 0,
     };
@@ -304,7 +316,7 @@ pub fn words_line(
     book: &[u8],
     at: usize,
 ) -> LineAnswer
-    requires { ⌜ (at ≤ length (now book)) × (45056 ≤ length (now names)) × (16602 ≤ length (now cells)) × (1136 ≤ length (now values)) × Limits counts × ((a : Book) × Held (now names) counts a) × Indexed (now names) counts (now index) ⌝ }
+    requires { ⌜ (at ≤ length (now book)) × (nameCount ≤ length (now names)) × (cellCount ≤ length (now cells)) × (valueCount ≤ length (now values)) × Limits counts × ((a : Book) × Held (now names) counts a) × Indexed (now names) counts (now index) ⌝ }
     ensures { λ r. ⌜ ((a : Book) → Held (now (names .entry)) counts a → Done a counts (lineBody (now (book .entry)) a wordsL at) r (now (names .entry)) (now (names .exit)) (now (cells .entry)) (now (cells .exit)) (now (values .entry)) (now (values .exit))) ⌝ }
 {
     let new = read_new(names, index, counts, Pool::Nodes, book, at);
@@ -316,7 +328,7 @@ pub fn words_line(
         return LineAnswer::No(refusal(lang));
     };
     let x = Node {
-        kind: 4,
+        kind: codes::NODE_WORDS,
         datatype: 0,
         lang: l as u16,
     };
@@ -332,7 +344,7 @@ pub fn fact_line(
     book: &[u8],
     at: usize,
 ) -> LineAnswer
-    requires { ⌜ (at ≤ length (now book)) × (45056 ≤ length (now names)) × (16602 ≤ length (now cells)) × Limits counts × Fits counts × Indexed (now names) counts (now index) ⌝ }
+    requires { ⌜ (at ≤ length (now book)) × (nameCount ≤ length (now names)) × (cellCount ≤ length (now cells)) × Limits counts × Fits counts × Indexed (now names) counts (now index) ⌝ }
     ensures { λ r. ⌜ ((a : Book) (vs : List ℤ) → Held (now (names .entry)) counts a → Kinds (now (cells .entry)) a → Done a counts (lineBody (now (book .entry)) a factL at) r (now (names .entry)) (now (names .entry)) (now (cells .entry)) (now (cells .exit)) vs vs) ⌝ }
 {
     let subject = read_subject(names, index, cells, counts, book, at);
@@ -348,7 +360,7 @@ pub fn fact_line(
         return LineAnswer::No(refusal(object));
     };
     let n = counts.facts;
-    let done = line_end(book, k, n < 4096, with_fact(counts));
+    let done = line_end(book, k, n < MAX_FACTS, with_fact(counts));
     let LineAnswer::Next(_, _) = done else {
         return done;
     };
@@ -368,7 +380,7 @@ pub fn fact_line(
 fn operand_pool(k: usize) -> Pool
     ensures { λ r. ⌜ poolOf r ≡ operandPool k ⌝ }
 {
-    if (k == 1) | (k == 2) {
+    if (k == words::TARGET_SUBJECTS) | (k == words::TARGET_OBJECTS) {
         Pool::Links
     } else {
         Pool::Nodes
@@ -377,14 +389,14 @@ fn operand_pool(k: usize) -> Pool
 
 // TARGET, a space before it.
 fn read_target(names: &[u8], index: &[u16], counts: Counts, book: &[u8], at: usize) -> TargetAnswer
-    requires { ⌜ (at ≤ length (now book)) × (45056 ≤ length (now names)) × Limits counts × Indexed (now names) counts (now index) ⌝ }
+    requires { ⌜ (at ≤ length (now book)) × (nameCount ≤ length (now names)) × Limits counts × Indexed (now names) counts (now index) ⌝ }
     ensures { λ r. ⌜ ((a : Book) (b : Begun) → Held (now (names .entry)) counts a → r ≡ targetAnswer (argAt (now (book .entry)) a (readersAt (now (book .entry)) a 31) target b at)) ⌝ }
-    ensures { λ r. ⌜ Targeted 1024 (length (now (book .entry))) r ⌝ }
+    ensures { λ r. ⌜ Targeted maxNodes (length (now (book .entry))) r ⌝ }
 {
     if byte(book, at) != 32 {
         return TargetAnswer::No(2);
     }
-    match target_head(book, at + 1, 31, false) {
+    match target_head(book, at + 1, MAX_WITHIN, false) {
         Head::Bare => TargetAnswer::No(2),
         Head::No(k) => TargetAnswer::No(k),
         Head::Word(k, end) => {
@@ -409,7 +421,7 @@ pub fn rule_line(
     book: &[u8],
     at: usize,
 ) -> LineAnswer
-    requires { ⌜ (at ≤ length (now book)) × (45056 ≤ length (now names)) × (16602 ≤ length (now cells)) × Limits counts × Fits counts × Indexed (now names) counts (now index) ⌝ }
+    requires { ⌜ (at ≤ length (now book)) × (nameCount ≤ length (now names)) × (cellCount ≤ length (now cells)) × Limits counts × Fits counts × Indexed (now names) counts (now index) ⌝ }
     ensures { λ r. ⌜ ((a : Book) (vs : List ℤ) → Held (now (names .entry)) counts a → Done a counts (lineBody (now (book .entry)) a ruleL at) r (now (names .entry)) (now (names .entry)) (now (cells .entry)) (now (cells .exit)) vs vs) ⌝ }
 {
     let shape = read_used(names, index, counts, Pool::Shapes, book, at);
@@ -420,7 +432,7 @@ pub fn rule_line(
         TargetAnswer::No(k) => LineAnswer::No(k),
         TargetAnswer::Is(code, x, last) => {
             let n = counts.rules;
-            let done = line_end(book, last, n < 32, with_rule(counts));
+            let done = line_end(book, last, n < MAX_RULES, with_rule(counts));
             let LineAnswer::Next(_, _) = done else {
                 return done;
             };

@@ -7,7 +7,8 @@ use native.Mathlib.Nat.{eq-or-lt-of-le, le-of-suc-le-suc}
 use native.Mathlib.Omega.{arith}
 use lib.ListN.{length, take, drop, set, getD, length-set, take-append-drop}
 use lib.Seq.{take-append-le, drop-append-le, take-append-seam, drop-at, length-take-le, getD-set-same, getD-set-other}
-use Rattle.lists.specs.Rows.{over, withRow, withRows, withLengths, rowIn}
+use Rattle.lists.specs.Rows.{over, withRow, withRows, withLengths, rowIn, row}
+use Rattle.model.specs.Limits.{maxNodes}
 use Rattle.lists.proofs.Rows.{length-row}
 
 -- a part that lies within the first of two lists
@@ -17,22 +18,22 @@ within-front xs ys i k room =
     ∙ take-append-le k (drop i xs) ys (omega (arith, room, lib.ListN.length-drop i xs))
 
 -- row r with a list in front; a row before it keeps what it has
-row-here : (r : ℕ) (xs ls : List ℕ) → 1024 * r ≤ length ls → take (length xs) (drop (1024 * r) (withRow r xs ls)) ≡ xs
+row-here : (r : ℕ) (xs ls : List ℕ) → maxNodes * r ≤ length ls → take (length xs) (drop (maxNodes * r) (withRow r xs ls)) ≡ xs
 unfolding withRow over
 row-here r xs ls room =
-    ap (take (length xs)) (drop-at (take (1024 * r) ls) (xs ++ drop (length xs) (drop (1024 * r) ls)) (1024 * r) (length-take-le (1024 * r) ls room))
-    ∙ take-append-seam xs (drop (length xs) (drop (1024 * r) ls))
+    ap (take (length xs)) (drop-at (take (maxNodes * r) ls) (xs ++ drop (length xs) (drop (maxNodes * r) ls)) (maxNodes * r) (length-take-le (maxNodes * r) ls room))
+    ∙ take-append-seam xs (drop (length xs) (drop (maxNodes * r) ls))
 
-row-before : (m r k : ℕ) (xs ls : List ℕ) → r < m → k ≤ 1024 → 1024 * m ≤ length ls → take k (drop (1024 * r) (withRow m xs ls)) ≡ take k (drop (1024 * r) ls)
+row-before : (m r k : ℕ) (xs ls : List ℕ) → r < m → k ≤ maxNodes → maxNodes * m ≤ length ls → take k (drop (maxNodes * r) (withRow m xs ls)) ≡ take k (drop (maxNodes * r) ls)
 unfolding withRow
 row-before m r k xs ls low small room =
-    let front : List ℕ = take (1024 * m) ls in
-    let fits : 1024 * r + k ≤ length front = omega (arith, low, small, length-take-le (1024 * m) ls room) in
-    within-front front (over xs (drop (1024 * m) ls)) (1024 * r) k fits
-    ∙ (sym (within-front front (drop (1024 * m) ls) (1024 * r) k fits) ∙ ap (λ l. take k (drop (1024 * r) l)) (take-append-drop (1024 * m) ls))
+    let front : List ℕ = take (maxNodes * m) ls in
+    let fits : maxNodes * r + k ≤ length front = omega (arith, low, small, length-take-le (maxNodes * m) ls room) in
+    within-front front (over xs (drop (maxNodes * m) ls)) (maxNodes * r) k fits
+    ∙ (sym (within-front front (drop (maxNodes * m) ls) (maxNodes * r) k fits) ∙ ap (λ l. take k (drop (maxNodes * r) l)) (take-append-drop (maxNodes * m) ls))
 
-module _ (list : ℕ → List ℕ) (short : (r : ℕ) → length (list r) ≤ 1024) where
-  pub length-rows : (n : ℕ) (ls : List ℕ) → 1024 * n ≤ length ls → length (withRows list n ls) ≡ length ls
+module _ (list : ℕ → List ℕ) (short : (r : ℕ) → length (list r) ≤ maxNodes) where
+  pub length-rows : (n : ℕ) (ls : List ℕ) → maxNodes * n ≤ length ls → length (withRows list n ls) ≡ length ls
   unfolding withRows
   length-rows zero ls room = refl
   length-rows (suc n) ls room =
@@ -54,18 +55,18 @@ module _ (list : ℕ → List ℕ) (short : (r : ℕ) → length (list r) ≤ 10
       (λ l. getD-set-other before n r (length (list n)) 0 (λ e. omega (arith, e, l)) ∙ length-read n ks (omega (arith, room)) r l)
       (eq-or-lt-of-le (le-of-suc-le-suc low))
 
-  pub nodes-read : (n : ℕ) (ls : List ℕ) → 1024 * n ≤ length ls → (r : ℕ) → r < n → take (length (list r)) (drop (1024 * r) (withRows list n ls)) ≡ list r
+  pub nodes-read : (n : ℕ) (ls : List ℕ) → maxNodes * n ≤ length ls → (r : ℕ) → r < n → take (length (list r)) (drop (maxNodes * r) (withRows list n ls)) ≡ list r
   unfolding withRows
   nodes-read zero ls room r low = absurd (omega (arith, low))
   nodes-read (suc n) ls room r low =
       let before : List ℕ = withRows list n ls in
-      let fits : 1024 * n ≤ length before = omega (arith, room, length-rows n ls (omega (arith, room))) in
+      let fits : maxNodes * n ≤ length before = omega (arith, room, length-rows n ls (omega (arith, room))) in
       ⊎-elim
-      (λ e. subst (λ i. take (length (list i)) (drop (1024 * i) (withRow n (list n) before)) ≡ list i) (sym e) (row-here n (list n) before fits))
+      (λ e. subst (λ i. take (length (list i)) (drop (maxNodes * i) (withRow n (list n) before)) ≡ list i) (sym e) (row-here n (list n) before fits))
       (λ l. row-before n r (length (list r)) (list n) before l (short r) fits ∙ nodes-read n ls (omega (arith, room)) r l)
       (eq-or-lt-of-le (le-of-suc-le-suc low))
 
   -- the row, up to its length
-  pub row-read : (n : ℕ) (ls ks : List ℕ) → 1024 * n ≤ length ls → n ≤ length ks → (r : ℕ) → r < n → rowIn (withRows list n ls) (withLengths list n ks) r ≡ list r
+  pub row-read : (n : ℕ) (ls ks : List ℕ) → maxNodes * n ≤ length ls → n ≤ length ks → (r : ℕ) → r < n → rowIn (withRows list n ls) (withLengths list n ks) r ≡ list r
   unfolding rowIn
-  row-read n ls ks room more r low = ap (λ k. take k (drop (1024 * r) (withRows list n ls))) (length-read n ks more r low) ∙ nodes-read n ls room r low
+  row-read n ls ks room more r low = ap (λ k. take k (drop (maxNodes * r) (withRows list n ls))) (length-read n ks more r low) ∙ nodes-read n ls room r low

@@ -14,6 +14,7 @@ use Rattle.base.proofs.Bounded.{size-members, size-le}
 use Rattle.nodeset.specs.Words.{has}
 use Rattle.nodeset.specs.Members.{nextFrom}
 use Rattle.nodeset.proofs.Members.{Next, next-found}
+use Rattle.model.specs.Limits.{maxNodes, maxRules}
 use Rattle.tables.specs.Layout.{nodeCount, ruleCount}
 use Rattle.tables.specs.WellFormed.{wellFormed}
 use Rattle.tables.proofs.WellFormed as tables
@@ -21,6 +22,7 @@ use Rattle.plan.specs.Layout.{ruleStepAt}
 use Rattle.plan.specs.WellFormed.{planWellFormed}
 use Rattle.plancheck.proofs.WellFormed as plans
 use Rattle.lists.specs.Rows.{over, listIn, withRow, withRows, withLengths}
+use Rattle.runner.specs.Run.{workCount}
 
 -- ---- a list over what was there
 pub over-none : (old : List ℕ) → old ≡ over [] old
@@ -108,19 +110,19 @@ rule-listed cs ps ws r step n e f = ap (λ w. members (has w) n) (take-all (leng
 
 -- ---- the rows of all lists
 -- the part that is lent from a row's first place on comes back with a list in front
-pub row-tail : (ls xs : List ℕ) {ys : List ℕ} (r n : ℕ) → n ≡ length ls - 1024 * r → ys ≡ over xs (take n (drop (1024 * r) ls)) → putMid (1024 * r) n ls ys ≡ withRow r xs ls
+pub row-tail : (ls xs : List ℕ) {ys : List ℕ} (r n : ℕ) → n ≡ length ls - maxNodes * r → ys ≡ over xs (take n (drop (maxNodes * r) ls)) → putMid (maxNodes * r) n ls ys ≡ withRow r xs ls
 unfolding withRow
 row-tail ls xs r n e q =
-    let t : List ℕ = drop (1024 * r) ls in
-    let len : length t ≡ n = length-drop (1024 * r) ls ∙ sym e in
-    ap₂ (λ (x y : List ℕ). take (1024 * r) ls ++ (x ++ y)) (q ∙ ap (over xs) (take-all n t (le-of-eq len))) (drop-of-length-le t (le-of-eq len))
-    ∙ ap (λ (x : List ℕ). take (1024 * r) ls ++ x) (append-nil (over xs t))
+    let t : List ℕ = drop (maxNodes * r) ls in
+    let len : length t ≡ n = length-drop (maxNodes * r) ls ∙ sym e in
+    ap₂ (λ (x y : List ℕ). take (maxNodes * r) ls ++ (x ++ y)) (q ∙ ap (over xs) (take-all n t (le-of-eq len))) (drop-of-length-le t (le-of-eq len))
+    ∙ ap (λ (x : List ℕ). take (maxNodes * r) ls ++ x) (append-nil (over xs t))
 
-pub length-row : (r : ℕ) (xs ls : List ℕ) → 1024 * r + length xs ≤ length ls → length (withRow r xs ls) ≡ length ls
+pub length-row : (r : ℕ) (xs ls : List ℕ) → maxNodes * r + length xs ≤ length ls → length (withRow r xs ls) ≡ length ls
 unfolding withRow over
 length-row r xs ls room =
-    let t : List ℕ = drop (1024 * r) ls in
-    omega (arith, room, length-append (take (1024 * r) ls) (xs ++ drop (length xs) t), length-append xs (drop (length xs) t), length-take (1024 * r) ls, length-drop (length xs) t, length-drop (1024 * r) ls)
+    let t : List ℕ = drop (maxNodes * r) ls in
+    omega (arith, room, length-append (take (maxNodes * r) ls) (xs ++ drop (length xs) t), length-append xs (drop (length xs) t), length-take (maxNodes * r) ls, length-drop (length xs) t, length-drop (maxNodes * r) ls)
 
 module _ (list : ℕ → List ℕ) (lists₀ lengths₀ : List ℕ) where
   -- the lists of the rules below r stand in their rows
@@ -134,7 +136,7 @@ module _ (list : ℕ → List ℕ) (lists₀ lengths₀ : List ℕ) where
   unfolding withRows withLengths
   listed-none = record { rows = refl; sizes = refl; lists-kept = refl; lengths-kept = refl }
 
-  pub listed-more : (r : ℕ) (lists lengths : List ℕ) → Listed r lists lengths → (next : List ℕ) (n : ℕ) → next ≡ withRow r (list r) lists → 1024 * r + length (list r) ≤ length lists → n ≡ length (list r) → Listed (r + 1) next (set lengths r n)
+  pub listed-more : (r : ℕ) (lists lengths : List ℕ) → Listed r lists lengths → (next : List ℕ) (n : ℕ) → next ≡ withRow r (list r) lists → maxNodes * r + length (list r) ≤ length lists → n ≡ length (list r) → Listed (r + 1) next (set lengths r n)
   unfolding withRows withLengths
   listed-more r lists lengths l next n e k f =
       record {
@@ -146,11 +148,11 @@ module _ (list : ℕ → List ℕ) (lists₀ lengths₀ : List ℕ) where
 
 -- ---- what well-formed tables and a well-formed plan give
 module _ (cs ps : List ℕ) (e : wellFormed cs ≡ true) (f : planWellFormed cs ps ≡ true) where
-  pub few-nodes : nodeCount cs ≤ 1024
+  pub few-nodes : nodeCount cs ≤ maxNodes
   few-nodes = tables.sound cs e .nodes
 
-  pub few-rules : ruleCount cs ≤ 32
+  pub few-rules : ruleCount cs ≤ maxRules
   few-rules = tables.sound cs e .rules
 
-  pub step-in : (r : ℕ) → r < ruleCount cs → 16 * ruleStepAt ps r ≤ 8192
+  pub step-in : (r : ℕ) → r < ruleCount cs → 16 * ruleStepAt ps r ≤ workCount
   step-in r low = let p = plans.sound cs ps f in omega (arith, p .rule r low, p .steps)

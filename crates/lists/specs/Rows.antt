@@ -4,6 +4,7 @@ use mathlib.Core.List.{List, _++_}
 use lib.ListN.{length, take, drop, set, getD}
 use Rattle.base.specs.Bounded.{members}
 use Rattle.nodeset.specs.Words.{has}
+use Rattle.model.specs.Limits.{maxNodes, maxRules}
 use Rattle.tables.specs.Layout.{nodeCount}
 use Rattle.plan.specs.Layout.{ruleStepAt}
 
@@ -16,16 +17,16 @@ listIn cs ps ws r = members (has (drop (16 * ruleStepAt ps r) ws)) (nodeCount cs
 unfoldable pub over : List ℕ → List ℕ → List ℕ
 over xs old = xs ++ drop (length xs) old
 
--- ---- all lists: a row of 1,024 places for each of 32 rules, and a length for each
+-- ---- all lists: a row with a place for each node for each of the rules, and a length for each
 abbrev pub listCount : ℕ
-listCount = 32768
+listCount = maxNodes * maxRules
 
 abbrev pub lengthCount : ℕ
-lengthCount = 32
+lengthCount = maxRules
 
 -- xs at the front of row r
 unfoldable pub withRow : ℕ → List ℕ → List ℕ → List ℕ
-withRow r xs ls = take (1024 * r) ls ++ over xs (drop (1024 * r) ls)
+withRow r xs ls = take (maxNodes * r) ls ++ over xs (drop (maxNodes * r) ls)
 
 -- the lists of the rules below n, each at the front of its row; every other place is as it was
 unfoldable pub withRows : (ℕ → List ℕ) → ℕ → List ℕ → List ℕ
@@ -38,4 +39,4 @@ withLengths list (suc r) ls = set (withLengths list r ls) r (length (list r))
 
 -- the list of rule r: its row, up to its length
 unfoldable pub rowIn : (lists lengths : List ℕ) → ℕ → List ℕ
-rowIn lists lengths r = take (getD lengths r 0) (drop (1024 * r) lists)
+rowIn lists lengths r = take (getD lengths r 0) (drop (maxNodes * r) lists)

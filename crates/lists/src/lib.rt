@@ -1,6 +1,7 @@
 // The lists of the rules, read off the work space.
 // Operations: list, one rule's list. For the crates above: list_rows, all lists, on tables and a plan that these have checked.
 use model::MAX_NODES;
+use model::MAX_RULES;
 use model::Refusal;
 use nodeset::next_member;
 use plan::PLAN_CELLS;
@@ -17,6 +18,7 @@ ghost use Prim.Native.Nat.{_+_, _*_, _<_, _≤_};
 ghost use lib.ListN.{length};
 ghost use Rattle.base.specs.Bounded.{members};
 ghost use Rattle.nodeset.specs.Words.{has};
+ghost use Rattle.model.specs.Limits.{maxNodes};
 ghost use Rattle.tables.specs.Layout.{nodeCount, ruleCount};
 ghost use Rattle.tables.specs.WellFormed.{wellFormed};
 ghost use Rattle.plan.specs.Layout.{ruleStepAt};
@@ -25,10 +27,10 @@ ghost use Rattle.runner.specs.Run.{workCount};
 ghost use Rattle.lists.specs.Rows.{listCount, lengthCount, over, listIn, withRows, withLengths};
 ghost use Rattle.lists.specs.Answers.{answerOf, listLong, listAnswer, rowAfter};
 
-// How long the lists and their lengths must be: a row of 1,024 places and a length for each of 32 rules.
-pub const LIST_PLACES: usize = 32768;
+// How long the lists and their lengths must be: for each rule a row with a place for each node, and a length.
+pub const LIST_PLACES: usize = MAX_NODES * MAX_RULES;
 
-pub const LENGTH_PLACES: usize = 32;
+pub const LENGTH_PLACES: usize = MAX_RULES;
 
 // How many nodes a list has; or why there is none.
 pub enum Listed {
@@ -38,7 +40,7 @@ pub enum Listed {
 
 // The members of a set below n, lowest first, at the front of a row.
 fn list_set(row: &mut [u16], words: &[u64], n: usize) -> usize
-    requires { ⌜ (n ≤ 1024) × (n ≤ length (now row)) ⌝ }
+    requires { ⌜ (n ≤ maxNodes) × (n ≤ length (now row)) ⌝ }
     ensures { λ r. ⌜ r ≡ length (members (has (now (words .entry))) n) ⌝ }
     ensures { λ _. ⌜ now (row .exit) ≡ over (members (has (now (words .entry))) n) (now (row .entry)) ⌝ }
 {
@@ -54,16 +56,16 @@ fn list_set(row: &mut [u16], words: &[u64], n: usize) -> usize
 
 // The list of rule r, at the front of a row.
 fn list_rule(row: &mut [u16], cells: &[u16], plan: &[u16], work: &[u64], r: usize) -> usize
-    requires { ⌜ (nodeCount (now cells) ≤ 1024) × (1024 ≤ length (now row)) × (16 * ruleStepAt (now plan) r ≤ length (now work)) ⌝ }
+    requires { ⌜ (nodeCount (now cells) ≤ maxNodes) × (maxNodes ≤ length (now row)) × (16 * ruleStepAt (now plan) r ≤ length (now work)) ⌝ }
     ensures { λ n. ⌜ n ≡ length (listIn (now (cells .entry)) (now (plan .entry)) (now (work .entry)) r) ⌝ }
     ensures { λ _. ⌜ now (row .exit) ≡ over (listIn (now (cells .entry)) (now (plan .entry)) (now (work .entry)) r) (now (row .entry)) ⌝ }
-    ensures { λ n. ⌜ n ≤ 1024 ⌝ }
+    ensures { λ n. ⌜ n ≤ maxNodes ⌝ }
 {
     let at = 16 * rule_step(plan, r);
     list_set(row, &work[at..], node_count(cells))
 }
 
-// The lists of all rules, each at the front of its row of 1,024 places, and their lengths.
+// The lists of all rules, each at the front of its row, and their lengths.
 pub fn list_rows(lists: &mut [u16], lengths: &mut [u16], cells: &[u16], plan: &[u16], work: &[u64])
     requires { ⌜ (wellFormed (now cells) ≡ true) × (planWellFormed (now cells) (now plan) ≡ true) × (workCount ≤ length (now work)) × (listCount ≤ length (now lists)) × (lengthCount ≤ length (now lengths)) ⌝ }
     ensures { λ _. ⌜ now (lists .exit) ≡ withRows (listIn (now (cells .entry)) (now (plan .entry)) (now (work .entry))) (ruleCount (now (cells .entry))) (now (lists .entry)) ⌝ }

@@ -46,5 +46,9 @@ maxDepth = 32
 abbrev pub maxName : ℕ
 maxName = 31
 
+-- bytes in which a name is stored: the name, then zeros
+abbrev pub nameBytes : ℕ
+nameBytes = 32
+
 abbrev pub maxSteps : ℕ
 maxSteps = 512

@@ -32,6 +32,9 @@ pub const MAX_DEPTH: usize = 32;
 
 pub const MAX_NAME: usize = 31;
 
+// A name is stored in so many bytes: the name, then zeros.
+pub const NAME_BYTES: usize = 32;
+
 pub const MAX_STEPS: usize = 512;
 
 // The number of a node in its pool. Never the number of a link: source 000 keeps properties apart from nodes.

@@ -16,8 +16,10 @@ use Rattle.text.proofs.Parts.{inside}
 use Rattle.model.specs.Paths.{Path, predicate, inverse, sequence, alternative, End, self, along}
 use Rattle.model.specs.Books.{Book, links}
 use Rattle.model.specs.Sizes.{pathEntries, endEntries}
+use Rattle.model.specs.Limits.{maxPaths}
 use Rattle.grammar.specs.Syntax.{used, path, end, pathFamily}
 use Rattle.grammar.specs.Reading.{Read, got, refused, andThen, Readers, Begun, pathBegun, after, spaceAt, argAt, endAt, usedAt, closeAt, bodyAt, linkAt, noReaders, within, readersAt}
+use Rattle.tables.specs.Layout.{cellCount, pathCodes, pathFirsts, pathSeconds}
 use Rattle.stores.specs.Entries.{putPath, pathCells, endCells}
 use Rattle.itemreader.specs.declared.Item.{Item}
 use Rattle.itemreader.specs.declared.Head.{Head}
@@ -83,26 +85,26 @@ module _ (s : List ℕ) (a : Book) (b : Begun) (at m : ℕ) (q : b .paths ≡ m)
 
   module _ (z : getD s at 0 ≡ 32) (h : Head) where
     -- the same head, by the entries begun and by whether a bracket may be opened
-    is-head : (left : ℕ) (deep : Bool) → eqb left 0 ≡ deep → h ≡ headAt s (wordsOf pathFamily) (eqb left 0) (leb 128 m) (at + 1) → (x : Head) → h ≡ x → headAt s (wordsOf pathFamily) deep (leb 128 (b .paths)) (at + 1) ≡ x
+    is-head : (left : ℕ) (deep : Bool) → eqb left 0 ≡ deep → h ≡ headAt s (wordsOf pathFamily) (eqb left 0) (leb maxPaths m) (at + 1) → (x : Head) → h ≡ x → headAt s (wordsOf pathFamily) deep (leb maxPaths (b .paths)) (at + 1) ≡ x
     is-head left deep d e x f = rw (q, ← d) (sym e ∙ f)
 
     some-left : (left : ℕ) → eqb (suc left) 0 ≡ false
     some-left left = ne-eqb (suc left) 0 (λ e. omega arith)
 
-    pub path-bare : (left : ℕ) → h ≡ headAt s (wordsOf pathFamily) (eqb left 0) (leb 128 m) (at + 1) → h ≡ Head.Bare → argAt s a (readersAt s a left) path b at ≡ spaceAt s a at (linkAt s a (leb 128 m))
+    pub path-bare : (left : ℕ) → h ≡ headAt s (wordsOf pathFamily) (eqb left 0) (leb maxPaths m) (at + 1) → h ≡ Head.Bare → argAt s a (readersAt s a left) path b at ≡ spaceAt s a at (linkAt s a (leb maxPaths m))
     unfolding argAt readersAt within
-    path-bare zero e f = rw (eq-eqb (getD s at 0) 32 z) (bracket-bare s a pathFamily _ true (leb 128 (b .paths)) (λ c. true) (linkAt s a (leb 128 (b .paths)) (at + 1)) (pathBegun b) (at + 1) (is-head zero true refl e Head.Bare f) ∙ ap (λ (k : ℕ). linkAt s a (leb 128 k) (at + 1)) q)
-    path-bare (suc left) e f = rw (eq-eqb (getD s at 0) 32 z) (bracket-bare s a pathFamily _ false (leb 128 (b .paths)) (λ c. true) (linkAt s a (leb 128 (b .paths)) (at + 1)) (pathBegun b) (at + 1) (is-head (suc left) false (some-left left) e Head.Bare f) ∙ ap (λ (k : ℕ). linkAt s a (leb 128 k) (at + 1)) q)
+    path-bare zero e f = rw (eq-eqb (getD s at 0) 32 z) (bracket-bare s a pathFamily _ true (leb maxPaths (b .paths)) (λ c. true) (linkAt s a (leb maxPaths (b .paths)) (at + 1)) (pathBegun b) (at + 1) (is-head zero true refl e Head.Bare f) ∙ ap (λ (k : ℕ). linkAt s a (leb maxPaths k) (at + 1)) q)
+    path-bare (suc left) e f = rw (eq-eqb (getD s at 0) 32 z) (bracket-bare s a pathFamily _ false (leb maxPaths (b .paths)) (λ c. true) (linkAt s a (leb maxPaths (b .paths)) (at + 1)) (pathBegun b) (at + 1) (is-head (suc left) false (some-left left) e Head.Bare f) ∙ ap (λ (k : ℕ). linkAt s a (leb maxPaths k) (at + 1)) q)
 
-    pub path-head-refused : (left k : ℕ) → h ≡ headAt s (wordsOf pathFamily) (eqb left 0) (leb 128 m) (at + 1) → h ≡ Head.No k → argAt s a (readersAt s a left) path b at ≡ refused k
+    pub path-head-refused : (left k : ℕ) → h ≡ headAt s (wordsOf pathFamily) (eqb left 0) (leb maxPaths m) (at + 1) → h ≡ Head.No k → argAt s a (readersAt s a left) path b at ≡ refused k
     unfolding argAt readersAt within
-    path-head-refused zero k e f = rw (eq-eqb (getD s at 0) 32 z) (bracket-refused s a pathFamily _ true (leb 128 (b .paths)) (λ c. true) (linkAt s a (leb 128 (b .paths)) (at + 1)) (pathBegun b) (at + 1) k (is-head zero true refl e (Head.No k) f))
-    path-head-refused (suc left) k e f = rw (eq-eqb (getD s at 0) 32 z) (bracket-refused s a pathFamily _ false (leb 128 (b .paths)) (λ c. true) (linkAt s a (leb 128 (b .paths)) (at + 1)) (pathBegun b) (at + 1) k (is-head (suc left) false (some-left left) e (Head.No k) f))
+    path-head-refused zero k e f = rw (eq-eqb (getD s at 0) 32 z) (bracket-refused s a pathFamily _ true (leb maxPaths (b .paths)) (λ c. true) (linkAt s a (leb maxPaths (b .paths)) (at + 1)) (pathBegun b) (at + 1) k (is-head zero true refl e (Head.No k) f))
+    path-head-refused (suc left) k e f = rw (eq-eqb (getD s at 0) 32 z) (bracket-refused s a pathFamily _ false (leb maxPaths (b .paths)) (λ c. true) (linkAt s a (leb maxPaths (b .paths)) (at + 1)) (pathBegun b) (at + 1) k (is-head (suc left) false (some-left left) e (Head.No k) f))
 
-    pub path-word : (left k stop : ℕ) → h ≡ headAt s (wordsOf pathFamily) (eqb left 0) (leb 128 m) (at + 1) → h ≡ Head.Word k stop → argAt s a (readersAt s a left) path b at ≡ bodyAt s a pathFamily (readersAt s a (left - 1)) (λ c. true) (getD (pathFamily .codes) k (pathFamily .other)) (pathBegun b) stop
+    pub path-word : (left k stop : ℕ) → h ≡ headAt s (wordsOf pathFamily) (eqb left 0) (leb maxPaths m) (at + 1) → h ≡ Head.Word k stop → argAt s a (readersAt s a left) path b at ≡ bodyAt s a pathFamily (readersAt s a (left - 1)) (λ c. true) (getD (pathFamily .codes) k (pathFamily .other)) (pathBegun b) stop
     unfolding argAt readersAt within
-    path-word zero k stop e f = absurd (true≢false (bracket-word s a pathFamily (noReaders s a) true (leb 128 (b .paths)) (λ c. true) (linkAt s a (leb 128 (b .paths)) (at + 1)) (pathBegun b) (at + 1) k stop (is-head zero true refl e (Head.Word k stop) f) .0))
-    path-word (suc left) k stop e f = rw (eq-eqb (getD s at 0) 32 z, sub-one) (bracket-word s a pathFamily _ false (leb 128 (b .paths)) (λ c. true) (linkAt s a (leb 128 (b .paths)) (at + 1)) (pathBegun b) (at + 1) k stop (is-head (suc left) false (some-left left) e (Head.Word k stop) f) .1)
+    path-word zero k stop e f = absurd (true≢false (bracket-word s a pathFamily (noReaders s a) true (leb maxPaths (b .paths)) (λ c. true) (linkAt s a (leb maxPaths (b .paths)) (at + 1)) (pathBegun b) (at + 1) k stop (is-head zero true refl e (Head.Word k stop) f) .0))
+    path-word (suc left) k stop e f = rw (eq-eqb (getD s at 0) 32 z, sub-one) (bracket-word s a pathFamily _ false (leb maxPaths (b .paths)) (λ c. true) (linkAt s a (leb maxPaths (b .paths)) (at + 1)) (pathBegun b) (at + 1) k stop (is-head (suc left) false (some-left left) e (Head.Word k stop) f) .1)
 
 -- ---- what follows the word: one path, or two
 -- 1 is seq, 2 is alt
@@ -172,11 +174,11 @@ module _ (n m : ℕ) (d : Path) (before mid : List ℕ) (c : n + pathEntries d �
     joined-stored (suc (suc zero)) n0 h = rw (c, c', ← e, e')
     joined-stored (suc (suc (suc code))) n0 h = absurd (omega arith)
 
-pub path-drop : (e code x y : ℕ) (cs : List ℕ) → e < 128 → drop 16602 (putPath e code x y cs) ≡ drop 16602 cs
+pub path-drop : (e code x y : ℕ) (cs : List ℕ) → e < maxPaths → drop cellCount (putPath e code x y cs) ≡ drop cellCount cs
 unfolding putPath
 path-drop e code x y cs h =
-    drop-set-lt 16602 (set (set cs (15370 + e) code) (15498 + e) x) (15626 + e) y (omega arith)
-    ∙ (drop-set-lt 16602 (set cs (15370 + e) code) (15498 + e) x (omega arith) ∙ drop-set-lt 16602 cs (15370 + e) code (omega arith))
+    drop-set-lt cellCount (set (set cs (pathCodes + e) code) (pathFirsts + e) x) (pathSeconds + e) y (omega arith)
+    ∙ (drop-set-lt cellCount (set cs (pathCodes + e) code) (pathFirsts + e) x (omega arith) ∙ drop-set-lt cellCount cs (pathCodes + e) code (omega arith))
 
 -- ---- the closing bracket
 module _ (s : List ℕ) (at l : ℕ) where
@@ -188,14 +190,14 @@ module _ (s : List ℕ) (at l : ℕ) where
       go true q w = record { answer = q ∙ ap (λ (k : ℕ). Item.Is k (at + 1)) (sym c); stored = w ∙ p }
       go false q w = record { answer = q; stored = tt }
 
-  pub closed-grown : (n up : ℕ) → n ≤ l + 1 → l + 1 + up ≤ 128 → Grown n up (length s) (closed s at l)
+  pub closed-grown : (n up : ℕ) → n ≤ l + 1 → l + 1 + up ≤ maxPaths → Grown n up (length s) (closed s at l)
   unfolding closed
   closed-grown n up h k =
       bool-cases (λ t. Grown n up (length s) (cond t (Item.Is (l + 1) (at + 1)) (Item.No 2))) (eqb (getD s at 0) 41)
       (λ e. let b = eqb-true (getD s at 0) 41 e in let i : at < length s = inside s at (λ z. omega arith) in (h, k, omega arith))
       (λ e. tt)
 
-pub grown-is : (n up len : ℕ) (r : Item) (m next : ℕ) → Grown n up len r → r ≡ Item.Is m next → (n ≤ m) × (m + up ≤ 128) × (next ≤ len)
+pub grown-is : (n up len : ℕ) (r : Item) (m next : ℕ) → Grown n up len r → r ≡ Item.Is m next → (n ≤ m) × (m + up ≤ maxPaths) × (next ≤ len)
 grown-is n up len r m next g e = rw e at g
 
 -- ---- END

@@ -7,6 +7,7 @@ use lib.Dec.{eqb}
 use lib.ListN.{getD}
 use Rattle.model.specs.Paths.{Path, End}
 use Rattle.model.specs.Sizes.{pathEntries, endEntries}
+use Rattle.model.specs.Limits.{maxPaths}
 use Rattle.grammar.specs.Reading.{Read, got, refused}
 use Rattle.stores.specs.Entries.{pathCells, endCells}
 use Rattle.itemreader.specs.declared.Item.{Item}
@@ -37,7 +38,7 @@ EndRead x n before after r = Done endsAfter endCells x n before after r
 
 -- at least n path entries, and room for those that are open; a position in a text of a length
 abbrev pub Grown : ℕ → ℕ → ℕ → Item → Type 0
-Grown n up len (Item.Is m next) = (n ≤ m) × (m + up ≤ 128) × (next ≤ len)
+Grown n up len (Item.Is m next) = (n ≤ m) × (m + up ≤ maxPaths) × (next ≤ len)
 Grown n up len (Item.No k) = Unit {0}
 
 -- what a closing bracket gives, where n entries have ended before its own

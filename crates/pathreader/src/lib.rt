@@ -5,7 +5,13 @@ use itemreader::Item;
 use itemreader::Pool;
 use itemreader::path_head;
 use itemreader::read_used;
+use itemreader::words;
 use model::Counts;
+use model::MAX_PATHS;
+use tables::codes;
+use tables::layout::PATH_CODES;
+use tables::layout::PATH_FIRSTS;
+use tables::layout::PATH_SECONDS;
 use text::byte;
 use text::is_word;
 use text::item_end;
@@ -15,20 +21,22 @@ ghost use Prim.Native.Nat.{_≤_, _<_, _+_};
 ghost use lib.Dec.{eqb, leb};
 ghost use lib.ListN.{length, getD, drop};
 ghost use Rattle.model.specs.Books.{Book};
+ghost use Rattle.model.specs.Limits.{maxPaths};
 ghost use Rattle.grammar.specs.Syntax.{path, end};
 ghost use Rattle.grammar.specs.Reading.{Begun, argAt, spaceAt, linkAt, readersAt};
+ghost use Rattle.tables.specs.Layout.{cellCount, nameCount};
 ghost use Rattle.stores.specs.Entries.{putPath};
 ghost use Rattle.itemreader.specs.Held.{Limits, Held, Indexed};
 ghost use Rattle.pathreader.specs.Paths.{PathRead, EndRead, Grown, closed};
 
 // Path entry e.
-fn put_path(cells: &mut [u16], e: usize, code: u16, a: u16, b: u16)
-    requires { ⌜ (e < 128) × (16602 ≤ length (now cells)) ⌝ }
-    ensures { λ _. ⌜ now (cells .exit) ≡ putPath e code a b (now (cells .entry)) ⌝ }
+fn put_path(cells: &mut [u16], e: usize, code: u16, first: u16, second: u16)
+    requires { ⌜ (e < maxPaths) × (cellCount ≤ length (now cells)) ⌝ }
+    ensures { λ _. ⌜ now (cells .exit) ≡ putPath e code first second (now (cells .entry)) ⌝ }
 {
-    cells[15370 + e] = code;
-    cells[15498 + e] = a;
-    cells[15626 + e] = b;
+    cells[PATH_CODES + e] = code;
+    cells[PATH_FIRSTS + e] = first;
+    cells[PATH_SECONDS + e] = second;
 }
 
 // A closing bracket, and the entry of the path that it closes.
@@ -38,18 +46,18 @@ fn close_path(
     at: usize,
     e: usize,
     code: u16,
-    a: u16,
-    b: u16,
+    first: u16,
+    second: u16,
 ) -> Item
-    requires { ⌜ (e < 128) × (16602 ≤ length (now cells)) ⌝ }
+    requires { ⌜ (e < maxPaths) × (cellCount ≤ length (now cells)) ⌝ }
     ensures { λ r. ⌜ r ≡ closed (now (book .entry)) at e ⌝ }
-    ensures { λ _. ⌜ now (cells .exit) ≡ cond (eqb (getD (now (book .entry)) at 0) 41) (putPath e code a b (now (cells .entry))) (now (cells .entry)) ⌝ }
-    ensures { λ _. ⌜ drop 16602 (now (cells .exit)) ≡ drop 16602 (now (cells .entry)) ⌝ }
+    ensures { λ _. ⌜ now (cells .exit) ≡ cond (eqb (getD (now (book .entry)) at 0) 41) (putPath e code first second (now (cells .entry))) (now (cells .entry)) ⌝ }
+    ensures { λ _. ⌜ drop cellCount (now (cells .exit)) ≡ drop cellCount (now (cells .entry)) ⌝ }
 {
     if byte(book, at) != 41 {
         return Item::No(2);
     }
-    put_path(cells, e, code, a, b);
+    put_path(cells, e, code, first, second);
     Item::Is(e + 1, at + 1)
 }
 
@@ -64,19 +72,19 @@ fn read_link(
     n: usize,
     up: usize,
 ) -> Item
-    requires { ⌜ (at ≤ length (now book)) × (45056 ≤ length (now names)) × (16602 ≤ length (now cells)) × (n + up ≤ 128) × Limits counts × Indexed (now names) counts (now index) ⌝ }
-    ensures { λ r. ⌜ ((a : Book) → Held (now (names .entry)) counts a → PathRead (spaceAt (now (book .entry)) a at (linkAt (now (book .entry)) a (leb 128 (n + up)))) n (now (cells .entry)) (now (cells .exit)) r) ⌝ }
+    requires { ⌜ (at ≤ length (now book)) × (nameCount ≤ length (now names)) × (cellCount ≤ length (now cells)) × (n + up ≤ maxPaths) × Limits counts × Indexed (now names) counts (now index) ⌝ }
+    ensures { λ r. ⌜ ((a : Book) → Held (now (names .entry)) counts a → PathRead (spaceAt (now (book .entry)) a at (linkAt (now (book .entry)) a (leb maxPaths (n + up)))) n (now (cells .entry)) (now (cells .exit)) r) ⌝ }
     ensures { λ r. ⌜ Grown (n + 1) up (length (now (book .entry))) r ⌝ }
-    ensures { λ _. ⌜ drop 16602 (now (cells .exit)) ≡ drop 16602 (now (cells .entry)) ⌝ }
+    ensures { λ _. ⌜ drop cellCount (now (cells .exit)) ≡ drop cellCount (now (cells .entry)) ⌝ }
 {
     let used = read_used(names, index, counts, Pool::Links, book, at);
     let Item::Is(p, next) = used else {
         return used;
     };
-    if 128 <= n + up {
+    if MAX_PATHS <= n + up {
         return Item::No(7);
     }
-    put_path(cells, n, 0, p as u16, 0);
+    put_path(cells, n, codes::PATH_LINK, p as u16, 0);
     Item::Is(n + 1, next)
 }
 
@@ -93,15 +101,15 @@ pub fn read_path(
     n: usize,
     up: usize,
 ) -> Item
-    requires { ⌜ (at ≤ length (now book)) × (45056 ≤ length (now names)) × (16602 ≤ length (now cells)) × (n + up ≤ 128) × Limits counts × Indexed (now names) counts (now index) ⌝ }
+    requires { ⌜ (at ≤ length (now book)) × (nameCount ≤ length (now names)) × (cellCount ≤ length (now cells)) × (n + up ≤ maxPaths) × Limits counts × Indexed (now names) counts (now index) ⌝ }
     ensures { λ r. ⌜ ((a : Book) → Held (now (names .entry)) counts a → (b : Begun) → b .paths ≡ n + up → PathRead (argAt (now (book .entry)) a (readersAt (now (book .entry)) a left) path b at) n (now (cells .entry)) (now (cells .exit)) r) ⌝ }
     ensures { λ r. ⌜ Grown (n + 1) up (length (now (book .entry))) r ⌝ }
-    ensures { λ _. ⌜ drop 16602 (now (cells .exit)) ≡ drop 16602 (now (cells .entry)) ⌝ }
+    ensures { λ _. ⌜ drop cellCount (now (cells .exit)) ≡ drop cellCount (now (cells .entry)) ⌝ }
 {
     if byte(book, at) != 32 {
         return Item::No(2);
     }
-    match path_head(book, at + 1, left, 128 <= n + up) {
+    match path_head(book, at + 1, left, MAX_PATHS <= n + up) {
         Head::Bare => read_link(cells, names, index, counts, book, at, n, up),
         Head::No(k) => Item::No(k),
         Head::Word(code, end) => {
@@ -109,8 +117,8 @@ pub fn read_path(
             let Item::Is(m, next) = first else {
                 return first;
             };
-            if code == 0 {
-                return close_path(cells, book, next, m, 1, (m - 1) as u16, 0);
+            if code == words::PATH_INV {
+                return close_path(cells, book, next, m, codes::PATH_INV, (m - 1) as u16, 0);
             }
             let second = read_path(cells, names, index, counts, book, next, left - 1, m, up + 1);
             let Item::Is(l, last) = second else {
@@ -140,10 +148,10 @@ pub fn read_end(
     left: usize,
     n: usize,
 ) -> Item
-    requires { ⌜ (at ≤ length (now book)) × (45056 ≤ length (now names)) × (16602 ≤ length (now cells)) × (n ≤ 128) × Limits counts × Indexed (now names) counts (now index) ⌝ }
+    requires { ⌜ (at ≤ length (now book)) × (nameCount ≤ length (now names)) × (cellCount ≤ length (now cells)) × (n ≤ maxPaths) × Limits counts × Indexed (now names) counts (now index) ⌝ }
     ensures { λ r. ⌜ ((a : Book) → Held (now (names .entry)) counts a → (b : Begun) → b .paths ≡ n → EndRead (argAt (now (book .entry)) a (readersAt (now (book .entry)) a left) end b at) n (now (cells .entry)) (now (cells .exit)) r) ⌝ }
     ensures { λ r. ⌜ Grown n 0 (length (now (book .entry))) r ⌝ }
-    ensures { λ _. ⌜ drop 16602 (now (cells .exit)) ≡ drop 16602 (now (cells .entry)) ⌝ }
+    ensures { λ _. ⌜ drop cellCount (now (cells .exit)) ≡ drop cellCount (now (cells .entry)) ⌝ }
 {
     if byte(book, at) != 32 {
         return Item::No(2);

@@ -7,6 +7,7 @@ use native.Mathlib.Omega.{arith}
 use lib.ListN.{replicate}
 use Rattle.model.specs.Graph.{Triple}
 use Rattle.model.specs.Paths.{Path}
+use Rattle.model.specs.Limits.{maxNodes}
 use Rattle.tables.specs.Layout.{pathCount, pathCodeAt, pathFirstAt, pathSecondAt}
 use Rattle.tables.specs.Decode.{pathAt}
 use Rattle.tables.specs.WellFormed.{wellFormed}
@@ -19,7 +20,7 @@ pos : (many : Bool) → 0 < setCount many
 pos true = omega arith
 pos false = omega arith
 
-room : (many : Bool) (n : ℕ) → n ≤ 1024 → n * setCount many ≤ 64 * 1024
+room : (many : Bool) (n : ℕ) → n ≤ maxNodes → n * setCount many ≤ 64 * maxNodes
 room true n l = omega arith
 room false n l = omega arith
 
@@ -35,12 +36,12 @@ module _ (cs : List ℕ) (ok : wellFormed cs ≡ true) (e : ℕ) (l : e < pathCo
     spread-alt q = ends-alternative (setCount many) n back from into ts (pathAt cs (pathFirstAt cs e)) (pathAt cs (pathSecondAt cs e)) ∙ ap (λ (p : Path). withEnds (setCount many) n ts p back from into) (sym (path-alt cs ok e l q))
 
     -- x is gone first, then y
-    pub spread-seq : n ≤ 1024 → pathCodeAt cs e ≡ 2 → (x y : ℕ) → x ≡ cond back (pathSecondAt cs e) (pathFirstAt cs e) → y ≡ cond back (pathFirstAt cs e) (pathSecondAt cs e)
-        → withEnds (setCount many) n ts (pathAt cs y) back (withEnds (setCount many) n ts (pathAt cs x) back from (replicate 1024 0)) into ≡ withEnds (setCount many) n ts (pathAt cs e) back from into
+    pub spread-seq : n ≤ maxNodes → pathCodeAt cs e ≡ 2 → (x y : ℕ) → x ≡ cond back (pathSecondAt cs e) (pathFirstAt cs e) → y ≡ cond back (pathFirstAt cs e) (pathSecondAt cs e)
+        → withEnds (setCount many) n ts (pathAt cs y) back (withEnds (setCount many) n ts (pathAt cs x) back from (replicate maxNodes 0)) into ≡ withEnds (setCount many) n ts (pathAt cs e) back from into
     spread-seq h q x y ex ey =
-        ap₂ (λ (c d : Path). withEnds (setCount many) n ts c back (withEnds (setCount many) n ts d back from (replicate 1024 0)) into)
+        ap₂ (λ (c d : Path). withEnds (setCount many) n ts c back (withEnds (setCount many) n ts d back from (replicate maxNodes 0)) into)
         (ap (pathAt cs) ey ∙ split back (pathFirstAt cs e) (pathSecondAt cs e)) (ap (pathAt cs) ex ∙ split back (pathSecondAt cs e) (pathFirstAt cs e))
-        ∙ ends-sequence (setCount many) n back from into ts (pathAt cs (pathFirstAt cs e)) (pathAt cs (pathSecondAt cs e)) 1024 (pos many) (room many n h)
+        ∙ ends-sequence (setCount many) n back from into ts (pathAt cs (pathFirstAt cs e)) (pathAt cs (pathSecondAt cs e)) maxNodes (pos many) (room many n h)
         ∙ ap (λ (p : Path). withEnds (setCount many) n ts p back from into) (sym (path-seq cs ok e l q))
       where
         split : (b : Bool) (x y : ℕ) → pathAt cs (cond b x y) ≡ cond b (pathAt cs x) (pathAt cs y)

@@ -17,6 +17,7 @@ use Rattle.nodeset.proofs.Bits.{bit-or}
 use Rattle.nodeset.proofs.Sets.{has-at, own, set-words, same-words, with-words, small-of, ltb-more}
 use Rattle.chains.specs.Chains.{lastWith}
 use Rattle.chains.proofs.Chains.{some-last, walk-begins}
+use Rattle.model.specs.Limits.{maxLinks}
 use Rattle.paths.specs.Facts.{FactsOk, edge, edges}
 use Rattle.paths.specs.Images.{withImages, joined}
 use Rattle.paths.proofs.Images.{images-ext, images-none, images-or, images-pair}
@@ -87,8 +88,8 @@ module _ (ss ps os index : List ℕ) (count n : ℕ) (ok : FactsOk ss ps os inde
       (ltb-true (getD ss i 0) n (and-left (ltb (getD ss i 0) n) (ltb (getD os i 0) n) e), ltb-true (getD os i 0) n (and-right (ltb (getD ss i 0) n) (ltb (getD os i 0) n) e))
 
   -- the chain of link p begins with the last fact that has it
-  pub chain-begins : (p : ℕ) {r : ℕ} → r ≡ cond (ltb p 256) (getD index p 0) 0 → r ≡ lastWith (λ i. getD ps i 0) p count
-  chain-begins p e = walk-begins (λ i. getD ps i 0) count 256 0 256 (ok .indexed) (λ i l. ltb-true (getD ps i 0) 256 (every-at (λ i. ltb (getD ps i 0) 256) count (ok .links) i l)) p (sym (zero-add p)) e
+  pub chain-begins : (p : ℕ) {r : ℕ} → r ≡ cond (ltb p maxLinks) (getD index p 0) 0 → r ≡ lastWith (λ i. getD ps i 0) p count
+  chain-begins p e = walk-begins (λ i. getD ps i 0) count maxLinks 0 maxLinks (ok .indexed) (λ i l. ltb-true (getD ps i 0) maxLinks (every-at (λ i. ltb (getD ps i 0) maxLinks) count (ok .links) i l)) p (sym (zero-add p)) e
 
   module _ (width p : ℕ) (back : Bool) (from : List ℕ) where
     -- fact i, which has link p

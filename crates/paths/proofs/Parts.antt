@@ -14,6 +14,7 @@ use Rattle.base.proofs.Bounded.{every-all}
 use Rattle.base.proofs.Lists.{values-ext}
 use Rattle.chains.proofs.Chains.{chained-same}
 use Rattle.model.specs.Graph.{Triple}
+use Rattle.model.specs.Limits.{maxLinks, maxFacts}
 use Rattle.tables.specs.Layout.{cellCount, nodeCount, factCount, subjects, predicates, objects, subjectAt, predicateAt, objectAt}
 use Rattle.tables.specs.Decode.{tripleAt, triplesAt}
 use Rattle.tables.specs.WellFormed.{wellFormed}
@@ -25,28 +26,28 @@ triple-eq a b c = rw (a, b, c)
 
 -- 4,096 cells from a place on
 abbrev pub part : List ℕ → ℕ → List ℕ
-part cs at = take 4096 (drop at cs)
+part cs at = take maxFacts (drop at cs)
 
 module _ (cs : List ℕ) where
-  pub part-at : (at i : ℕ) → i < 4096 → getD (part cs at) i 0 ≡ getD cs (at + i) 0
-  part-at at i l = getD-take 4096 (drop at cs) i 0 l ∙ getD-drop at cs i 0
+  pub part-at : (at i : ℕ) → i < maxFacts → getD (part cs at) i 0 ≡ getD cs (at + i) 0
+  part-at at i l = getD-take maxFacts (drop at cs) i 0 l ∙ getD-drop at cs i 0
 
-  pub part-length : (at : ℕ) → at + 4096 ≤ length cs → length (part cs at) ≡ 4096
-  part-length at l = length-take-le 4096 (drop at cs) (subst (λ (n : ℕ). 4096 ≤ n) (sym (length-drop at cs)) (omega arith))
+  pub part-length : (at : ℕ) → at + maxFacts ≤ length cs → length (part cs at) ≡ maxFacts
+  part-length at l = length-take-le maxFacts (drop at cs) (subst (λ (n : ℕ). maxFacts ≤ n) (sym (length-drop at cs)) (omega arith))
 
   -- the triples of the three parts are those of the tables
-  part-triples : factCount cs ≤ 4096 → triplesOf (part cs subjects) (part cs predicates) (part cs objects) (factCount cs) ≡ triplesAt cs
+  part-triples : factCount cs ≤ maxFacts → triplesOf (part cs subjects) (part cs predicates) (part cs objects) (factCount cs) ≡ triplesAt cs
   unfolding triplesOf tripleIn triplesAt tripleAt
   part-triples l = values-ext (tripleIn (part cs subjects) (part cs predicates) (part cs objects)) (tripleAt cs) 0 (factCount cs) λ i h.
-      let i-lt : i < 4096 = omega arith in
+      let i-lt : i < maxFacts = omega arith in
       triple-eq (part-at subjects i i-lt) (part-at predicates i i-lt) (part-at objects i i-lt)
 
   module _ (ok : wellFormed cs ≡ true) where
     -- the links of the facts
-    part-links : every (λ i. ltb (getD (part cs predicates) i 0) 256) (factCount cs) ≡ true
-    part-links = every-all (λ i. ltb (getD (part cs predicates) i 0) 256) (factCount cs) (λ i l.
-        let i-lt : i < 4096 = omega (arith, sound cs ok .facts) in
-        ap (λ (p : ℕ). ltb p 256) (part-at predicates i i-lt) ∙ lt-ltb (predicateAt cs i) 256 (omega (arith, sound cs ok .predicate i l, sound cs ok .links)))
+    part-links : every (λ i. ltb (getD (part cs predicates) i 0) maxLinks) (factCount cs) ≡ true
+    part-links = every-all (λ i. ltb (getD (part cs predicates) i 0) maxLinks) (factCount cs) (λ i l.
+        let i-lt : i < maxFacts = omega (arith, sound cs ok .facts) in
+        ap (λ (p : ℕ). ltb p maxLinks) (part-at predicates i i-lt) ∙ lt-ltb (predicateAt cs i) maxLinks (omega (arith, sound cs ok .predicate i l, sound cs ok .links)))
 
     -- the facts of well-formed tables lie between nodes; with the counts as they were read
     pub lent-ok : {count n : ℕ} {index : List ℕ} → cellCount ≤ length cs → n ≡ nodeCount cs → count ≡ factCount cs → TableIndexed cs index → FactsOk (part cs subjects) (part cs predicates) (part cs objects) index count n
@@ -57,7 +58,7 @@ module _ (cs : List ℕ) where
       objects = omega (arith, s .facts, part-length objects (omega arith));
       nodes = s .nodes;
       between = every-all (λ i. ltb (getD (part cs subjects) i 0) (nodeCount cs) && ltb (getD (part cs objects) i 0) (nodeCount cs)) (factCount cs) (λ i l.
-          let i-lt : i < 4096 = omega (arith, s .facts) in
+          let i-lt : i < maxFacts = omega (arith, s .facts) in
           ap₂ (λ (a b : ℕ). ltb a (nodeCount cs) && ltb b (nodeCount cs)) (part-at subjects i i-lt) (part-at objects i i-lt)
           ∙ and-both (ltb (subjectAt cs i) (nodeCount cs)) (ltb (objectAt cs i) (nodeCount cs)) (lt-ltb (subjectAt cs i) (nodeCount cs) (s .subject i l)) (lt-ltb (objectAt cs i) (nodeCount cs) (s .object i l)));
       links = part-links;
@@ -68,7 +69,7 @@ module _ (cs : List ℕ) where
         s = sound cs ok
 
     -- what the index of the facts is made from
-    pub lent-links : {count : ℕ} → cellCount ≤ length cs → count ≡ factCount cs → (count ≤ 4096) × (count ≤ length (part cs predicates)) × (every (λ i. ltb (getD (part cs predicates) i 0) 256) count ≡ true)
+    pub lent-links : {count : ℕ} → cellCount ≤ length cs → count ≡ factCount cs → (count ≤ maxFacts) × (count ≤ length (part cs predicates)) × (every (λ i. ltb (getD (part cs predicates) i 0) maxLinks) count ≡ true)
     lent-links room ec = rw ec (sound cs ok .facts, omega (arith, sound cs ok .facts, part-length predicates (omega arith)), part-links)
 
     -- the index of the part is that of the tables

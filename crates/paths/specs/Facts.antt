@@ -9,6 +9,7 @@ use Rattle.base.specs.Bounded.{some, every}
 use Rattle.base.specs.Lists.{values}
 use Rattle.chains.specs.Chains.{Chained}
 use Rattle.model.specs.Graph.{Triple}
+use Rattle.model.specs.Limits.{maxNodes, maxLinks, maxFacts}
 use Rattle.tables.specs.Layout.{cellCount, factCount, predicateAt}
 use Rattle.tables.specs.WellFormed.{wellFormed}
 
@@ -29,13 +30,13 @@ module _ (ss ps os : List ℕ) where
   unfoldable pub edges : ℕ → Bool → ℕ → ℕ → ℕ → Bool
   edges p back count v w = some (λ i. edge p back i v w) count
 
--- the index of facts: their chains by link. That of link p begins at place p, and fact i is followed at 256 + i
+-- the index of facts: their chains by link. That of link p begins at place p, and fact i is followed at maxLinks + i
 abbrev pub Indexed : List ℕ → ℕ → List ℕ → Type 0
-Indexed ps count index = Chained (λ i. getD ps i 0) count 256 0 256 index
+Indexed ps count index = Chained (λ i. getD ps i 0) count maxLinks 0 maxLinks index
 
 -- the index of the tables' facts
 abbrev pub TableIndexed : List ℕ → List ℕ → Type 0
-TableIndexed cs index = Chained (predicateAt cs) (factCount cs) 256 0 256 index
+TableIndexed cs index = Chained (predicateAt cs) (factCount cs) maxLinks 0 maxLinks index
 
 -- how long it is, at most
 abbrev pub indexCount : ℕ
@@ -49,11 +50,11 @@ pub record Tables (cs index : List ℕ) : Type 0 where
 
 -- count facts between n nodes, and their index
 pub record FactsOk (ss ps os index : List ℕ) (count n : ℕ) : Type 0 where
-  pub few : count ≤ 4096
+  pub few : count ≤ maxFacts
   pub subjects : count ≤ length ss
   pub predicates : count ≤ length ps
   pub objects : count ≤ length os
-  pub nodes : n ≤ 1024
+  pub nodes : n ≤ maxNodes
   pub between : every (λ i. ltb (getD ss i 0) n && ltb (getD os i 0) n) count ≡ true
-  pub links : every (λ i. ltb (getD ps i 0) 256) count ≡ true
+  pub links : every (λ i. ltb (getD ps i 0) maxLinks) count ≡ true
   pub indexed : Indexed ps count index

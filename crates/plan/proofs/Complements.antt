@@ -15,6 +15,7 @@ use Rattle.base.proofs.Bools.{bool-cases, not-and}
 use Rattle.base.proofs.Bounded.{not-every, some-or}
 use Rattle.model.specs.Graph.{Term, iri, blankNode, numeric, plain, tagged, Triple, valueOf, datatypeOf, languageOf, holds}
 use Rattle.model.specs.Shapes.{Kind, anIri, aBlank, aLiteral, isKind, Test, nodeKind, datatype, languageIn, minInclusive, minExclusive, maxInclusive, maxExclusive, satisfies, Upper, atMost, unbounded, within, subset, noneShared, allPairs, less, lessEq, sameLang}
+use Rattle.model.specs.Limits.{maxCount}
 use Rattle.tables.specs.Layout.{noNumber}
 use Rattle.tables.specs.Decode.{upperOf}
 use Rattle.plan.specs.Conditions.{lacks, otherKind, failsTest, notLess, notLessEq, someInOne, someShared, somePair, clash, someUnlisted}
@@ -143,7 +144,7 @@ above-high : (hi k : ℕ) → not (leb k hi) ≡ within (hi + 1) (upperOf noNumb
 unfolding within upperOf
 above-high hi k = not-leb k hi ∙ ap (λ (m : ℕ). leb m k) (let z : suc hi ≡ hi + 1 = omega arith in z)
 
-below-low : (lo k : ℕ) → (lo ≡ 0 → ⊥) → lo ≤ 1024 → not (leb lo k) ≡ within 0 (upperOf (lo - 1)) k
+below-low : (lo k : ℕ) → (lo ≡ 0 → ⊥) → lo ≤ maxCount → not (leb lo k) ≡ within 0 (upperOf (lo - 1)) k
 unfolding within
 below-low lo k z s = not-leb lo k ∙ ap (λ (m : ℕ). leb (suc k) m) (let e : lo ≡ suc (lo - 1) = omega arith in e) ∙ lib.Dec.leb·suc-suc k (lo - 1) ∙ sym (ap (λ (u : Upper). within 0 u k) (number (lo - 1) (λ e. let y : ⊥ = omega arith in y)) ∙ ap (λ (t : Bool). t && leb k (lo - 1)) (leb-zero k))
 
@@ -156,10 +157,10 @@ module _ (lo hi k : ℕ) where
   unfolding within
   broken-high z s = ap₂ (λ (m : ℕ) (u : Upper). not (within m u k)) z (number hi s) ∙ ap (λ (t : Bool). not (t && leb k hi)) (leb-zero k) ∙ above-high hi k
 
-  pub broken-low : (lo ≡ 0 → ⊥) → lo ≤ 1024 → hi ≡ noNumber → not (within lo (upperOf hi) k) ≡ within 0 (upperOf (lo - 1)) k
+  pub broken-low : (lo ≡ 0 → ⊥) → lo ≤ maxCount → hi ≡ noNumber → not (within lo (upperOf hi) k) ≡ within 0 (upperOf (lo - 1)) k
   unfolding within
   broken-low z s h = ap (λ (u : Upper). not (within lo u k)) (star hi h) ∙ below-low lo k z s
 
-  pub broken-both : (lo ≡ 0 → ⊥) → lo ≤ 1024 → (hi ≡ noNumber → ⊥) → not (within lo (upperOf hi) k) ≡ (within 0 (upperOf (lo - 1)) k || within (hi + 1) (upperOf noNumber) k)
+  pub broken-both : (lo ≡ 0 → ⊥) → lo ≤ maxCount → (hi ≡ noNumber → ⊥) → not (within lo (upperOf hi) k) ≡ (within 0 (upperOf (lo - 1)) k || within (hi + 1) (upperOf noNumber) k)
   unfolding within
   broken-both z s h = ap (λ (u : Upper). not (within lo u k)) (number hi h) ∙ not-and (leb lo k) (leb k hi) ∙ ap₂ (λ (x y : Bool). x || y) (below-low lo k z s) (above-high hi k)

@@ -6,8 +6,9 @@ use native.Mathlib.Omega.{arith}
 use lib.ListN.{length, getD, List·getD-append, List·getD-map}
 use Rattle.base.specs.Columns.{Column, flat, offset, column}
 use Rattle.base.proofs.Columns.{at-flat, length-flat}
+use Rattle.model.specs.Limits.{maxRules, maxSteps}
 use Rattle.plan.specs.Steps.{Step, all, none, is, isnot, test, untest, both, either, count, every, equal, unequal, apart, meet, closed, opened, less, notless, lesseq, notlesseq, onelang, manylang, from, into, typed, bad, stepOf, numbersOf}
-use Rattle.plan.specs.Layout.{planColumns, planCells, planCount, stepCount, ruleStepAt, stepAt}
+use Rattle.plan.specs.Layout.{planColumns, planCells, planCount, stepCount, ruleStepAt, stepAt, stepCodes, stepFirsts, stepSeconds, stepThirds, stepFourths}
 use Rattle.plan.proofs.Stores.{column-in}
 
 -- a step is its code and operands
@@ -53,18 +54,18 @@ module _ (ss : List Step) (rules t : List ℕ) where
   unfolding planCells
   read-count = at-column (planColumns (length ss ∷ []) rules ss) t 0 0 (omega arith)
 
-  pub read-rule : (r : ℕ) → r < 32 → ruleStepAt (planCells ss rules ++ t) r ≡ getD rules r 0
+  pub read-rule : (r : ℕ) → r < maxRules → ruleStepAt (planCells ss rules ++ t) r ≡ getD rules r 0
   unfolding planCells
   read-rule r l = at-column (planColumns (length ss ∷ []) rules ss) t 1 r l
 
   -- past the last step the cells are zero, which is step All
-  pub read-step : (k : ℕ) → k < 512 → stepAt (planCells ss rules ++ t) k ≡ getD ss k all
+  pub read-step : (k : ℕ) → k < maxSteps → stepAt (planCells ss rules ++ t) k ≡ getD ss k all
   unfolding planCells stepAt numbersOf
   read-step k l =
       let cols : List (Column ℕ) = planColumns (length ss ∷ []) rules ss in
-      let e0 : getD (flat 0 cols ++ t) (33 + k) 0 ≡ getD (numbersOf (getD ss k all)) 0 0 = at-column cols t 2 k l ∙ List·getD-map (λ s. getD (numbersOf s) 0 0) ss k all in
-      let e1 : getD (flat 0 cols ++ t) (545 + k) 0 ≡ getD (numbersOf (getD ss k all)) 1 0 = at-column cols t 3 k l ∙ List·getD-map (λ s. getD (numbersOf s) 1 0) ss k all in
-      let e2 : getD (flat 0 cols ++ t) (1057 + k) 0 ≡ getD (numbersOf (getD ss k all)) 2 0 = at-column cols t 4 k l ∙ List·getD-map (λ s. getD (numbersOf s) 2 0) ss k all in
-      let e3 : getD (flat 0 cols ++ t) (1569 + k) 0 ≡ getD (numbersOf (getD ss k all)) 3 0 = at-column cols t 5 k l ∙ List·getD-map (λ s. getD (numbersOf s) 3 0) ss k all in
-      let e4 : getD (flat 0 cols ++ t) (2081 + k) 0 ≡ getD (numbersOf (getD ss k all)) 4 0 = at-column cols t 6 k l ∙ List·getD-map (λ s. getD (numbersOf s) 4 0) ss k all in
+      let e0 : getD (flat 0 cols ++ t) (stepCodes + k) 0 ≡ getD (numbersOf (getD ss k all)) 0 0 = at-column cols t 2 k l ∙ List·getD-map (λ s. getD (numbersOf s) 0 0) ss k all in
+      let e1 : getD (flat 0 cols ++ t) (stepFirsts + k) 0 ≡ getD (numbersOf (getD ss k all)) 1 0 = at-column cols t 3 k l ∙ List·getD-map (λ s. getD (numbersOf s) 1 0) ss k all in
+      let e2 : getD (flat 0 cols ++ t) (stepSeconds + k) 0 ≡ getD (numbersOf (getD ss k all)) 2 0 = at-column cols t 4 k l ∙ List·getD-map (λ s. getD (numbersOf s) 2 0) ss k all in
+      let e3 : getD (flat 0 cols ++ t) (stepThirds + k) 0 ≡ getD (numbersOf (getD ss k all)) 3 0 = at-column cols t 5 k l ∙ List·getD-map (λ s. getD (numbersOf s) 3 0) ss k all in
+      let e4 : getD (flat 0 cols ++ t) (stepFourths + k) 0 ≡ getD (numbersOf (getD ss k all)) 4 0 = at-column cols t 6 k l ∙ List·getD-map (λ s. getD (numbersOf s) 4 0) ss k all in
       (λ i. stepOf (e0 i) (e1 i) (e2 i) (e3 i) (e4 i)) ∙ step-numbers (getD ss k all)

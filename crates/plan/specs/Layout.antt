@@ -1,32 +1,33 @@
 -- Where everything stands in a lent plan (16-bit cells): the number of steps, per rule its step, then per step its code and
--- four operands, in columns of 32 and 512 places.
+-- four operands. A column begins where the one before it ends.
 use Prim.Native.Nat.{ℕ, _+_}
 use mathlib.Core.List.{List, [], _∷_, _++_, map}
 use lib.ListN.{getD, length, set}
 use Rattle.base.specs.Columns.{Column, flat}
+use Rattle.model.specs.Limits.{maxRules, maxSteps}
 use Rattle.plan.specs.Steps.{Step, stepOf, numbersOf}
 
 abbrev pub ruleSteps : ℕ
 ruleSteps = 1
 
 abbrev pub stepCodes : ℕ
-stepCodes = 33
+stepCodes = ruleSteps + maxRules
 
 abbrev pub stepFirsts : ℕ
-stepFirsts = 545
+stepFirsts = stepCodes + maxSteps
 
 abbrev pub stepSeconds : ℕ
-stepSeconds = 1057
+stepSeconds = stepFirsts + maxSteps
 
 abbrev pub stepThirds : ℕ
-stepThirds = 1569
+stepThirds = stepSeconds + maxSteps
 
 abbrev pub stepFourths : ℕ
-stepFourths = 2081
+stepFourths = stepThirds + maxSteps
 
 -- how many cells there are
 abbrev pub planCount : ℕ
-planCount = 2593
+planCount = stepFourths + maxSteps
 
 -- ---- what stands at a place
 abbrev pub stepCount : List ℕ → ℕ
@@ -55,12 +56,12 @@ stepAt ps k = stepOf (stepCodeAt ps k) (stepFirstAt ps k) (stepSecondAt ps k) (s
 
 -- ---- the cells of a plan: how many steps it says it has, the rules' steps, the steps; unused places are zero
 abbrev pub stepColumn : List Step → ℕ → Column ℕ
-stepColumn ss i = record { width = 512; items = map (λ s. getD (numbersOf s) i 0) ss }
+stepColumn ss i = record { width = maxSteps; items = map (λ s. getD (numbersOf s) i 0) ss }
 
 abbrev pub planColumns : List ℕ → List ℕ → List Step → List (Column ℕ)
 planColumns counts rules ss =
     record { width = 1; items = counts }
-    ∷ record { width = 32; items = rules }
+    ∷ record { width = maxRules; items = rules }
     ∷ stepColumn ss 0
     ∷ stepColumn ss 1
     ∷ stepColumn ss 2

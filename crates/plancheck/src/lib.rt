@@ -10,7 +10,9 @@ use crate::reads::step_first;
 use crate::reads::step_fourth;
 use crate::reads::step_second;
 use crate::reads::step_third;
+use plan::steps;
 use tablecheck::well_formed;
+use tables::codes;
 use tables::layout::NO_NUMBER;
 use tables::reads::form_code;
 use tables::reads::form_count;
@@ -33,7 +35,7 @@ fn test_ok(cells: &[u16], e: usize) -> bool
     ensures { λ r. ⌜ r ≡ testOk (now (cells .entry)) e ⌝ }
 {
     let code = form_code(cells, e);
-    (e < form_count(cells)) & ((6 <= code) & (code <= 12))
+    (e < form_count(cells)) & ((codes::FORM_KIND <= code) & (code <= codes::FORM_BELOW))
 }
 
 // Form entry e is there, and is `closed`.
@@ -41,7 +43,7 @@ fn closed_ok(cells: &[u16], e: usize) -> bool
     ensures { λ r. ⌜ r ≡ closedOk (now (cells .entry)) e ⌝ }
 {
     let code = form_code(cells, e);
-    (e < form_count(cells)) & (code == 17)
+    (e < form_count(cells)) & (code == codes::FORM_CLOSED)
 }
 
 fn end_ok(cells: &[u16], p: usize) -> bool
@@ -64,19 +66,19 @@ fn step_ok(cells: &[u16], plan: &[u16], k: usize) -> bool
     let a = step_first(plan, k);
     let b = step_second(plan, k);
     match step_code(plan, k) {
-        0 | 1 => true,
-        2 | 3 => a < node_count(cells),
-        4 | 5 => test_ok(cells, a),
-        6 | 7 => (a < k) & (b < k),
-        8 => count_ok(cells, k, a, b, step_third(plan, k), step_fourth(plan, k)),
-        9 => (a < path_count(cells)) & (b < k),
-        10..=13 => end_ok(cells, a) & (b < link_count(cells)),
-        14 | 15 => closed_ok(cells, a),
-        16..=19 => (a < path_count(cells)) & (b < link_count(cells)),
-        20 | 21 => a < path_count(cells),
-        22 | 23 => a < link_count(cells),
-        24 => a < node_count(cells),
-        25..=65535 => false,
+        steps::ALL | steps::NONE => true,
+        steps::IS | steps::ISNOT => a < node_count(cells),
+        steps::TEST | steps::UNTEST => test_ok(cells, a),
+        steps::BOTH | steps::EITHER => (a < k) & (b < k),
+        steps::COUNT => count_ok(cells, k, a, b, step_third(plan, k), step_fourth(plan, k)),
+        steps::EVERY => (a < path_count(cells)) & (b < k),
+        steps::EQUAL..=steps::MEET => end_ok(cells, a) & (b < link_count(cells)),
+        steps::CLOSED | steps::OPEN => closed_ok(cells, a),
+        steps::LESS..=steps::NOTLESSEQ => (a < path_count(cells)) & (b < link_count(cells)),
+        steps::ONELANG | steps::MANYLANG => a < path_count(cells),
+        steps::FROM | steps::INTO => a < link_count(cells),
+        steps::TYPED => a < node_count(cells),
+        steps::UNKNOWN..=steps::LAST => false,
     }
 }
 

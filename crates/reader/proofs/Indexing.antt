@@ -17,11 +17,13 @@ use Rattle.text.proofs.Places.{pool-place}
 use Rattle.model.specs.Books.{Name, Line, link, type, lang, node, fact, shape, rule, Book, Pool, nodes, links, types, langs, shapes, poolNumber, joins, newNames, names}
 use Rattle.model.specs.Valid.{capacity}
 use Rattle.model.proofs.Lines.{names-snoc}
+use Rattle.model.specs.Limits.{nameBytes}
 use Rattle.encoding.specs.Encode.{encodeNames, poolBase}
 use Rattle.stores.proofs.Prefixes.{Prefix}
 use Rattle.stores.proofs.Lookups.{pool-held}
 use Rattle.model.specs.declared.Counts.{Counts}
-use Rattle.itemreader.specs.Held.{countOf, Limits, Indexed}
+use Rattle.itemreader.specs.Held.{countOf, Limits, Indexed, namePlaces, nameIndexCount}
+use Rattle.itemreader.specs.declared.Counts.{Counts}
 use Rattle.itemreader.proofs.Places.{pool-inside, pools-apart, count-within}
 use Rattle.linereader.specs.Storing.{counted}
 use Rattle.reader.specs.Answers.{noCounts}
@@ -30,11 +32,11 @@ use Rattle.reader.specs.Indexing.{joined, joinedAll}
 
 -- the chains of the first k names of a pool
 abbrev Pooled : List ℕ → List ℕ → Pool → ℕ → Type 0
-Pooled ns index p k = Chained (nameKey ns (poolBase p) (capacity p)) k (capacity p) (poolBase p / 32) (1408 + poolBase p / 32) index
+Pooled ns index p k = Chained (nameKey ns (poolBase p) (capacity p)) k (capacity p) (poolBase p / nameBytes) (namePlaces + poolBase p / nameBytes) index
 
 -- ---- one pool, by what the code has
 module _ (ns : List ℕ) (n m : Counts) (p : Pool) (index : List ℕ) (i j : ℕ) (x : i ≡ countOf n p) (y : j ≡ countOf m p) where
-  pub joined-yes : (first slots h : ℕ) → first ≡ poolBase p → slots ≡ capacity p → h ≡ hashOf (place ns first i) → i < j → linked index (first / 32) (1408 + first / 32) (h % slots) i ≡ joined ns n m p index
+  pub joined-yes : (first slots h : ℕ) → first ≡ poolBase p → slots ≡ capacity p → h ≡ hashOf (place ns first i) → i < j → linked index (first / nameBytes) (namePlaces + first / nameBytes) (h % slots) i ≡ joined ns n m p index
   unfolding joined
   joined-yes first slots h f s q l = rw (q, f, s, x) (rw (lt-ltb (countOf n p) (countOf m p) (rw (← x, ← y) l)))
 
@@ -45,28 +47,28 @@ module _ (ns : List ℕ) (n m : Counts) (p : Pool) (index : List ℕ) (i j : ℕ
 -- ---- what was added joins
 -- each pool has at most one name more
 module _ (ns : List ℕ) (n m : Counts) (grew : (p : Pool) → (countOf n p ≤ countOf m p) × (countOf m p ≤ countOf n p + 1)) (L : Limits m) where
-  long : (p : Pool) (index : List ℕ) → 2816 ≤ length index → 2816 ≤ length (joined ns n m p index)
+  long : (p : Pool) (index : List ℕ) → nameIndexCount ≤ length index → nameIndexCount ≤ length (joined ns n m p index)
   unfolding joined
   long p index h = go (ltb (countOf n p) (countOf m p))
     where
-      go : (t : Bool) → 2816 ≤ length (cond t (linked index (poolBase p / 32) (1408 + poolBase p / 32) (nameKey ns (poolBase p) (capacity p) (countOf n p)) (countOf n p)) index)
+      go : (t : Bool) → nameIndexCount ≤ length (cond t (linked index (poolBase p / nameBytes) (namePlaces + poolBase p / nameBytes) (nameKey ns (poolBase p) (capacity p) (countOf n p)) (countOf n p)) index)
       go true = simp length-set h
       go false = h
 
   -- the pool's own chains
-  own : (p : Pool) {index : List ℕ} → 2816 ≤ length index → Pooled ns index p (countOf n p) → Pooled ns (joined ns n m p index) p (countOf m p)
+  own : (p : Pool) {index : List ℕ} → nameIndexCount ≤ length index → Pooled ns index p (countOf n p) → Pooled ns (joined ns n m p index) p (countOf m p)
   unfolding joined
   own p {index} h c = go (ltb (countOf n p) (countOf m p)) refl
     where
-      go : (t : Bool) → ltb (countOf n p) (countOf m p) ≡ t → Pooled ns (cond t (linked index (poolBase p / 32) (1408 + poolBase p / 32) (nameKey ns (poolBase p) (capacity p) (countOf n p)) (countOf n p)) index) p (countOf m p)
+      go : (t : Bool) → ltb (countOf n p) (countOf m p) ≡ t → Pooled ns (cond t (linked index (poolBase p / nameBytes) (namePlaces + poolBase p / nameBytes) (nameKey ns (poolBase p) (capacity p) (countOf n p)) (countOf n p)) index) p (countOf m p)
       go true e =
           let l = ltb-true (countOf n p) (countOf m p) e in
           let g = grew p .1 in
           let w = count-within m p L in
           let i = pool-inside p .0 in
           let z : countOf n p + 1 ≡ countOf m p = omega arith in
-          subst (Pooled ns (linked index (poolBase p / 32) (1408 + poolBase p / 32) (nameKey ns (poolBase p) (capacity p) (countOf n p)) (countOf n p)) p) z
-          (chained-more (nameKey ns (poolBase p) (capacity p)) (countOf n p) (capacity p) (poolBase p / 32) (1408 + poolBase p / 32) (omega arith) (mod-lt (hashOf (place ns (poolBase p) (countOf n p))) (pool-inside p .1)) (omega arith) c)
+          subst (Pooled ns (linked index (poolBase p / nameBytes) (namePlaces + poolBase p / nameBytes) (nameKey ns (poolBase p) (capacity p) (countOf n p)) (countOf n p)) p) z
+          (chained-more (nameKey ns (poolBase p) (capacity p)) (countOf n p) (capacity p) (poolBase p / nameBytes) (namePlaces + poolBase p / nameBytes) (omega arith) (mod-lt (hashOf (place ns (poolBase p) (countOf n p))) (pool-inside p .1)) (omega arith) c)
       go false e =
           let l = ltb-false (countOf n p) (countOf m p) e in
           let g = grew p .0 in
@@ -79,12 +81,12 @@ module _ (ns : List ℕ) (n m : Counts) (grew : (p : Pool) → (countOf n p ≤ 
   other p q {k} {index} ne w c = go (ltb (countOf n p) (countOf m p)) refl
     where
       -- away from the two places that change
-      far : (x : ℕ) → (x ≡ 1408 + poolBase p / 32 + countOf n p → ⊥) → (x ≡ poolBase p / 32 + nameKey ns (poolBase p) (capacity p) (countOf n p) → ⊥) → getD (linked index (poolBase p / 32) (1408 + poolBase p / 32) (nameKey ns (poolBase p) (capacity p) (countOf n p)) (countOf n p)) x 0 ≡ getD index x 0
+      far : (x : ℕ) → (x ≡ namePlaces + poolBase p / nameBytes + countOf n p → ⊥) → (x ≡ poolBase p / nameBytes + nameKey ns (poolBase p) (capacity p) (countOf n p) → ⊥) → getD (linked index (poolBase p / nameBytes) (namePlaces + poolBase p / nameBytes) (nameKey ns (poolBase p) (capacity p) (countOf n p)) (countOf n p)) x 0 ≡ getD index x 0
       far x a b =
-          getD-set-other (set index (1408 + poolBase p / 32 + countOf n p) (getD index (poolBase p / 32 + nameKey ns (poolBase p) (capacity p) (countOf n p)) 0)) (poolBase p / 32 + nameKey ns (poolBase p) (capacity p) (countOf n p)) x (countOf n p + 1) 0 b
-          ∙ getD-set-other index (1408 + poolBase p / 32 + countOf n p) x (getD index (poolBase p / 32 + nameKey ns (poolBase p) (capacity p) (countOf n p)) 0) 0 a
+          getD-set-other (set index (namePlaces + poolBase p / nameBytes + countOf n p) (getD index (poolBase p / nameBytes + nameKey ns (poolBase p) (capacity p) (countOf n p)) 0)) (poolBase p / nameBytes + nameKey ns (poolBase p) (capacity p) (countOf n p)) x (countOf n p + 1) 0 b
+          ∙ getD-set-other index (namePlaces + poolBase p / nameBytes + countOf n p) x (getD index (poolBase p / nameBytes + nameKey ns (poolBase p) (capacity p) (countOf n p)) 0) 0 a
 
-      go : (t : Bool) → ltb (countOf n p) (countOf m p) ≡ t → Pooled ns (cond t (linked index (poolBase p / 32) (1408 + poolBase p / 32) (nameKey ns (poolBase p) (capacity p) (countOf n p)) (countOf n p)) index) q k
+      go : (t : Bool) → ltb (countOf n p) (countOf m p) ≡ t → Pooled ns (cond t (linked index (poolBase p / nameBytes) (namePlaces + poolBase p / nameBytes) (nameKey ns (poolBase p) (capacity p) (countOf n p)) (countOf n p)) index) q k
       go false e = c
       go true e =
           let l = ltb-true (countOf n p) (countOf m p) e in
@@ -93,8 +95,8 @@ module _ (ns : List ℕ) (n m : Counts) (grew : (p : Pool) → (countOf n p ≤ 
           let i = pool-inside p .0 in
           let j = pool-inside q .0 in
           ⊎-elim
-          (λ (o : poolBase p / 32 + capacity p ≤ poolBase q / 32). chained-same (λ _ _. refl) (λ h r. far (poolBase q / 32 + h) (λ z. omega arith) (λ z. omega arith)) (λ k r. far (1408 + poolBase q / 32 + k) (λ z. omega arith) (λ z. omega arith)) c)
-          (λ (o : poolBase q / 32 + capacity q ≤ poolBase p / 32). chained-same (λ _ _. refl) (λ h r. far (poolBase q / 32 + h) (λ z. omega arith) (λ z. omega arith)) (λ k r. far (1408 + poolBase q / 32 + k) (λ z. omega arith) (λ z. omega arith)) c)
+          (λ (o : poolBase p / nameBytes + capacity p ≤ poolBase q / nameBytes). chained-same (λ _ _. refl) (λ h r. far (poolBase q / nameBytes + h) (λ z. omega arith) (λ z. omega arith)) (λ k r. far (namePlaces + poolBase q / nameBytes + k) (λ z. omega arith) (λ z. omega arith)) c)
+          (λ (o : poolBase q / nameBytes + capacity q ≤ poolBase p / nameBytes). chained-same (λ _ _. refl) (λ h r. far (poolBase q / nameBytes + h) (λ z. omega arith) (λ z. omega arith)) (λ k r. far (namePlaces + poolBase q / nameBytes + k) (λ z. omega arith) (λ z. omega arith)) c)
           (pools-apart p q (eqb-false (poolNumber q) (poolNumber p) ne))
 
   before : (p : Pool) → countOf n p ≤ capacity p
@@ -103,7 +105,7 @@ module _ (ns : List ℕ) (n m : Counts) (grew : (p : Pool) → (countOf n p ≤ 
   after : (p q : Pool) {index : List ℕ} → eqb (poolNumber q) (poolNumber p) ≡ false → Pooled ns index q (countOf m q) → Pooled ns (joined ns n m p index) q (countOf m q)
   after p q ne c = other p q ne (count-within m q L) c
 
-  joined-all : {index : List ℕ} → 2816 ≤ length index → ((q : Pool) → Pooled ns index q (countOf n q)) → (q : Pool) → Pooled ns (joinedAll ns n m index) q (countOf m q)
+  joined-all : {index : List ℕ} → nameIndexCount ≤ length index → ((q : Pool) → Pooled ns index q (countOf n q)) → (q : Pool) → Pooled ns (joinedAll ns n m index) q (countOf m q)
   unfolding joinedAll
   joined-all {index} h c nodes = after shapes nodes refl (after langs nodes refl (after types nodes refl (after links nodes refl (own nodes h (c nodes)))))
   joined-all {index} h c links = after shapes links refl (after langs links refl (after types links refl (own links (long nodes index h) (other nodes links refl (before links) (c links)))))
@@ -121,7 +123,7 @@ module _ (ns : List ℕ) (n m : Counts) (grew : (p : Pool) → (countOf n p ≤ 
       own shapes (long langs k (long types j (long links i (long nodes index h)))) (other langs shapes refl (before shapes) (other types shapes refl (before shapes) (other links shapes refl (before shapes) (other nodes shapes refl (before shapes) (c shapes)))))
 
 -- ---- at the start
-pub start-indexed : (ns : List ℕ) → Indexed ns builtInCounts (joinedAll ns noCounts builtInCounts (replicate 2816 0))
+pub start-indexed : (ns : List ℕ) → Indexed ns builtInCounts (joinedAll ns noCounts builtInCounts (replicate nameIndexCount 0))
 start-indexed ns = record { chains = joined-all ns noCounts builtInCounts grew limits long none }
   where
     grew : (p : Pool) → (countOf noCounts p ≤ countOf builtInCounts p) × (countOf builtInCounts p ≤ countOf noCounts p + 1)
@@ -134,13 +136,13 @@ start-indexed ns = record { chains = joined-all ns noCounts builtInCounts grew l
     limits : Limits builtInCounts
     limits = record { node-limit = omega arith; link-limit = omega arith; type-limit = omega arith; lang-limit = omega arith; shape-limit = omega arith }
 
-    long : 2816 ≤ length (replicate {A = ℕ} 2816 0)
-    long = omega (arith, length-replicate {A = ℕ} 2816 0)
+    long : nameIndexCount ≤ length (replicate {A = ℕ} nameIndexCount 0)
+    long = omega (arith, length-replicate {A = ℕ} nameIndexCount 0)
 
-    empty : (q : Pool) → Pooled ns (replicate 2816 0) q 0
-    empty q = chained-none (nameKey ns (poolBase q) (capacity q)) (capacity q) (poolBase q / 32) (1408 + poolBase q / 32) (λ h l. let i = pool-inside q .0 in getD-replicate 2816 (poolBase q / 32 + h) 0 0 (omega arith))
+    empty : (q : Pool) → Pooled ns (replicate nameIndexCount 0) q 0
+    empty q = chained-none (nameKey ns (poolBase q) (capacity q)) (capacity q) (poolBase q / nameBytes) (namePlaces + poolBase q / nameBytes) (λ h l. let i = pool-inside q .0 in getD-replicate nameIndexCount (poolBase q / nameBytes + h) 0 0 (omega arith))
 
-    none : (q : Pool) → Pooled ns (replicate 2816 0) q (countOf noCounts q)
+    none : (q : Pool) → Pooled ns (replicate nameIndexCount 0) q (countOf noCounts q)
     none nodes = empty nodes
     none links = empty links
     none types = empty types
@@ -178,7 +180,7 @@ module _ (a : Book) (l : Line) (P : Prefix a) (P′ : Prefix (a ++ (l ∷ []))) 
       ∙ sym (pool-place (names q (a ++ (l ∷ []))) (P′ .names-made q) (pool-held (a ++ (l ∷ [])) P′ t q) i (omega (arith, ap length e, length-append (names q a) (newNames q l)))
       ∙ ap padded (ap (λ (ws : List Name). getD ws i []) e ∙ List·getD-append (names q a) (newNames q l) [] i h))
 
-  pub line-indexed : {ns ns′ index : List ℕ} {n m : Counts} → ns ≡ encodeNames a ++ t → ns′ ≡ encodeNames (a ++ (l ∷ [])) ++ t → ((p : Pool) → countOf n p ≡ length (names p a)) → m ≡ counted l n → Limits m → 2816 ≤ length index
+  pub line-indexed : {ns ns′ index : List ℕ} {n m : Counts} → ns ≡ encodeNames a ++ t → ns′ ≡ encodeNames (a ++ (l ∷ [])) ++ t → ((p : Pool) → countOf n p ≡ length (names p a)) → m ≡ counted l n → Limits m → nameIndexCount ≤ length index
       → Indexed ns n index → Indexed ns′ m (joinedAll ns′ n m index)
   line-indexed {ns} {ns′} {index} {n} {m} e e′ c z L h I =
       record {

@@ -34,7 +34,8 @@ use Rattle.stores.proofs.Names.{line-names}
 use Rattle.stores.proofs.Lookups.{find-name, resource-held}
 use Rattle.stores.proofs.Books.{lines-names, lines-cells, lines-values, cells-cleared, values-cleared}
 use Rattle.model.specs.declared.Counts.{Counts}
-use Rattle.itemreader.specs.Held.{countOf, Limits, Held, Kinds, Indexed}
+use Rattle.itemreader.specs.Held.{countOf, Limits, Held, Kinds, Indexed, nameIndexCount}
+use Rattle.itemreader.specs.declared.Counts.{Counts}
 use Rattle.linereader.specs.declared.LineAnswer.{LineAnswer}
 use Rattle.linereader.specs.Storing.{counted, Fits, Done}
 use Rattle.reader.specs.declared.LinesAnswer.{LinesAnswer}
@@ -178,7 +179,7 @@ module _ (s ns₀ cs₀ : List ℕ) (vs₀ : List ℤ) where
 
     -- one line more
     module _ (r : LineAnswer) (ns′ cs′ : List ℕ) (vs′ : List ℤ) (h : at < length s) (d : Done (R .above) n (lineAt s (R .above) at) r ns ns′ cs cs′ vs vs′) where
-      pub runs-more : (next : ℕ) (m : Counts) → r ≡ LineAnswer.Next next m → (at < next) × Runs ns′ cs′ vs′ m next (line + 1) × ((index : List ℕ) → 2816 ≤ length index → Indexed ns n index → Indexed ns′ m (joinedAll ns′ n m index))
+      pub runs-more : (next : ℕ) (m : Counts) → r ≡ LineAnswer.Next next m → (at < next) × Runs ns′ cs′ vs′ m next (line + 1) × ((index : List ℕ) → nameIndexCount ≤ length index → Indexed ns n index → Indexed ns′ m (joinedAll ns′ n m index))
       runs-more next m e =
           let a = R .above in
           let S = R .sane in

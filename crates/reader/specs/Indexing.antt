@@ -7,9 +7,11 @@ use Rattle.chains.specs.Chains.{linked}
 use Rattle.text.specs.Pool.{nameKey}
 use Rattle.model.specs.Books.{Pool, nodes, links, types, langs, shapes}
 use Rattle.model.specs.Valid.{capacity}
+use Rattle.model.specs.Limits.{nameBytes}
 use Rattle.encoding.specs.Encode.{poolBase}
 use Rattle.model.specs.declared.Counts.{Counts}
-use Rattle.itemreader.specs.Held.{countOf}
+use Rattle.itemreader.specs.Held.{countOf, namePlaces}
+use Rattle.itemreader.specs.declared.Counts.{Counts}
 
 -- ns: the names; n and m: the counts before and after
 module _ (ns : List ℕ) (n m : Counts) where
@@ -17,7 +19,7 @@ module _ (ns : List ℕ) (n m : Counts) where
   unfoldable pub joined : Pool → List ℕ → List ℕ
   joined p index =
       cond (ltb (countOf n p) (countOf m p))
-      (linked index (poolBase p / 32) (1408 + poolBase p / 32) (nameKey ns (poolBase p) (capacity p) (countOf n p)) (countOf n p))
+      (linked index (poolBase p / nameBytes) (namePlaces + poolBase p / nameBytes) (nameKey ns (poolBase p) (capacity p) (countOf n p)) (countOf n p))
       index
 
   unfoldable pub joinedAll : List ℕ → List ℕ

@@ -2,6 +2,8 @@
 // Operation: read.
 use bodyreader::read_line;
 use chains::link;
+use itemreader::NAME_INDEX;
+use itemreader::NAME_PLACES;
 use itemreader::Pool;
 use itemreader::base;
 use itemreader::count;
@@ -9,6 +11,7 @@ use itemreader::most;
 use linereader::LineAnswer;
 use model::Counts;
 use model::MAX_BYTES;
+use model::NAME_BYTES;
 use model::Refusal;
 use tables::layout::LINK_NAMES;
 use tables::layout::TYPE_NAMES;
@@ -28,12 +31,13 @@ ghost use Rattle.model.specs.Answers.{mapValue};
 ghost use Rattle.model.specs.Books.{links, types};
 ghost use Rattle.model.specs.Sizes.{countsIn, countList};
 ghost use Rattle.model.specs.Refusals.{codeOf, lineOf};
+ghost use Rattle.model.specs.Limits.{maxBytes};
 ghost use Rattle.tables.specs.Layout.{nameCount, cellCount, valueCount};
 ghost use Rattle.grammar.specs.Reading.{linesFrom, reading};
 ghost use Rattle.tables.specs.Sizes.{cleared};
 ghost use Rattle.stores.specs.Lines.{putName, putCounts};
 ghost use Rattle.itemreader.specs.Answers.{poolOf};
-ghost use Rattle.itemreader.specs.Held.{Limits, Indexed};
+ghost use Rattle.itemreader.specs.Held.{Limits, Indexed, nameIndexCount};
 ghost use Rattle.linereader.specs.Storing.{Fits};
 ghost use Rattle.reader.specs.Answers.{answerOf, namesLeft, cellsLeft, valuesLeft, readAnswer, namesOf, cellsOf, valuesOf};
 ghost use Rattle.reader.specs.Running.{Started, builtInCounts, Ran};
@@ -68,7 +72,7 @@ fn refusal(k: u8, line: usize) -> Refusal
 
 // Zeros in all three tables.
 fn clear(names: &mut [u8], cells: &mut [u16], values: &mut [i64])
-    requires { ⌜ (45056 ≤ length (now names)) × (16602 ≤ length (now cells)) × (1136 ≤ length (now values)) ⌝ }
+    requires { ⌜ (nameCount ≤ length (now names)) × (cellCount ≤ length (now cells)) × (valueCount ≤ length (now values)) ⌝ }
     ensures { λ _. ⌜ now (names .exit) ≡ cleared nameCount 0 (now (names .entry)) ⌝ }
     ensures { λ _. ⌜ now (cells .exit) ≡ cleared cellCount 0 (now (cells .entry)) ⌝ }
     ensures { λ _. ⌜ now (values .exit) ≡ cleared valueCount (pos 0) (now (values .entry)) ⌝ }
@@ -80,7 +84,7 @@ fn clear(names: &mut [u8], cells: &mut [u16], values: &mut [i64])
 
 // The names that exist from the start: link 0 and type 0.
 fn put_built_in(names: &mut [u8])
-    requires { ⌜ 45056 ≤ length (now names) ⌝ }
+    requires { ⌜ nameCount ≤ length (now names) ⌝ }
     ensures { λ _. ⌜ now (names .exit) ≡ putName types 0 (bytes "langstring") (putName links 0 (bytes "a") (now (names .entry))) ⌝ }
 {
     put_name(names, LINK_NAMES, b"a", 0, 1);
@@ -89,7 +93,7 @@ fn put_built_in(names: &mut [u8])
 
 // The ten counts, from cell 0 on.
 fn put_counts(cells: &mut [u16], counts: Counts)
-    requires { ⌜ (16602 ≤ length (now cells)) × Limits counts × Fits counts ⌝ }
+    requires { ⌜ (cellCount ≤ length (now cells)) × Limits counts × Fits counts ⌝ }
     ensures { λ _. ⌜ now (cells .exit) ≡ putCounts 0 (countList counts) (now (cells .entry)) ⌝ }
 {
     cells[0] = counts.nodes as u16;
@@ -106,18 +110,18 @@ fn put_counts(cells: &mut [u16], counts: Counts)
 
 // Where there is a name more of the pool after than before, it joins its chain in the index.
 fn index_pool(index: &mut [u16], names: &[u8], before: Counts, after: Counts, pool: Pool)
-    requires { ⌜ (2816 ≤ length (now index)) × (45056 ≤ length (now names)) × Limits after ⌝ }
+    requires { ⌜ (nameIndexCount ≤ length (now index)) × (nameCount ≤ length (now names)) × Limits after ⌝ }
     ensures { λ _. ⌜ now (index .exit) ≡ joined (now (names .entry)) before after (poolOf pool) (now (index .entry)) ⌝ }
 {
     let i = count(before, pool);
     if i < count(after, pool) {
         let first = base(pool);
-        let at = first + i * 32;
+        let at = first + i * NAME_BYTES;
         link(
             index,
-            first / 32,
-            1408 + first / 32,
-            hash(names, at, at + 32) % most(pool),
+            first / NAME_BYTES,
+            NAME_PLACES + first / NAME_BYTES,
+            hash(names, at, at + NAME_BYTES) % most(pool),
             i,
         );
     }
@@ -125,7 +129,7 @@ fn index_pool(index: &mut [u16], names: &[u8], before: Counts, after: Counts, po
 
 // The new names of all pools join their chains.
 fn index_new(index: &mut [u16], names: &[u8], before: Counts, after: Counts)
-    requires { ⌜ (2816 ≤ length (now index)) × (45056 ≤ length (now names)) × Limits after ⌝ }
+    requires { ⌜ (nameIndexCount ≤ length (now index)) × (nameCount ≤ length (now names)) × Limits after ⌝ }
     ensures { λ _. ⌜ now (index .exit) ≡ joinedAll (now (names .entry)) before after (now (index .entry)) ⌝ }
 {
     index_pool(index, names, before, after, Pool::Nodes);
@@ -144,7 +148,7 @@ fn read_from(
     start: Counts,
     book: &[u8],
 ) -> LinesAnswer
-    requires { ⌜ (45056 ≤ length (now names)) × (16602 ≤ length (now cells)) × (1136 ≤ length (now values)) × Started (now names) (now cells) (now values) × (2816 ≤ length (now index)) × (start ≡ builtInCounts) × Indexed (now names) start (now index) ⌝ }
+    requires { ⌜ (nameCount ≤ length (now names)) × (cellCount ≤ length (now cells)) × (valueCount ≤ length (now values)) × Started (now names) (now cells) (now values) × (nameIndexCount ≤ length (now index)) × (start ≡ builtInCounts) × Indexed (now names) start (now index) ⌝ }
     ensures { λ r. ⌜ Ran (linesFrom (now (book .entry)) (length (now (book .entry))) 0 0 []) r (now (names .entry)) (now (names .exit)) (now (cells .entry)) (now (cells .exit)) (now (values .entry)) (now (values .exit)) ⌝ }
 {
     let mut counts = start;
@@ -168,7 +172,7 @@ fn read_from(
 
 // The lines of a book, on tables that hold the built-in names alone.
 fn read_lines(names: &mut [u8], cells: &mut [u16], values: &mut [i64], book: &[u8]) -> LinesAnswer
-    requires { ⌜ (45056 ≤ length (now names)) × (16602 ≤ length (now cells)) × (1136 ≤ length (now values)) × Started (now names) (now cells) (now values) ⌝ }
+    requires { ⌜ (nameCount ≤ length (now names)) × (cellCount ≤ length (now cells)) × (valueCount ≤ length (now values)) × Started (now names) (now cells) (now values) ⌝ }
     ensures { λ r. ⌜ Ran (linesFrom (now (book .entry)) (length (now (book .entry))) 0 0 []) r (now (names .entry)) (now (names .exit)) (now (cells .entry)) (now (cells .exit)) (now (values .entry)) (now (values .exit)) ⌝ }
 {
     let none = Counts {
@@ -186,14 +190,14 @@ fn read_lines(names: &mut [u8], cells: &mut [u16], values: &mut [i64], book: &[u
     let mut start = none;
     start.links = 1;
     start.types = 1;
-    let mut index = [0u16; 2816];
+    let mut index = [0u16; NAME_INDEX];
     index_new(&mut index, names, none, start);
     read_from(names, cells, values, &mut index, start, book)
 }
 
 // A book that is not too long, into tables that are long enough.
 fn read_book(names: &mut [u8], cells: &mut [u16], values: &mut [i64], book: &[u8]) -> ReadAnswer
-    requires { ⌜ (length (now book) ≤ 65536) × (45056 ≤ length (now names)) × (16602 ≤ length (now cells)) × (1136 ≤ length (now values)) ⌝ }
+    requires { ⌜ (length (now book) ≤ maxBytes) × (nameCount ≤ length (now names)) × (cellCount ≤ length (now cells)) × (valueCount ≤ length (now values)) ⌝ }
     ensures { λ r. ⌜ answerOf r ≡ mapValue countsIn (reading (now (book .entry))) ⌝ }
     ensures { λ _. ⌜ now (names .exit) ≡ namesLeft (reading (now (book .entry))) (now (names .entry)) ⌝ }
     ensures { λ _. ⌜ now (cells .exit) ≡ cellsLeft (reading (now (book .entry))) (now (cells .entry)) ⌝ }

@@ -25,6 +25,7 @@ use Rattle.model.specs.Books.{Name, Book, nodes, names, rules, graphOf, schema,
 use Rattle.model.specs.Valid.{capacity, admissible}
 use Rattle.model.proofs.Answers.{left-by}
 use Rattle.model.proofs.Lines.{names-within, terms-counted}
+use Rattle.model.specs.Limits.{maxNodes, maxName, nameBytes}
 use Rattle.grammar.specs.Writing.{nameOf}
 use Rattle.grammar.specs.Valid.{valid}
 use Rattle.grammar.proofs.Books.{valid-admissible}
@@ -66,18 +67,18 @@ zeros-first (suc n) zero = refl
 zeros-first (suc n) (suc m) = refl
 
 -- of a name in its 32 bytes the name is left
-before-padded : (w : Name) → isName w ≡ true → beforeZero (take 31 (padded w)) ≡ w
+before-padded : (w : Name) → isName w ≡ true → beforeZero (take maxName (padded w)) ≡ w
 unfolding padded
 before-padded w e =
-    let n : ℕ = 31 - length w in
-    let z : List ℕ = replicate (32 - length w) 0 in
-    let all : 31 ≡ length w + n = omega (arith, name-short w e) in
-    ap (λ (k : ℕ). beforeZero (take k (w ++ z))) all ∙ (ap beforeZero (take-append-add w z n) ∙ before-name w (take n z) (name-bytes w e) (zeros-first n (32 - length w)))
+    let n : ℕ = maxName - length w in
+    let z : List ℕ = replicate (nameBytes - length w) 0 in
+    let all : maxName ≡ length w + n = omega (arith, name-short w e) in
+    ap (λ (k : ℕ). beforeZero (take k (w ++ z))) all ∙ (ap beforeZero (take-append-add w z n) ∙ before-name w (take n z) (name-bytes w e) (zeros-first n (nameBytes - length w)))
 
 names-short : (ws : List Name) → allNames ws ≡ true → short ws ≡ true
 unfolding allNames allb
 names-short [] e = refl
-names-short (w ∷ ws) e = and-both (leb (length w) 31) (short ws) (le-leb (length w) 31 (name-short w (and-left (isName w) (allNames ws) e))) (names-short ws (and-right (isName w) (allNames ws) e))
+names-short (w ∷ ws) e = and-both (leb (length w) maxName) (short ws) (le-leb (length w) maxName (name-short w (and-left (isName w) (allNames ws) e))) (names-short ws (and-right (isName w) (allNames ws) e))
 
 -- ---- lists
 map-same : {A : Type 0} (f g : ℕ → A) (p : ℕ → Bool) (l : List ℕ) → ((v : ℕ) → p v ≡ true → f v ≡ g v) → allb p l ≡ true → map f l ≡ map g l
@@ -92,7 +93,7 @@ joined-same f g e (suc n) = ap₂ (λ (x y : List ℕ). x ++ y) (joined-same f g
 
 -- the rows hold the lists of the book, and the lengths say how long these are
 pub record Holds (b : Book) (ls ks : List ℕ) : Type 0 where
-  pub row : (r : ℕ) → r < length (rules b) → take (getD ks r 0) (drop (1024 * r) ls) ≡ listOf b (getD (rules b) r noRule)
+  pub row : (r : ℕ) → r < length (rules b) → take (getD ks r 0) (drop (maxNodes * r) ls) ≡ listOf b (getD (rules b) r noRule)
   pub size : (r : ℕ) → r < length (rules b) → getD ks r 0 ≡ length (listOf b (getD (rules b) r noRule))
 
 module _ (b : Book) (v : valid b ≡ true) where
@@ -103,7 +104,7 @@ module _ (b : Book) (v : valid b ≡ true) where
   unfolding valid
   made = prefix-valid b (and-left _ _ v) .names-made nodes
 
-  few-nodes : length (names nodes b) ≤ 1024
+  few-nodes : length (names nodes b) ≤ maxNodes
   unfolding capacity
   few-nodes = names-within nodes b ok
 
@@ -114,18 +115,18 @@ module _ (b : Book) (v : valid b ≡ true) where
       ap (λ (k : ℕ). allb (λ n. ltb n k) (listOf b r)) (sym (terms-counted b))
       ∙ members-low (violates (graphOf b) (schema b) r) (graphOf b .nodes) (graphOf b .nodes) (omega arith)
 
-  list-few : (r : Rule) → length (listOf b r) ≤ 1024
+  list-few : (r : Rule) → length (listOf b r) ≤ maxNodes
   unfolding listOf violations graphOf
   list-few r = omega (arith, few (violates (graphOf b) (schema b) r) (graphOf b .nodes), terms-counted b, few-nodes)
 
   -- ---- lists that stand at the front of their rows
-  pub holds-rows : (ls ks : List ℕ) → 1024 * length (rules b) ≤ length ls → length (rules b) ≤ length ks → Holds b (withRows (λ r. listOf b (getD (rules b) r noRule)) (length (rules b)) ls) (withLengths (λ r. listOf b (getD (rules b) r noRule)) (length (rules b)) ks)
+  pub holds-rows : (ls ks : List ℕ) → maxNodes * length (rules b) ≤ length ls → length (rules b) ≤ length ks → Holds b (withRows (λ r. listOf b (getD (rules b) r noRule)) (length (rules b)) ls) (withLengths (λ r. listOf b (getD (rules b) r noRule)) (length (rules b)) ks)
   holds-rows ls ks room more =
       let list : ℕ → List ℕ = λ r. listOf b (getD (rules b) r noRule) in
-      let short : (r : ℕ) → length (listOf b (getD (rules b) r noRule)) ≤ 1024 = λ r. list-few (getD (rules b) r noRule) in
+      let short : (r : ℕ) → length (listOf b (getD (rules b) r noRule)) ≤ maxNodes = λ r. list-few (getD (rules b) r noRule) in
       let size = length-read list short (length (rules b)) ks more in
       record {
-        row = λ r low. ap (λ (k : ℕ). take k (drop (1024 * r) (withRows list (length (rules b)) ls))) (size r low) ∙ nodes-read list short (length (rules b)) ls room r low;
+        row = λ r low. ap (λ (k : ℕ). take k (drop (maxNodes * r) (withRows list (length (rules b)) ls))) (size r low) ∙ nodes-read list short (length (rules b)) ls room r low;
         size = size;
       }
 
@@ -134,21 +135,21 @@ module _ (b : Book) (v : valid b ≡ true) where
     abbrev table : List ℕ
     table = encodeNames b ++ t
 
-    stored : (n : ℕ) → n < length (names nodes b) → take 31 (drop (32 * n) table) ≡ take 31 (padded (getD (names nodes b) n []))
+    stored : (n : ℕ) → n < length (names nodes b) → take maxName (drop (nameBytes * n) table) ≡ take maxName (padded (getD (names nodes b) n []))
     unfolding poolBase capacity
     stored n h =
         let w : Name = getD (names nodes b) n [] in
-        let s : length w ≤ 31 = name-short w (names-at (names nodes b) made n h) in
-        let left : length (take 31 (drop (32 * n) table)) ≡ 31 = length-take-le 31 (drop (32 * n) table) (omega (arith, length-drop (32 * n) table, length-append (encodeNames b) t, names-length b, few-nodes)) in
-        let right : length (take 31 (padded w)) ≡ 31 = length-take-le 31 (padded w) (omega (arith, padded-length w (omega arith))) in
-        ext-getD 0 (take 31 (drop (32 * n) table)) (take 31 (padded w)) (left ∙ sym right) (λ i l.
-        let low : i < 31 = omega (arith, left) in
-        let at : 32 * n + i ≡ 0 + (n * 32 + i) = omega arith in
-        getD-take 31 (drop (32 * n) table) i 0 low ∙ (getD-drop (32 * n) table i 0
-        ∙ (List·getD-append (encodeNames b) t 0 (32 * n + i) (omega (arith, names-length b, few-nodes))
+        let s : length w ≤ maxName = name-short w (names-at (names nodes b) made n h) in
+        let left : length (take maxName (drop (nameBytes * n) table)) ≡ maxName = length-take-le maxName (drop (nameBytes * n) table) (omega (arith, length-drop (nameBytes * n) table, length-append (encodeNames b) t, names-length b, few-nodes)) in
+        let right : length (take maxName (padded w)) ≡ maxName = length-take-le maxName (padded w) (omega (arith, padded-length w (omega arith))) in
+        ext-getD 0 (take maxName (drop (nameBytes * n) table)) (take maxName (padded w)) (left ∙ sym right) (λ i l.
+        let low : i < maxName = omega (arith, left) in
+        let at : nameBytes * n + i ≡ 0 + (n * nameBytes + i) = omega arith in
+        getD-take maxName (drop (nameBytes * n) table) i 0 low ∙ (getD-drop (nameBytes * n) table i 0
+        ∙ (List·getD-append (encodeNames b) t 0 (nameBytes * n + i) (omega (arith, names-length b, few-nodes))
         ∙ (ap (λ (k : ℕ). getD (encodeNames b) k 0) at
         ∙ (name-at b nodes (names-short (names nodes b) made) n i (omega (arith, few-nodes)) (omega arith)
-        ∙ (sym (padded-at w i) ∙ sym (getD-take 31 (padded w) i 0 low)))))))
+        ∙ (sym (padded-at w i) ∙ sym (getD-take maxName (padded w) i 0 low)))))))
 
     pub name-read : (n : ℕ) → n < length (names nodes b) → nameIn table n ≡ nameOf b nodes n
     unfolding nameIn nameOf
@@ -173,13 +174,13 @@ module _ (b : Book) (v : valid b ≡ true) where
 
     -- ---- the lists have no ground for refusal 9
     length-ok : (r : ℕ) → r < length (rules b) → lengthOk ks r ≡ true
-    length-ok r low = le-leb (getD ks r 0) 1024 (omega (arith, holds .size r low, list-few (getD (rules b) r noRule)))
+    length-ok r low = le-leb (getD ks r 0) maxNodes (omega (arith, holds .size r low, list-few (getD (rules b) r noRule)))
 
     row-ok : (r : ℕ) → r < length (rules b) → rowOk (encodeCells b) ls ks r ≡ true
     unfolding rowOk rowIn
     row-ok r low =
         let rule : Rule = getD (rules b) r noRule in
-        and-both (lengthOk ks r) (allb (λ n. ltb n (nodeCount (encodeCells b))) (take (getD ks r 0) (drop (1024 * r) ls))) (length-ok r low)
+        and-both (lengthOk ks r) (allb (λ n. ltb n (nodeCount (encodeCells b))) (take (getD ks r 0) (drop (maxNodes * r) ls))) (length-ok r low)
         (ap₂ (λ (k : ℕ) (l : List ℕ). allb (λ n. ltb n k) l) (names-counted b nodes) (holds .row r low) ∙ list-within rule)
 
     lengths-ok : every (lengthOk ks) (ruleCount (encodeCells b)) ≡ true

@@ -8,6 +8,7 @@ use native.Mathlib.Omega.{arith}
 use lib.ListN.{length, getD, take, drop, length-drop, drop-of-length-le}
 use lib.Seq.{take-suc, drop-cons, append-snoc, getD-take, getD-drop, take-take, length-take-le}
 use borrow.Author.Tests.{eq-eqb, ne-eqb}
+use Rattle.model.specs.Limits.{maxName, nameBytes}
 use Rattle.report.specs.Pages.{beforeZero, nameIn}
 
 -- no zero among the first j bytes
@@ -32,33 +33,33 @@ module _ (s : List ℕ) where
       ∙ append-nil (take j s)))
 
 -- the place of node v is in the table
-module _ (ns : List ℕ) (v : ℕ) (room : 32 * v + 31 ≤ length ns) where
+module _ (ns : List ℕ) (v : ℕ) (room : nameBytes * v + maxName ≤ length ns) where
   abbrev pub Named : ℕ → Type 0
-  Named j = nameIn ns v ≡ take j (take 31 (drop (32 * v) ns)) ++ beforeZero (drop j (take 31 (drop (32 * v) ns)))
+  Named j = nameIn ns v ≡ take j (take maxName (drop (nameBytes * v) ns)) ++ beforeZero (drop j (take maxName (drop (nameBytes * v) ns)))
 
-  at-place : (j : ℕ) → j < 31 → getD (take 31 (drop (32 * v) ns)) j 0 ≡ getD ns (32 * v + j) 0
-  at-place j h = getD-take 31 (drop (32 * v) ns) j 0 h ∙ getD-drop (32 * v) ns j 0
+  at-place : (j : ℕ) → j < maxName → getD (take maxName (drop (nameBytes * v) ns)) j 0 ≡ getD ns (nameBytes * v + j) 0
+  at-place j h = getD-take maxName (drop (nameBytes * v) ns) j 0 h ∙ getD-drop (nameBytes * v) ns j 0
 
-  full : length (take 31 (drop (32 * v) ns)) ≡ 31
-  full = length-take-le 31 (drop (32 * v) ns) (omega (arith, length-drop (32 * v) ns))
+  full : length (take maxName (drop (nameBytes * v) ns)) ≡ maxName
+  full = length-take-le maxName (drop (nameBytes * v) ns) (omega (arith, length-drop (nameBytes * v) ns))
 
   pub named-start : Named 0
   unfolding nameIn
   named-start = refl
 
-  pub named-more : (j : ℕ) → j < 31 → (getD ns (32 * v + j) 0 ≡ 0 → ⊥) → Named j → Named (j + 1)
+  pub named-more : (j : ℕ) → j < maxName → (getD ns (nameBytes * v + j) 0 ≡ 0 → ⊥) → Named j → Named (j + 1)
   unfolding nameIn
   named-more j h z p =
-      clear-more (take 31 (drop (32 * v) ns)) j (omega (arith, full)) (λ e. z (sym (at-place j h) ∙ e)) p
-      ∙ ap (λ (k : ℕ). take k (take 31 (drop (32 * v) ns)) ++ beforeZero (drop k (take 31 (drop (32 * v) ns)))) (sym (add-one j))
+      clear-more (take maxName (drop (nameBytes * v) ns)) j (omega (arith, full)) (λ e. z (sym (at-place j h) ∙ e)) p
+      ∙ ap (λ (k : ℕ). take k (take maxName (drop (nameBytes * v) ns)) ++ beforeZero (drop k (take maxName (drop (nameBytes * v) ns)))) (sym (add-one j))
 
-  pub named-stop : (j : ℕ) → j < 31 → getD ns (32 * v + j) 0 ≡ 0 → Named j → take j (drop (32 * v) ns) ≡ nameIn ns v
+  pub named-stop : (j : ℕ) → j < maxName → getD ns (nameBytes * v + j) 0 ≡ 0 → Named j → take j (drop (nameBytes * v) ns) ≡ nameIn ns v
   unfolding nameIn
-  named-stop j h z p = sym (clear-stop (take 31 (drop (32 * v) ns)) j (omega (arith, full)) (at-place j h ∙ z) p ∙ take-take j 31 (drop (32 * v) ns) (omega arith))
+  named-stop j h z p = sym (clear-stop (take maxName (drop (nameBytes * v) ns)) j (omega (arith, full)) (at-place j h ∙ z) p ∙ take-take j maxName (drop (nameBytes * v) ns) (omega arith))
 
-  pub named-end : (j : ℕ) → j ≡ 31 → Named j → take j (drop (32 * v) ns) ≡ nameIn ns v
+  pub named-end : (j : ℕ) → j ≡ maxName → Named j → take j (drop (nameBytes * v) ns) ≡ nameIn ns v
   unfolding nameIn beforeZero
   named-end j h p =
-      let s : List ℕ = take 31 (drop (32 * v) ns) in
+      let s : List ℕ = take maxName (drop (nameBytes * v) ns) in
       sym (p ∙ (ap (λ (t : List ℕ). take j s ++ beforeZero t) (drop-of-length-le s {i = j} (omega (arith, full)))
-      ∙ (append-nil (take j s) ∙ take-take j 31 (drop (32 * v) ns) (omega arith))))
+      ∙ (append-nil (take j s) ∙ take-take j maxName (drop (nameBytes * v) ns) (omega arith))))

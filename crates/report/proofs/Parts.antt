@@ -14,6 +14,7 @@ use Rattle.base.specs.Lists.{allb}
 use Rattle.base.proofs.Bools.{and-left, and-right}
 use Rattle.base.proofs.Lists.{allb-weaker}
 use Rattle.model.specs.Books.{Name}
+use Rattle.model.specs.Limits.{maxNodes}
 use Rattle.tables.specs.Layout.{nodeCount, factCount, ruleCount}
 use Rattle.lists.specs.Rows.{rowIn}
 use Rattle.report.specs.Report.{headLine, breakLine, breakLines, foundLine}
@@ -89,28 +90,28 @@ module _ (cs ls ks : List ℕ) where
   ok-past zero h = absurd (omega arith)
   ok-past (suc r) h = rw (le-ltb r (ruleCount cs) (omega arith), ne-eqb r (ruleCount cs) (λ q. omega arith))
 
-  pub row-long : (r : ℕ) → 1024 < getD ks r 0 → rowOk cs ls ks r ≡ false
+  pub row-long : (r : ℕ) → maxNodes < getD ks r 0 → rowOk cs ls ks r ≡ false
   unfolding rowOk
-  row-long r h = rw (lt-leb (getD ks r 0) 1024 h)
+  row-long r h = rw (lt-leb (getD ks r 0) maxNodes h)
 
-  pub row-test : (r : ℕ) → getD ks r 0 ≤ 1024 → allb (λ v. ltb v (nodeCount cs)) (rowIn ls ks r) ≡ rowOk cs ls ks r
+  pub row-test : (r : ℕ) → getD ks r 0 ≤ maxNodes → allb (λ v. ltb v (nodeCount cs)) (rowIn ls ks r) ≡ rowOk cs ls ks r
   unfolding rowOk
-  row-test r h = rw (le-leb (getD ks r 0) 1024 h)
+  row-test r h = rw (le-leb (getD ks r 0) maxNodes h)
 
   module _ (r : ℕ) (ok : rowOk cs ls ks r ≡ true) where
-    pub row-short : getD ks r 0 ≤ 1024
+    pub row-short : getD ks r 0 ≤ maxNodes
     unfolding rowOk
-    row-short = leb-true (getD ks r 0) 1024 (and-left _ _ ok)
+    row-short = leb-true (getD ks r 0) maxNodes (and-left _ _ ok)
 
     pub row-nodes : allb (λ v. ltb v (nodeCount cs)) (rowIn ls ks r) ≡ true
     unfolding rowOk
-    row-nodes = and-right (leb (getD ks r 0) 1024) _ ok
+    row-nodes = and-right (leb (getD ks r 0) maxNodes) _ ok
 
     -- of any tables that are well formed
-    pub row-below : nodeCount cs ≤ 1024 → allb (λ v. ltb v 1024) (rowIn ls ks r) ≡ true
-    row-below few = allb-weaker (λ v. ltb v (nodeCount cs)) (λ v. ltb v 1024) (rowIn ls ks r) (λ v e. let h = ltb-true v (nodeCount cs) e in lt-ltb v 1024 (omega arith)) row-nodes
+    pub row-below : nodeCount cs ≤ maxNodes → allb (λ v. ltb v maxNodes) (rowIn ls ks r) ≡ true
+    row-below few = allb-weaker (λ v. ltb v (nodeCount cs)) (λ v. ltb v maxNodes) (rowIn ls ks r) (λ v e. let h = ltb-true v (nodeCount cs) e in lt-ltb v maxNodes (omega arith)) row-nodes
 
 -- the row as it is lent
-pub row-lent : (ls ks : List ℕ) (r n : ℕ) → n ≡ getD ks r 0 → take (1024 * r + n - 1024 * r) (drop (1024 * r) ls) ≡ rowIn ls ks r
+pub row-lent : (ls ks : List ℕ) (r n : ℕ) → n ≡ getD ks r 0 → take (maxNodes * r + n - maxNodes * r) (drop (maxNodes * r) ls) ≡ rowIn ls ks r
 unfolding rowIn
-row-lent ls ks r n e = let m : 1024 * r + n - 1024 * r ≡ getD ks r 0 = omega (arith, e) in ap (λ (k : ℕ). take k (drop (1024 * r) ls)) m
+row-lent ls ks r n e = let m : maxNodes * r + n - maxNodes * r ≡ getD ks r 0 = omega (arith, e) in ap (λ (k : ℕ). take k (drop (maxNodes * r) ls)) m

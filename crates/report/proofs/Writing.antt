@@ -9,6 +9,7 @@ use lib.ListN.{length, getD, set, take, drop, length-append}
 use lib.Seq.{sets, length-sets, sets-eq, take-suc}
 use Rattle.text.specs.Decimals.{decimal}
 use Rattle.text.proofs.Inverse.{decimal-digit, decimal-more}
+use Rattle.model.specs.Limits.{maxRules}
 use Rattle.encoding.proofs.Places.{below-or}
 use Rattle.lists.specs.Rows.{over}
 use Rattle.grammar.specs.Writing.{spaced, bracket}
@@ -72,7 +73,7 @@ digits-few (suc k) n h =
     let d = div-add-mod' n 10 in
     omega (arith, ap length (decimal-more n l), length-append (decimal (n / 10)) ((48 + n % 10) ∷ []), digits-few k (n / 10) (omega arith)))
 
-pub two-digits : (n : ℕ) → n < 32 → length (decimal n) ≤ 2
+pub two-digits : (n : ℕ) → n < maxRules → length (decimal n) ≤ 2
 two-digits n h = digits-few 1 n (omega arith)
 
 -- of 64 bits

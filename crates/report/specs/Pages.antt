@@ -8,15 +8,19 @@ use lib.ListN.{length, getD, take, drop}
 use lib.Seq.{sets}
 use Rattle.base.specs.Bounded.{every, _⇒_}
 use Rattle.base.specs.Lists.{allb}
-use Rattle.model.specs.Limits.{maxNodes, maxName}
+use Rattle.model.specs.Limits.{maxNodes, maxName, nameBytes}
 use Rattle.model.specs.Books.{Name}
 use Rattle.tables.specs.Layout.{nodeCount, factCount, ruleCount}
 use Rattle.lists.specs.Rows.{rowIn}
 use Rattle.report.specs.Report.{headLine, breakLines, foundLine}
 
--- a page holds 1,024 lines of 44 bytes: two digits of a rule, 31 bytes of a name
+-- the longest line of a node: its word, two digits of a rule, a name, two spaces, two brackets and LF
+abbrev pub breakBytes : ℕ
+breakBytes = maxName + 13
+
+-- a page holds as many as there may be nodes
 abbrev pub pageCount : ℕ
-pageCount = 45056
+pageCount = maxNodes * breakBytes
 
 -- the report of a refusal: one digit of its number and twenty of its line, since 10 has no line
 abbrev pub refusalCount : ℕ
@@ -30,7 +34,7 @@ beforeZero (x ∷ s) = cond (eqb x 0) [] (x ∷ beforeZero s)
 
 -- the stored name of node v
 unfoldable pub nameIn : List ℕ → ℕ → Name
-nameIn ns v = beforeZero (take maxName (drop (32 * v) ns))
+nameIn ns v = beforeZero (take maxName (drop (nameBytes * v) ns))
 
 -- how many nodes the first n rules list
 unfoldable pub foundIn : List ℕ → ℕ → ℕ

@@ -4,6 +4,7 @@ use lists::LENGTH_PLACES;
 use lists::LIST_PLACES;
 use model::MAX_NAME;
 use model::MAX_NODES;
+use model::NAME_BYTES;
 use model::Refusal;
 use model::code;
 use model::line;
@@ -25,15 +26,19 @@ ghost use Rattle.base.specs.Lists.{allb};
 ghost use Rattle.text.specs.Decimals.{decimal};
 ghost use Rattle.model.specs.Answers.{valueOr};
 ghost use Rattle.model.specs.Refusals.{codeOf, lineOf};
+ghost use Rattle.model.specs.Limits.{maxNodes, maxRules, maxName, nameBytes};
 ghost use Rattle.tables.specs.Layout.{nameCount};
 ghost use Rattle.tables.specs.WellFormed.{wellFormed};
 ghost use Rattle.lists.specs.Rows.{listCount, lengthCount, rowIn};
 ghost use Rattle.report.specs.Report.{headLine, breakLine, breakLines, foundLine, refusalReport};
-ghost use Rattle.report.specs.Pages.{pageCount, nameIn, foundIn, partIn, lengthOk, rowOk, partOk, Put};
+ghost use Rattle.report.specs.Pages.{pageCount, nameIn, foundIn, partIn, lengthOk, rowOk, partOk, Put, breakBytes};
 ghost use Rattle.report.specs.Answers.{answerOf, partLong, partFormed, partAnswer, partAfter, refusalAnswer, refusalAfter};
 
-// A page for 1,024 lines of 44 bytes: two digits of a rule, 31 bytes of a name.
-pub const PAGE_BYTES: usize = 45056;
+// The longest line of a node: its word, two digits of a rule, a name, two spaces, two brackets and LF; a page for as many as
+// there may be nodes.
+pub const BREAK_BYTES: usize = MAX_NAME + 13;
+
+pub const PAGE_BYTES: usize = MAX_NODES * BREAK_BYTES;
 
 // The report of a refusal: one digit of its number and twenty of its line, since 10 has no line.
 pub const REFUSAL_BYTES: usize = 33;
@@ -82,13 +87,13 @@ fn put_number(page: &mut [u8], at: usize, n: usize) -> usize
 
 // How many bytes the stored name of node v has.
 fn name_length(names: &[u8], v: usize) -> usize
-    requires { ⌜ (v < 1024) × (nameCount ≤ length (now names)) ⌝ }
-    ensures { λ r. ⌜ take r (drop (32 * v) (now (names .entry))) ≡ nameIn (now (names .entry)) v ⌝ }
-    ensures { λ r. ⌜ r ≤ 31 ⌝ }
+    requires { ⌜ (v < maxNodes) × (nameCount ≤ length (now names)) ⌝ }
+    ensures { λ r. ⌜ take r (drop (nameBytes * v) (now (names .entry))) ≡ nameIn (now (names .entry)) v ⌝ }
+    ensures { λ r. ⌜ r ≤ maxName ⌝ }
 {
     let mut j = 0;
     while j < MAX_NAME {
-        if names[32 * v + j] == 0 {
+        if names[NAME_BYTES * v + j] == 0 {
             return j;
         }
         j += 1;
@@ -98,22 +103,22 @@ fn name_length(names: &[u8], v: usize) -> usize
 
 // A space and the name of node v.
 fn put_name(page: &mut [u8], at: usize, names: &[u8], v: usize) -> usize
-    requires { ⌜ (at + 32 ≤ length (now page)) × (v < 1024) × (nameCount ≤ length (now names)) ⌝ }
+    requires { ⌜ (at + (maxName + 1) ≤ length (now page)) × (v < maxNodes) × (nameCount ≤ length (now names)) ⌝ }
     ensures { λ r. ⌜ Put (now (page .entry)) (now (page .exit)) at (32 ∷ nameIn (now (names .entry)) v) r ⌝ }
-    ensures { λ r. ⌜ r ≤ at + 32 ⌝ }
+    ensures { λ r. ⌜ r ≤ at + (maxName + 1) ⌝ }
 {
     let start = put_bytes(page, at, b" ");
     let n = name_length(names, v);
-    let first = 32 * v;
+    let first = NAME_BYTES * v;
     let last = first + n;
     put_bytes(page, start, &names[first..last])
 }
 
 // The line of node v under rule r.
 fn put_break(page: &mut [u8], at: usize, r: usize, names: &[u8], v: usize) -> usize
-    requires { ⌜ (at + 44 ≤ length (now page)) × (r < 32) × (v < 1024) × (nameCount ≤ length (now names)) ⌝ }
+    requires { ⌜ (at + breakBytes ≤ length (now page)) × (r < maxRules) × (v < maxNodes) × (nameCount ≤ length (now names)) ⌝ }
     ensures { λ end. ⌜ Put (now (page .entry)) (now (page .exit)) at (breakLine r (nameIn (now (names .entry)) v)) end ⌝ }
-    ensures { λ end. ⌜ end ≤ at + 44 ⌝ }
+    ensures { λ end. ⌜ end ≤ at + breakBytes ⌝ }
 {
     let word = put_bytes(page, at, b"(breaks");
     let number = put_number(page, word, r);
@@ -123,7 +128,7 @@ fn put_break(page: &mut [u8], at: usize, r: usize, names: &[u8], v: usize) -> us
 
 // The lines of rule r, whose list is lent.
 fn put_breaks(page: &mut [u8], names: &[u8], list: &[u16], r: usize) -> usize
-    requires { ⌜ (pageCount ≤ length (now page)) × (nameCount ≤ length (now names)) × (length (now list) ≤ 1024) × (allb (λ v. ltb v 1024) (now list) ≡ true) × (r < 32) ⌝ }
+    requires { ⌜ (pageCount ≤ length (now page)) × (nameCount ≤ length (now names)) × (length (now list) ≤ maxNodes) × (allb (λ v. ltb v maxNodes) (now list) ≡ true) × (r < maxRules) ⌝ }
     ensures { λ end. ⌜ Put (now (page .entry)) (now (page .exit)) 0 (breakLines r (map (nameIn (now (names .entry))) (now (list .entry)))) end ⌝ }
 {
     let mut at = 0;
@@ -170,7 +175,7 @@ fn put_refusal(page: &mut [u8], number: usize, at: usize) -> usize
 
 // How many nodes the first n rules list.
 fn total(lengths: &[u16], n: usize) -> usize
-    requires { ⌜ (n ≤ 32) × (lengthCount ≤ length (now lengths)) ⌝ }
+    requires { ⌜ (n ≤ maxRules) × (lengthCount ≤ length (now lengths)) ⌝ }
     ensures { λ r. ⌜ r ≡ foundIn (now (lengths .entry)) n ⌝ }
 {
     let mut sum = 0;
@@ -182,7 +187,7 @@ fn total(lengths: &[u16], n: usize) -> usize
 
 // The lines of rule r, from its row.
 fn put_rule(page: &mut [u8], names: &[u8], lists: &[u16], lengths: &[u16], r: usize) -> usize
-    requires { ⌜ (pageCount ≤ length (now page)) × (nameCount ≤ length (now names)) × (listCount ≤ length (now lists)) × (lengthCount ≤ length (now lengths)) × (r < 32) × (getD (now lengths) r 0 ≤ 1024) × (allb (λ v. ltb v 1024) (rowIn (now lists) (now lengths) r) ≡ true) ⌝ }
+    requires { ⌜ (pageCount ≤ length (now page)) × (nameCount ≤ length (now names)) × (listCount ≤ length (now lists)) × (lengthCount ≤ length (now lengths)) × (r < maxRules) × (getD (now lengths) r 0 ≤ maxNodes) × (allb (λ v. ltb v maxNodes) (rowIn (now lists) (now lengths) r) ≡ true) ⌝ }
     ensures { λ end. ⌜ Put (now (page .entry)) (now (page .exit)) 0 (breakLines r (map (nameIn (now (names .entry))) (rowIn (now (lists .entry)) (now (lengths .entry)) r))) end ⌝ }
 {
     let first = MAX_NODES * r;
@@ -228,7 +233,7 @@ fn all_below(list: &[u16], n: usize) -> bool
 
 // The list of rule r has no ground for refusal 9.
 fn row_ok(cells: &[u16], lists: &[u16], lengths: &[u16], r: usize) -> bool
-    requires { ⌜ (r < 32) × (listCount ≤ length (now lists)) × (lengthCount ≤ length (now lengths)) ⌝ }
+    requires { ⌜ (r < maxRules) × (listCount ≤ length (now lists)) × (lengthCount ≤ length (now lengths)) ⌝ }
     ensures { λ ok. ⌜ ok ≡ rowOk (now (cells .entry)) (now (lists .entry)) (now (lengths .entry)) r ⌝ }
 {
     let n = wide(lengths[r]);

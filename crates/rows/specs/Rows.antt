@@ -6,6 +6,7 @@ use mathlib.Core.Path.{_≡_}
 use lib.Dec.{eqb, ltb}
 use lib.ListN.{length}
 use Rattle.nodeset.specs.Words.{has, wordsOf}
+use Rattle.model.specs.Limits.{maxNodes}
 
 -- the relation r between the nodes below n
 abbrev pub between : ℕ → (ℕ → ℕ → Bool) → ℕ → ℕ → Bool
@@ -21,11 +22,11 @@ Within n rows = rows ≡ rowsOf n (λ v w. has rows (1024 * v + w)) (length rows
 
 -- word j of all rows, as a column of one word for each node
 unfoldable pub columnOf : ℕ → (ℕ → ℕ → Bool) → ℕ → List ℕ
-columnOf n r j = wordsOf (λ x. between n r (x / 64) (64 * j + x % 64)) 1024
+columnOf n r j = wordsOf (λ x. between n r (x / 64) (64 * j + x % 64)) maxNodes
 
 -- the column of the identity: set k is the node 64 * j + k alone
 unfoldable pub identityColumn : ℕ → List ℕ
-identityColumn j = wordsOf (λ x. eqb (x / 64) (64 * j + x % 64)) 1024
+identityColumn j = wordsOf (λ x. eqb (x / 64) (64 * j + x % 64)) maxNodes
 
 -- the rows with word j of the first n taken from the column m
 unfoldable pub withColumn : List ℕ → ℕ → List ℕ → ℕ → List ℕ

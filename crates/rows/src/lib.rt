@@ -7,6 +7,7 @@
 // For the crates above, which show that the facts lie between n nodes and that the path entries' tables are well formed:
 //   all_ends         the rows become the ends, where they held nothing past n nodes
 //   all_table_ends   the same over the facts of the tables
+use model::MAX_NODES;
 use nodeset::insert;
 use nodeset::put_word;
 use nodeset::word;
@@ -23,6 +24,7 @@ ghost use mathlib.Core.Bool.{true};
 ghost use Prim.Native.Nat.{_*_, _<_, _≤_};
 ghost use lib.ListN.{length, replicate};
 ghost use Rattle.model.specs.Paths.{endsOf};
+ghost use Rattle.model.specs.Limits.{maxNodes};
 ghost use Rattle.tables.specs.Layout.{nodeCount};
 ghost use Rattle.tables.specs.Decode.{triplesAt};
 ghost use Rattle.tables.specs.WellFormed.{wellFormed};
@@ -32,7 +34,7 @@ ghost use Rattle.rows.specs.Rows.{rowsOf, Within, columnOf, identityColu
 
 // An empty column becomes the one whose set k is the node 64 * j + k alone.
 fn identity(t: &mut [u64], j: usize)
-    requires { ⌜ (now t ≡ replicate 1024 0) × (j < 16) ⌝ }
+    requires { ⌜ (now t ≡ replicate maxNodes 0) × (j < 16) ⌝ }
     ensures { λ _. ⌜ now (t .exit) ≡ identityColumn j ⌝ }
 {
     for k in 0..64 {
@@ -42,7 +44,7 @@ fn identity(t: &mut [u64], j: usize)
 
 // Word j of each of the n rows becomes the row's word of the column m.
 fn store_column(rows: &mut [u64], j: usize, m: &[u64], n: usize)
-    requires { ⌜ (j < 16) × (n ≤ 1024) ⌝ }
+    requires { ⌜ (j < 16) × (n ≤ maxNodes) ⌝ }
     ensures { λ _. ⌜ now (rows .exit) ≡ withColumn (now (rows .entry)) j (now (m .entry)) n ⌝ }
 {
     for v in 0..n {
@@ -56,20 +58,33 @@ fn pass(
     j: usize,
     end: End,
     cells: &[u16],
-    s: &[u16],
-    p: &[u16],
-    o: &[u16],
+    subjects: &[u16],
+    predicates: &[u16],
+    objects: &[u16],
     index: &[u16],
     len: usize,
     n: usize,
 )
-    requires { ⌜ FactsOk (now s) (now p) (now o) (now index) len n × (wellFormed (now cells) ≡ true) × (endOk (now cells) end ≡ true) × (j < 16) ⌝ }
-    ensures { λ _. ⌜ now (rows .exit) ≡ withColumn (now (rows .entry)) j (columnOf n (endsOf n (triplesOf (now (s .entry)) (now (p .entry)) (now (o .entry)) len) (endIn (now (cells .entry)) end)) j) n ⌝ }
+    requires { ⌜ FactsOk (now subjects) (now predicates) (now objects) (now index) len n × (wellFormed (now cells) ≡ true) × (endOk (now cells) end ≡ true) × (j < 16) ⌝ }
+    ensures { λ _. ⌜ now (rows .exit) ≡ withColumn (now (rows .entry)) j (columnOf n (endsOf n (triplesOf (now (subjects .entry)) (now (predicates .entry)) (now (objects .entry)) len) (endIn (now (cells .entry)) end)) j) n ⌝ }
 {
-    let mut t = [0u64; 1024];
+    let mut t = [0u64; MAX_NODES];
     identity(&mut t, j);
-    let mut m = [0u64; 1024];
-    follow(&mut m, end, true, true, &t, cells, s, p, o, index, len, n);
+    let mut m = [0u64; MAX_NODES];
+    follow(
+        &mut m,
+        end,
+        true,
+        true,
+        &t,
+        cells,
+        subjects,
+        predicates,
+        objects,
+        index,
+        len,
+        n,
+    );
     store_column(rows, j, &m, n);
 }
 
@@ -78,19 +93,30 @@ pub fn all_ends(
     rows: &mut [u64],
     end: End,
     cells: &[u16],
-    s: &[u16],
-    p: &[u16],
-    o: &[u16],
+    subjects: &[u16],
+    predicates: &[u16],
+    objects: &[u16],
     index: &[u16],
     len: usize,
     n: usize,
 )
-    requires { ⌜ FactsOk (now s) (now p) (now o) (now index) len n × (wellFormed (now cells) ≡ true) × (endOk (now cells) end ≡ true) × Within n (now rows) ⌝ }
-    ensures { λ _. ⌜ now (rows .exit) ≡ rowsOf n (endsOf n (triplesOf (now (s .entry)) (now (p .entry)) (now (o .entry)) len) (endIn (now (cells .entry)) end)) (length (now (rows .entry))) ⌝ }
+    requires { ⌜ FactsOk (now subjects) (now predicates) (now objects) (now index) len n × (wellFormed (now cells) ≡ true) × (endOk (now cells) end ≡ true) × Within n (now rows) ⌝ }
+    ensures { λ _. ⌜ now (rows .exit) ≡ rowsOf n (endsOf n (triplesOf (now (subjects .entry)) (now (predicates .entry)) (now (objects .entry)) len) (endIn (now (cells .entry)) end)) (length (now (rows .entry))) ⌝ }
 {
     let last = (n + 63) / 64;
     for j in 0..last {
-        pass(rows, j, end, cells, s, p, o, index, len, n);
+        pass(
+            rows,
+            j,
+            end,
+            cells,
+            subjects,
+            predicates,
+            objects,
+            index,
+            len,
+            n,
+        );
     }
 }
 

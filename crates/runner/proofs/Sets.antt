@@ -13,7 +13,7 @@ use Rattle.base.proofs.Bools.{bool-cases, and-left}
 use Rattle.base.proofs.Bounded.{size-beyond}
 use Rattle.nodeset.specs.Words.{has, wordsOf}
 use Rattle.nodeset.proofs.Sets.{zeros}
-use Rattle.model.specs.Limits.{maxCount}
+use Rattle.model.specs.Limits.{maxCount, maxNodes, maxSteps}
 use Rattle.model.specs.Paths as model
 use Rattle.model.specs.Paths.{self, along, endsOf}
 use Rattle.model.specs.Shapes.{within, subset, from, objects, starts}
@@ -72,7 +72,7 @@ KindOk cs (Closed e) = Unit {0}
 KindOk cs (Facts pick) = Unit {0}
 
 -- ---- a right step meets it
-module _ (cs : List ℕ) (k : ℕ) (low : k < 512) where
+module _ (cs : List ℕ) (k : ℕ) (low : k < maxSteps) where
   -- two lower steps; a path entry and a lower step; a path entry as an END
   lower : (i j : ℕ) → (ltb i k && ltb j k) ≡ true → (i < 65536) × (j < 65536)
   lower i j w = let l : (i < k) × (j < k) = two-low i j k k w in (omega arith, omega arith)
@@ -123,7 +123,7 @@ module _ (cs index : List ℕ) (tables : Tables cs index) (vs : List ℤ) (ws : 
   unfolding kindSet kindOf inStep asked graphAt endsOf
   counted p j lo hi = nodes-ext _ _ n (λ v l.
       let q : ℕ → Bool = λ w. from (graphAt cs vs) (pathAt cs p) v w && has (drop (16 * j) ws) w in
-      ap (within lo (upperOf hi)) (ap (size q) (let z : 1024 ≡ n + (1024 - n) = omega (arith, sound cs (tables .ok) .nodes) in z) ∙ size-beyond q n (1024 - n) (λ w m. past v l w m)))
+      ap (within lo (upperOf hi)) (ap (size q) (let z : maxNodes ≡ n + (maxNodes - n) = omega (arith, sound cs (tables .ok) .nodes) in z) ∙ size-beyond q n (maxNodes - n) (λ w m. past v l w m)))
     where
       past : (v : ℕ) → v < n → (w : ℕ) → n ≤ w → (from (graphAt cs vs) (pathAt cs p) v w && has (drop (16 * j) ws) w) ≡ false
       past v l w m = bool-cases (λ t. from (graphAt cs vs) (pathAt cs p) v w ≡ t → (t && has (drop (16 * j) ws) w) ≡ false) (from (graphAt cs vs) (pathAt cs p) v w) (λ _ q. let z : w < n = ends-low cs index tables (along (pathAt cs p)) v w l q in absurd (omega arith)) (λ _ q. refl) refl

@@ -17,6 +17,7 @@ use Rattle.base.proofs.Numbered.{at-number, below-number}
 use Rattle.nodeset.specs.Words.{has, stored}
 use Rattle.nodeset.proofs.Sets.{length-wordsOf, has-take, has-of, length-of}
 use Rattle.nodeset.proofs.Stores.{stored-whole}
+use Rattle.model.specs.Limits.{maxNodes}
 use Rattle.tables.specs.Layout.{nodeCount}
 use Rattle.plan.specs.Layout.{stepAt, stepCount}
 use Rattle.plan.specs.Sets.{inStep, setBy, setAt}
@@ -59,7 +60,7 @@ module _ (cs : List ℕ) (vs : List ℤ) (ps : List ℕ) where
           ∙ take-at (setWords cs vs ps k) rest 16 (length-set-words k)
           ∙ ap (setWords cs vs ps) (sym e)
 
-  module _ (few : nodeCount cs ≤ 1024) where
+  module _ (few : nodeCount cs ≤ maxNodes) where
     part-has : (k j : ℕ) (rest : List ℕ) → j < k → (w : ℕ) → w < nodeCount cs → has (drop (16 * j) (stepWords cs vs ps k ++ rest)) w ≡ setAt cs vs ps j w
     unfolding setWords
     part-has k j rest l w lw =
@@ -101,7 +102,7 @@ module _ (cs : List ℕ) (vs : List ℤ) (ps : List ℕ) where
   unfolding filled
   length-filled ws room = omega (arith, room, length-append (stepWords cs vs ps (stepCount ps)) (drop (16 * stepCount ps) ws), length-steps (stepCount ps), length-drop (16 * stepCount ps) ws)
 
-  pub filled-has : nodeCount cs ≤ 1024 → (ws : List ℕ) (k : ℕ) → k < stepCount ps → (v : ℕ) → v < nodeCount cs → has (drop (16 * k) (filled cs vs ps ws)) v ≡ setAt cs vs ps k v
+  pub filled-has : nodeCount cs ≤ maxNodes → (ws : List ℕ) (k : ℕ) → k < stepCount ps → (v : ℕ) → v < nodeCount cs → has (drop (16 * k) (filled cs vs ps ws)) v ≡ setAt cs vs ps k v
   unfolding filled
   filled-has few ws k l v lv = part-has few (stepCount ps) k (drop (16 * stepCount ps) ws) l v lv
 

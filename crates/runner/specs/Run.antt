@@ -7,6 +7,7 @@ use lib.IntN.{ℤ}
 use lib.ListN.{length, take, drop}
 use Rattle.nodeset.specs.Words.{wordsOf}
 use Rattle.model.specs.Answers.{Answer, value, refusalOf, checked, unlessRefused}
+use Rattle.model.specs.Limits.{maxSteps}
 use Rattle.tables.specs.Layout.{cellCount, valueCount, nodeCount}
 use Rattle.tables.specs.Sizes.{longEnough}
 use Rattle.plan.specs.Layout.{planCount, stepCount}
@@ -15,9 +16,13 @@ use Rattle.plancheck.specs.Both.{bothWellFormed}
 use Rattle.runner.specs.declared.Ran.{Ran}
 use Rattle.runner.specs.declared.Ran.the-variants.{Done, Refused}
 
--- how long the work space must be: sixteen words for each of 512 steps
+-- how long the work space must be: sixteen words for each step
 abbrev pub workCount : ℕ
-workCount = 8192
+workCount = 16 * maxSteps
+
+-- how many nodes are few: their rows of ends are short
+abbrev pub fewNodes : ℕ
+fewNodes = 64
 
 -- ---- each case of the answer: done, with nothing more to say, or the refusal
 abbrev pub answerOf : Ran → Answer (Unit {0})

@@ -4,12 +4,15 @@
 // It sees neither reader nor compiler nor verdict: any tables and any plan may be handed in, and are checked before the first
 // word is written.
 use model::LinkNo;
+use model::MAX_NODES;
+use model::MAX_STEPS;
 use model::Refusal;
 use nodeset::NodeSet;
 use nodeset::store;
 use paths::INDEX_CELLS;
 use paths::index_table;
 use plan::PLAN_CELLS;
+use plan::steps;
 use plancheck::both_well_formed;
 use plancheck::reads::step_code;
 use plancheck::reads::step_count;
@@ -39,6 +42,7 @@ ghost use mathlib.Core.Path.{_≡_};
 ghost use mathlib.Core.Bool.{true};
 ghost use Prim.Native.Nat.{_*_, _<_, _≤_};
 ghost use lib.ListN.{length};
+ghost use Rattle.model.specs.Limits.{maxSteps};
 ghost use Rattle.tables.specs.Layout.{cellCount, nodeCount};
 ghost use Rattle.tables.specs.WellFormed.{wellFormed};
 ghost use Rattle.paths.specs.Facts.{Tables};
@@ -46,11 +50,18 @@ ghost use Rattle.stepsets.specs.Ends.{Held, RowsFor};
 ghost use Rattle.plan.specs.Layout.{stepAt};
 ghost use Rattle.plan.specs.WellFormed.{stepOk, planWellFormed};
 ghost use Rattle.runner.specs.Kinds.{kindOf};
-ghost use Rattle.runner.specs.Run.{workCount, answerOf, filled, runLong, runAnswer, workAfter};
+ghost use Rattle.runner.specs.Run.{workCount, answerOf, filled, runLong, runAnswer, workAfter, fewNodes};
 ghost use Rattle.runner.specs.Steps.{stepFrom, put};
 
-// How long the work space must be.
-pub const WORK_WORDS: usize = 8192;
+// How long the work space must be: sixteen words for each step.
+pub const WORK_WORDS: usize = 16 * MAX_STEPS;
+
+// How many nodes are few, and how long the rows of ends are: sixteen words for each of few nodes, and of all that there may be.
+const FEW_NODES: usize = 64;
+
+const FEW_ROWS: usize = 16 * FEW_NODES;
+
+const MANY_ROWS: usize = 16 * MAX_NODES;
 
 // What a run answers.
 pub enum Ran {
@@ -84,32 +95,32 @@ fn step_kind(plan: &[u16], k: usize) -> Kind
     let p = step_link(plan, k);
     let l = step_second_link(plan, k);
     match step_code(plan, k) {
-        0 => Kind::Whole, // All
-        1 => Kind::Empty, // None
-        2 => Kind::Node(Ask::Is(c), false), // Is
-        3 => Kind::Node(Ask::Is(c), true), // Isnot
-        4 => Kind::Node(Ask::Test(a), false), // Test
-        5 => Kind::Node(Ask::Test(a), true), // Untest
-        6 => Kind::Both(a, b), // Both
-        7 => Kind::Either(a, b), // Either
-        8 => Kind::Path(Ask::Count(lo, hi), a, b), // Count
-        9 => Kind::Path(Ask::Every, a, b), // Every
-        10 => Kind::Ends(Ask::Equal, false, a, l), // Equal
-        11 => Kind::Ends(Ask::Equal, true, a, l), // Unequal
-        12 => Kind::Ends(Ask::Apart, false, a, l), // Apart
-        13 => Kind::Ends(Ask::Apart, true, a, l), // Meet
-        14 => Kind::Closed(a), // Closed
-        15 => Kind::Facts(Pick::Open(a)), // Open
-        16 => Kind::Ends(Ask::Less, false, a, l), // Less
-        17 => Kind::Ends(Ask::Less, true, a, l), // Notless
-        18 => Kind::Ends(Ask::LessEq, false, a, l), // Lesseq
-        19 => Kind::Ends(Ask::LessEq, true, a, l), // Notlesseq
-        20 => Kind::Lang(false, a), // Onelang
-        21 => Kind::Lang(true, a), // Manylang
-        22 => Kind::Facts(Pick::From(p)), // From
-        23 => Kind::Facts(Pick::Into(p)), // Into
-        24 => Kind::Facts(Pick::Typed(c)), // Typed
-        25..=65535 => Kind::Empty,
+        steps::ALL => Kind::Whole,
+        steps::NONE => Kind::Empty,
+        steps::IS => Kind::Node(Ask::Is(c), false),
+        steps::ISNOT => Kind::Node(Ask::Is(c), true),
+        steps::TEST => Kind::Node(Ask::Test(a), false),
+        steps::UNTEST => Kind::Node(Ask::Test(a), true),
+        steps::BOTH => Kind::Both(a, b),
+        steps::EITHER => Kind::Either(a, b),
+        steps::COUNT => Kind::Path(Ask::Count(lo, hi), a, b),
+        steps::EVERY => Kind::Path(Ask::Every, a, b),
+        steps::EQUAL => Kind::Ends(Ask::Equal, false, a, l),
+        steps::UNEQUAL => Kind::Ends(Ask::Equal, true, a, l),
+        steps::APART => Kind::Ends(Ask::Apart, false, a, l),
+        steps::MEET => Kind::Ends(Ask::Apart, true, a, l),
+        steps::CLOSED => Kind::Closed(a),
+        steps::OPEN => Kind::Facts(Pick::Open(a)),
+        steps::LESS => Kind::Ends(Ask::Less, false, a, l),
+        steps::NOTLESS => Kind::Ends(Ask::Less, true, a, l),
+        steps::LESSEQ => Kind::Ends(Ask::LessEq, false, a, l),
+        steps::NOTLESSEQ => Kind::Ends(Ask::LessEq, true, a, l),
+        steps::ONELANG => Kind::Lang(false, a),
+        steps::MANYLANG => Kind::Lang(true, a),
+        steps::FROM => Kind::Facts(Pick::From(p)),
+        steps::INTO => Kind::Facts(Pick::Into(p)),
+        steps::TYPED => Kind::Facts(Pick::Typed(c)),
+        steps::UNKNOWN..=steps::LAST => Kind::Empty,
     }
 }
 
@@ -127,7 +138,7 @@ fn step_set(
     work: &[u64],
     k: usize,
 ) -> NodeSet
-    requires { ⌜ Tables (now cells) (now index) × (k < 512) × (stepOk (now cells) k (stepAt (now plan) k) ≡ true) × Held (now cells) (now end) (now first) × Held (now cells) (now link) (now second) ⌝ }
+    requires { ⌜ Tables (now cells) (now index) × (k < maxSteps) × (stepOk (now cells) k (stepAt (now plan) k) ≡ true) × Held (now cells) (now end) (now first) × Held (now cells) (now link) (now second) ⌝ }
     ensures { λ r. ⌜ r .words ≡ stepFrom (now (cells .entry)) (now (values .entry)) (now (plan .entry)) (now (work .entry)) k ⌝ }
     ensures { λ _. ⌜ Held (now (cells .entry)) (now (end .exit)) (now (first .exit)) ⌝ }
     ensures { λ _. ⌜ Held (now (cells .entry)) (now (link .exit)) (now (second .exit)) ⌝ }
@@ -162,7 +173,7 @@ fn run_step(
     plan: &[u16],
     k: usize,
 )
-    requires { ⌜ Tables (now cells) (now index) × (k < 512) × (stepOk (now cells) k (stepAt (now plan) k) ≡ true) × Held (now cells) (now end) (now first) × Held (now cells) (now link) (now second) × (workCount ≤ length (now work)) ⌝ }
+    requires { ⌜ Tables (now cells) (now index) × (k < maxSteps) × (stepOk (now cells) k (stepAt (now plan) k) ≡ true) × Held (now cells) (now end) (now first) × Held (now cells) (now link) (now second) × (workCount ≤ length (now work)) ⌝ }
     ensures { λ _. ⌜ now (work .exit) ≡ put (now (work .entry)) k (stepFrom (now (cells .entry)) (now (values .entry)) (now (plan .entry)) (now (work .entry)) k) ⌝ }
     ensures { λ _. ⌜ Held (now (cells .entry)) (now (end .exit)) (now (first .exit)) ⌝ }
     ensures { λ _. ⌜ Held (now (cells .entry)) (now (link .exit)) (now (second .exit)) ⌝ }
@@ -215,13 +226,13 @@ fn run_all(
     }
 }
 
-// All steps, with rows for at most 64 nodes; for as many as there may be. Few nodes need not clear the many rows.
+// All steps, with rows for few nodes; for as many as there may be. Few nodes need not clear the many rows.
 fn run_few(work: &mut [u64], cells: &[u16], index: &[u16], values: &[i64], plan: &[u16])
-    requires { ⌜ Tables (now cells) (now index) × (planWellFormed (now cells) (now plan) ≡ true) × (workCount ≤ length (now work)) × (nodeCount (now cells) ≤ 64) ⌝ }
+    requires { ⌜ Tables (now cells) (now index) × (planWellFormed (now cells) (now plan) ≡ true) × (workCount ≤ length (now work)) × (nodeCount (now cells) ≤ fewNodes) ⌝ }
     ensures { λ _. ⌜ now (work .exit) ≡ filled (now (cells .entry)) (now (values .entry)) (now (plan .entry)) (now (work .entry)) ⌝ }
 {
-    let mut first = [0u64; 1024];
-    let mut second = [0u64; 1024];
+    let mut first = [0u64; FEW_ROWS];
+    let mut second = [0u64; FEW_ROWS];
     run_all(work, &mut first, &mut second, cells, index, values, plan);
 }
 
@@ -229,8 +240,8 @@ fn run_many(work: &mut [u64], cells: &[u16], index: &[u16], values: &[i64], plan
     requires { ⌜ Tables (now cells) (now index) × (planWellFormed (now cells) (now plan) ≡ true) × (workCount ≤ length (now work)) ⌝ }
     ensures { λ _. ⌜ now (work .exit) ≡ filled (now (cells .entry)) (now (values .entry)) (now (plan .entry)) (now (work .entry)) ⌝ }
 {
-    let mut first = [0u64; 16384];
-    let mut second = [0u64; 16384];
+    let mut first = [0u64; MANY_ROWS];
+    let mut second = [0u64; MANY_ROWS];
     run_all(work, &mut first, &mut second, cells, index, values, plan);
 }
 
@@ -241,7 +252,7 @@ fn run_steps(work: &mut [u64], cells: &[u16], values: &[i64], plan: &[u16])
 {
     let mut index = [0u16; INDEX_CELLS];
     index_table(&mut index, cells);
-    if node_count(cells) <= 64 {
+    if node_count(cells) <= FEW_NODES {
         run_few(work, cells, &index, values, plan);
     } else {
         run_many(work, cells, &index, values, plan);

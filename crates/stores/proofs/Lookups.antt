@@ -16,6 +16,7 @@ use Rattle.model.specs.Graph.{Term, iri, blankNode, numeric, plain, tagged}
 use Rattle.model.specs.Books.{Book, Pool, nodes, links, types, langs, shapes, collect, newTerms, names}
 use Rattle.model.specs.Valid.{capacity, isResource}
 use Rattle.model.proofs.Lines.{names-within, terms-counted}
+use Rattle.model.specs.Limits.{maxNodes, nameBytes}
 use Rattle.tables.specs.Layout.{kindAt, nodeKinds}
 use Rattle.encoding.specs.Rows.{nodeRow}
 use Rattle.encoding.specs.Encode.{cellColumns, nameColumns, encodeNames, poolBase}
@@ -39,7 +40,7 @@ column-span cs t k h =
     }
 
 module _ (a : Book) (P : Prefix a) (t : List ℕ) where
-  pool-room : (p : Pool) → length (poolOf (names p a)) ≤ capacity p * 32
+  pool-room : (p : Pool) → length (poolOf (names p a)) ≤ capacity p * nameBytes
   pool-room p = omega (arith, pool-length (names p a) (P .names-made p), names-within p a (P .admissible-above))
 
   -- where a pool ends
@@ -60,7 +61,7 @@ module _ (a : Book) (P : Prefix a) (t : List ℕ) where
   unfolding cellTable capacity
   kind-held v l =
       let cs = cellColumns (soFar a) in
-      let n : length (collect newTerms a) ≤ 1024 = omega (arith, terms-counted a, names-within nodes a (P .admissible-above)) in
+      let n : length (collect newTerms a) ≤ maxNodes = omega (arith, terms-counted a, names-within nodes a (P .admissible-above)) in
       let h : v < length (collect newTerms a) = omega (arith, terms-counted a) in
       List·getD-append (flat 0 cs) t 0 (nodeKinds + v) (omega (arith, length-flat 0 cs))
       ∙ at-column 0 cs 1 (λ x. nodeRow x .kind) (collect newTerms a) refl n v iri h

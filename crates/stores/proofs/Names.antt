@@ -16,6 +16,7 @@ use Rattle.text.proofs.Places.{pool-append, pool-length}
 use Rattle.model.specs.Books.{Name, Line, link, type, lang, node, fact, shape, rule, Book, Pool, nodes, links, types, langs, shapes, poolNumber, joins, newNames, names}
 use Rattle.model.specs.Valid.{capacity, hasRoom, lineOk}
 use Rattle.model.proofs.Lines.{names-snoc}
+use Rattle.model.specs.Limits.{maxNodes, maxLinks, maxTypes, maxLangs, maxShapes, nameBytes}
 use Rattle.encoding.specs.Encode.{col, nameColumns, encodeNames, poolBase}
 use Rattle.grammar.specs.Valid.{newName, namesOk, validLine}
 use Rattle.stores.specs.Lines.{putName, lineNames}
@@ -25,11 +26,11 @@ use Rattle.stores.proofs.Prefixes.{Prefix, line-right, line-named, new-
 -- the pools in their columns
 abbrev pub poolColumns : (Pool → List Name) → List (Column ℕ)
 poolColumns f =
-    col 32768 (poolOf (f nodes))
-    ∷ col 8192 (poolOf (f links))
-    ∷ col 1024 (poolOf (f types))
-    ∷ col 1024 (poolOf (f langs))
-    ∷ col 2048 (poolOf (f shapes))
+    col (maxNodes * nameBytes) (poolOf (f nodes))
+    ∷ col (maxLinks * nameBytes) (poolOf (f links))
+    ∷ col (maxTypes * nameBytes) (poolOf (f types))
+    ∷ col (maxLangs * nameBytes) (poolOf (f langs))
+    ∷ col (maxShapes * nameBytes) (poolOf (f shapes))
     ∷ []
 
 -- a name that has room
@@ -37,19 +38,19 @@ module _ (f : Pool → List Name) (t : List ℕ) where
   abbrev pub Room : Pool → Name → Type 0
   Room p n = (allNames (f p) ≡ true) × (isName n ≡ true) × (length (f p) < capacity p)
 
-  at-next : (p : Pool) (n : Name) → Room p n → length (f p) * 32 ≡ length (poolOf (f p))
+  at-next : (p : Pool) (n : Name) → Room p n → length (f p) * nameBytes ≡ length (poolOf (f p))
   at-next p n r = sym (pool-length (f p) (r .0))
 
-  in-width : (p : Pool) (n : Name) → Room p n → length (f p) * 32 + length (padded n) ≤ capacity p * 32
+  in-width : (p : Pool) (n : Name) → Room p n → length (f p) * nameBytes + length (padded n) ≤ capacity p * nameBytes
   in-width p n r = let h = r .2 in omega (arith, padded-length n (let s = name-short n (r .1) in omega arith))
 
   pub put-name : (p : Pool) (n : Name) → Room p n → putName p (length (f p)) n (flat 0 (poolColumns f) ++ t) ≡ flat 0 (extend (poolColumns f) (poolNumber p) (padded n)) ++ t
   unfolding putName poolBase capacity
-  put-name nodes n r = store-next (poolColumns f) t 0 (length (f nodes) * 32) (padded n) (at-next nodes n r) (in-width nodes n r)
-  put-name links n r = store-next (poolColumns f) t 1 (length (f links) * 32) (padded n) (at-next links n r) (in-width links n r)
-  put-name types n r = store-next (poolColumns f) t 2 (length (f types) * 32) (padded n) (at-next types n r) (in-width types n r)
-  put-name langs n r = store-next (poolColumns f) t 3 (length (f langs) * 32) (padded n) (at-next langs n r) (in-width langs n r)
-  put-name shapes n r = store-next (poolColumns f) t 4 (length (f shapes) * 32) (padded n) (at-next shapes n r) (in-width shapes n r)
+  put-name nodes n r = store-next (poolColumns f) t 0 (length (f nodes) * nameBytes) (padded n) (at-next nodes n r) (in-width nodes n r)
+  put-name links n r = store-next (poolColumns f) t 1 (length (f links) * nameBytes) (padded n) (at-next links n r) (in-width links n r)
+  put-name types n r = store-next (poolColumns f) t 2 (length (f types) * nameBytes) (padded n) (at-next types n r) (in-width types n r)
+  put-name langs n r = store-next (poolColumns f) t 3 (length (f langs) * nameBytes) (padded n) (at-next langs n r) (in-width langs n r)
+  put-name shapes n r = store-next (poolColumns f) t 4 (length (f shapes) * nameBytes) (padded n) (at-next shapes n r) (in-width shapes n r)
 
 pool-snoc : (ws : List Name) (n : Name) → poolOf (ws ++ (n ∷ [])) ≡ poolOf ws ++ padded n
 unfolding poolOf

@@ -8,6 +8,7 @@ use Rattle.model.specs.Paths.{Path, predicate, inverse, sequence, alternative, 
 use Rattle.model.specs.Shapes.{Test, nodeKind, datatype, languageIn, minInclusive, minExclusive, maxInclusive, maxExclusive, Shape, top, hasShape, hasValue, conj, disj, neg, test, count, forAll, equals, disjoint, closed, lessThan, lessThanEq, uniqueLang}
 use Rattle.model.specs.Sizes.{pathEntries}
 use Rattle.tables.specs.Layout.{noNumber, pathCodes, pathFirsts, pathSeconds, formCodes, formFirsts, formSeconds, formThirds, formFourths, items, formValues}
+use Rattle.tables.specs.Codes as codes
 use Rattle.encoding.specs.Flatten.{kindCode, upperNumber}
 use Rattle.grammar.specs.Syntax.{path, end, form}
 use Rattle.grammar.specs.Reading.{Begun, after}
@@ -27,10 +28,10 @@ putItems i (k ∷ ks) cs = putItems (i + 1) ks (set cs (items + i) k)
 
 -- a path after n path entries
 unfoldable pub pathCells : ℕ → Path → List ℕ → List ℕ
-pathCells n (predicate p) cs = putPath n 0 p 0 cs
-pathCells n (inverse e) cs = let m = n + pathEntries e in putPath m 1 (m - 1) 0 (pathCells n e cs)
-pathCells n (sequence d e) cs = let m = n + pathEntries d in let l = m + pathEntries e in putPath l 2 (m - 1) (l - 1) (pathCells m e (pathCells n d cs))
-pathCells n (alternative d e) cs = let m = n + pathEntries d in let l = m + pathEntries e in putPath l 3 (m - 1) (l - 1) (pathCells m e (pathCells n d cs))
+pathCells n (predicate p) cs = putPath n codes.pathLink p 0 cs
+pathCells n (inverse e) cs = let m = n + pathEntries e in putPath m codes.pathInv (m - 1) 0 (pathCells n e cs)
+pathCells n (sequence d e) cs = let m = n + pathEntries d in let l = m + pathEntries e in putPath l codes.pathSeq (m - 1) (l - 1) (pathCells m e (pathCells n d cs))
+pathCells n (alternative d e) cs = let m = n + pathEntries d in let l = m + pathEntries e in putPath l codes.pathAlt (m - 1) (l - 1) (pathCells m e (pathCells n d cs))
 
 unfoldable pub endCells : ℕ → End → List ℕ → List ℕ
 endCells n self cs = cs
@@ -42,31 +43,31 @@ endOperand n self = noNumber
 endOperand n (along e) = n - 1
 
 unfoldable pub testCells : Begun → Test → List ℕ → List ℕ
-testCells n (nodeKind k) cs = putForm (n .forms) 6 (kindCode k) 0 0 0 cs
-testCells n (datatype t) cs = putForm (n .forms) 7 t 0 0 0 cs
-testCells n (languageIn ls) cs = putForm (n .forms) 8 (n .items) (length ls) 0 0 (putItems (n .items) ls cs)
-testCells n (minInclusive x) cs = putForm (n .forms) 9 0 0 0 0 cs
-testCells n (minExclusive x) cs = putForm (n .forms) 10 0 0 0 0 cs
-testCells n (maxInclusive x) cs = putForm (n .forms) 11 0 0 0 0 cs
-testCells n (maxExclusive x) cs = putForm (n .forms) 12 0 0 0 0 cs
+testCells n (nodeKind k) cs = putForm (n .forms) codes.formKind (kindCode k) 0 0 0 cs
+testCells n (datatype t) cs = putForm (n .forms) codes.formDatatype t 0 0 0 cs
+testCells n (languageIn ls) cs = putForm (n .forms) codes.formLang (n .items) (length ls) 0 0 (putItems (n .items) ls cs)
+testCells n (minInclusive x) cs = putForm (n .forms) codes.formFrom 0 0 0 0 cs
+testCells n (minExclusive x) cs = putForm (n .forms) codes.formAbove 0 0 0 0 cs
+testCells n (maxInclusive x) cs = putForm (n .forms) codes.formTo 0 0 0 0 cs
+testCells n (maxExclusive x) cs = putForm (n .forms) codes.formBelow 0 0 0 0 cs
 
 -- a shape: after f and after p are the numbers that have ended with its parts
 unfoldable pub shapeCells : Begun → Shape → List ℕ → List ℕ
-shapeCells n top cs = putForm (n .forms) 0 0 0 0 0 cs
-shapeCells n (hasValue c) cs = putForm (n .forms) 1 c 0 0 0 cs
-shapeCells n (hasShape s) cs = putForm (n .forms) 2 s 0 0 0 cs
-shapeCells n (conj φ ψ) cs = let m = after form φ n in let l = after form ψ m in putForm (l .forms) 3 (m .forms - 1) (l .forms - 1) 0 0 (shapeCells m ψ (shapeCells n φ cs))
-shapeCells n (disj φ ψ) cs = let m = after form φ n in let l = after form ψ m in putForm (l .forms) 4 (m .forms - 1) (l .forms - 1) 0 0 (shapeCells m ψ (shapeCells n φ cs))
-shapeCells n (neg φ) cs = let m = after form φ n in putForm (m .forms) 5 (m .forms - 1) 0 0 0 (shapeCells n φ cs)
+shapeCells n top cs = putForm (n .forms) codes.formTrue 0 0 0 0 cs
+shapeCells n (hasValue c) cs = putForm (n .forms) codes.formIs c 0 0 0 cs
+shapeCells n (hasShape s) cs = putForm (n .forms) codes.formShape s 0 0 0 cs
+shapeCells n (conj φ ψ) cs = let m = after form φ n in let l = after form ψ m in putForm (l .forms) codes.formAnd (m .forms - 1) (l .forms - 1) 0 0 (shapeCells m ψ (shapeCells n φ cs))
+shapeCells n (disj φ ψ) cs = let m = after form φ n in let l = after form ψ m in putForm (l .forms) codes.formOr (m .forms - 1) (l .forms - 1) 0 0 (shapeCells m ψ (shapeCells n φ cs))
+shapeCells n (neg φ) cs = let m = after form φ n in putForm (m .forms) codes.formNot (m .forms - 1) 0 0 0 (shapeCells n φ cs)
 shapeCells n (test t) cs = testCells n t cs
-shapeCells n (count lo hi e ψ) cs = let m = after path e n in let l = after form ψ m in putForm (l .forms) 13 (m .paths - 1) (l .forms - 1) lo (upperNumber hi) (shapeCells m ψ (pathCells (n .paths) e cs))
-shapeCells n (forAll e ψ) cs = let m = after path e n in let l = after form ψ m in putForm (l .forms) 14 (m .paths - 1) (l .forms - 1) 0 0 (shapeCells m ψ (pathCells (n .paths) e cs))
-shapeCells n (equals f p) cs = let m = after end f n in putForm (n .forms) 15 (endOperand (m .paths) f) p 0 0 (endCells (n .paths) f cs)
-shapeCells n (disjoint f p) cs = let m = after end f n in putForm (n .forms) 16 (endOperand (m .paths) f) p 0 0 (endCells (n .paths) f cs)
-shapeCells n (closed ps) cs = putForm (n .forms) 17 (n .items) (length ps) 0 0 (putItems (n .items) ps cs)
-shapeCells n (lessThan e p) cs = let m = after path e n in putForm (n .forms) 18 (m .paths - 1) p 0 0 (pathCells (n .paths) e cs)
-shapeCells n (lessThanEq e p) cs = let m = after path e n in putForm (n .forms) 19 (m .paths - 1) p 0 0 (pathCells (n .paths) e cs)
-shapeCells n (uniqueLang e) cs = let m = after path e n in putForm (n .forms) 20 (m .paths - 1) 0 0 0 (pathCells (n .paths) e cs)
+shapeCells n (count lo hi e ψ) cs = let m = after path e n in let l = after form ψ m in putForm (l .forms) codes.formCount (m .paths - 1) (l .forms - 1) lo (upperNumber hi) (shapeCells m ψ (pathCells (n .paths) e cs))
+shapeCells n (forAll e ψ) cs = let m = after path e n in let l = after form ψ m in putForm (l .forms) codes.formAll (m .paths - 1) (l .forms - 1) 0 0 (shapeCells m ψ (pathCells (n .paths) e cs))
+shapeCells n (equals f p) cs = let m = after end f n in putForm (n .forms) codes.formEqual (endOperand (m .paths) f) p 0 0 (endCells (n .paths) f cs)
+shapeCells n (disjoint f p) cs = let m = after end f n in putForm (n .forms) codes.formApart (endOperand (m .paths) f) p 0 0 (endCells (n .paths) f cs)
+shapeCells n (closed ps) cs = putForm (n .forms) codes.formClosed (n .items) (length ps) 0 0 (putItems (n .items) ps cs)
+shapeCells n (lessThan e p) cs = let m = after path e n in putForm (n .forms) codes.formLess (m .paths - 1) p 0 0 (pathCells (n .paths) e cs)
+shapeCells n (lessThanEq e p) cs = let m = after path e n in putForm (n .forms) codes.formLesseq (m .paths - 1) p 0 0 (pathCells (n .paths) e cs)
+shapeCells n (uniqueLang e) cs = let m = after path e n in putForm (n .forms) codes.formOnelang (m .paths - 1) 0 0 0 (pathCells (n .paths) e cs)
 
 -- V of form entry e
 unfoldable pub putValue : ℕ → ℤ → List ℤ → List ℤ

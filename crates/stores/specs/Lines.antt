@@ -9,6 +9,7 @@ use Rattle.text.specs.Pool.{padded, store}
 use Rattle.model.specs.Graph.{Term, Triple}
 use Rattle.model.specs.Rules.{Rule}
 use Rattle.model.specs.Books.{Name, Line, link, type, lang, node, fact, shape, rule, Book, Pool, nodes, links, types, langs, shapes, names, collect, newTriples, rules}
+use Rattle.model.specs.Limits.{nameBytes}
 use Rattle.tables.specs.Layout.{nodeKinds, nodeTypes, nodeLangs, subjects, predicates, objects, roots, ruleShapes, ruleTargets, ruleOperands, nameCount, cellCount, valueCount}
 use Rattle.tables.specs.Sizes.{cleared}
 use Rattle.encoding.specs.Rows.{nodeRow, targetCode, targetOperand}
@@ -19,7 +20,7 @@ use Rattle.stores.specs.Entries.{shapeCells, shapeValues}
 
 -- name number k of a pool
 unfoldable pub putName : Pool → ℕ → Name → List ℕ → List ℕ
-putName p k n ns = store ns (poolBase p + k * 32) (padded n)
+putName p k n ns = store ns (poolBase p + k * nameBytes) (padded n)
 
 unfoldable pub putNode : ℕ → Term → List ℕ → List ℕ
 putNode v t cs = set (set (set cs (nodeKinds + v) (nodeRow t .kind)) (nodeTypes + v) (nodeRow t .type)) (nodeLangs + v) (nodeRow t .lang)

@@ -1,5 +1,6 @@
 // Refusal 9: whether tables that somebody lends are well formed. Operations: well_formed; it takes any content of any length,
 // and reads some fifty thousand cells at the most.
+use tables::codes;
 use tables::layout::NO_NUMBER;
 use tables::layout::OBJECTS;
 use tables::layout::PREDICATES;
@@ -43,10 +44,13 @@ fn node_ok(cells: &[u16], v: usize) -> bool
     ensures { λ r. ⌜ r ≡ nodeOk (now (cells .entry)) v ⌝ }
 {
     match reads::node_kind(cells, v) {
-        0 | 1 => true,
-        2 | 3 => below(reads::node_type(cells, v), reads::type_count(cells)),
-        4 => below(reads::node_lang(cells, v), reads::lang_count(cells)),
-        5..=65535 => false,
+        codes::NODE_THING | codes::NODE_BLANK => true,
+        codes::NODE_NUMBER | codes::NODE_TEXT => below(
+            reads::node_type(cells, v),
+            reads::type_count(cells),
+        ),
+        codes::NODE_WORDS => below(reads::node_lang(cells, v), reads::lang_count(cells)),
+        codes::NODE_UNKNOWN..=codes::LAST => false,
     }
 }
 
@@ -106,10 +110,10 @@ fn path_ok(cells: &[u16], e: usize) -> bool
     let a = reads::path_first(cells, e);
     let b = reads::path_second(cells, e);
     match reads::path_code(cells, e) {
-        0 => a < reads::link_count(cells),
-        1 => a < e,
-        2 | 3 => (a < e) & (b < e),
-        4..=65535 => false,
+        codes::PATH_LINK => a < reads::link_count(cells),
+        codes::PATH_INV => a < e,
+        codes::PATH_SEQ | codes::PATH_ALT => (a < e) & (b < e),
+        codes::PATH_UNKNOWN..=codes::LAST => false,
     }
 }
 
@@ -162,16 +166,16 @@ fn entry_ok(cells: &[u16], e: usize) -> bool
     let a = reads::form_first(cells, e);
     let b = reads::form_second(cells, e);
     match reads::form_code(cells, e) {
-        0 => true,
-        1 => below(a, reads::node_count(cells)),
-        2 => shape_before(cells, a, e),
-        3 | 4 => below(a, e) & below(b, e),
-        5 => below(a, e),
-        6 => a < 3,
-        7 => below(a, reads::type_count(cells)),
-        8 => items_ok(cells, reads::lang_count(cells), a, b),
-        9..=12 => true,
-        13 => count_ok(
+        codes::FORM_TRUE => true,
+        codes::FORM_IS => below(a, reads::node_count(cells)),
+        codes::FORM_SHAPE => shape_before(cells, a, e),
+        codes::FORM_AND | codes::FORM_OR => below(a, e) & below(b, e),
+        codes::FORM_NOT => below(a, e),
+        codes::FORM_KIND => a < codes::KIND_UNKNOWN,
+        codes::FORM_DATATYPE => below(a, reads::type_count(cells)),
+        codes::FORM_LANG => items_ok(cells, reads::lang_count(cells), a, b),
+        codes::FORM_FROM..=codes::FORM_BELOW => true,
+        codes::FORM_COUNT => count_ok(
             cells,
             e,
             a,
@@ -179,12 +183,14 @@ fn entry_ok(cells: &[u16], e: usize) -> bool
             reads::form_third(cells, e),
             reads::form_fourth(cells, e),
         ),
-        14 => below(a, reads::path_count(cells)) & below(b, e),
-        15 | 16 => end_ok(cells, a) & below(b, reads::link_count(cells)),
-        17 => items_ok(cells, reads::link_count(cells), a, b),
-        18 | 19 => below(a, reads::path_count(cells)) & below(b, reads::link_count(cells)),
-        20 => below(a, reads::path_count(cells)),
-        21..=65535 => false,
+        codes::FORM_ALL => below(a, reads::path_count(cells)) & below(b, e),
+        codes::FORM_EQUAL | codes::FORM_APART => end_ok(cells, a)
+            & below(b, reads::link_count(cells)),
+        codes::FORM_CLOSED => items_ok(cells, reads::link_count(cells), a, b),
+        codes::FORM_LESS | codes::FORM_LESSEQ => below(a, reads::path_count(cells))
+            & below(b, reads::link_count(cells)),
+        codes::FORM_ONELANG => below(a, reads::path_count(cells)),
+        codes::FORM_UNKNOWN..=codes::LAST => false,
     }
 }
 
@@ -197,9 +203,9 @@ fn rule_ok(cells: &[u16], k: usize) -> bool
     let c = reads::rule_node(cells, k);
     let p = reads::rule_link(cells, k);
     match reads::rule_target(cells, k) {
-        0 | 3 => below(c.0, reads::node_count(cells)),
-        1 | 2 => below(p.0, reads::link_count(cells)),
-        4..=65535 => false,
+        codes::TARGET_NODE | codes::TARGET_CLASS => below(c.0, reads::node_count(cells)),
+        codes::TARGET_SUBJECTS | codes::TARGET_OBJECTS => below(p.0, reads::link_count(cells)),
+        codes::TARGET_UNKNOWN..=codes::LAST => false,
     }
 }
 

@@ -1,8 +1,10 @@
--- Where everything stands in the three lent tables: names (bytes), cells (16 bits) and values (signed, 64 bits).
-use Prim.Native.Nat.{ℕ, _+_}
+-- Where everything stands in the three lent tables: names (bytes), cells (16 bits) and values (signed, 64 bits). A column
+-- begins where the one before it ends.
+use Prim.Native.Nat.{ℕ, _+_, _*_}
 use mathlib.Core.List.{List}
 use lib.ListN.{getD}
 use lib.IntN.{ℤ, pos}
+use Rattle.model.specs.Limits.{maxNodes, maxLinks, maxTypes, maxLangs, maxShapes, maxFacts, maxPaths, maxForms, maxItems, maxRules, nameBytes}
 
 -- ---- cells: ten counts, then columns
 -- per node: its kind, datatype and language
@@ -10,91 +12,91 @@ abbrev pub nodeKinds : ℕ
 nodeKinds = 10
 
 abbrev pub nodeTypes : ℕ
-nodeTypes = 1034
+nodeTypes = nodeKinds + maxNodes
 
 abbrev pub nodeLangs : ℕ
-nodeLangs = 2058
+nodeLangs = nodeTypes + maxNodes
 
 -- per triple
 abbrev pub subjects : ℕ
-subjects = 3082
+subjects = nodeLangs + maxNodes
 
 abbrev pub predicates : ℕ
-predicates = 7178
+predicates = subjects + maxFacts
 
 abbrev pub objects : ℕ
-objects = 11274
+objects = predicates + maxFacts
 
 -- per path entry: its code and two operands
 abbrev pub pathCodes : ℕ
-pathCodes = 15370
+pathCodes = objects + maxFacts
 
 abbrev pub pathFirsts : ℕ
-pathFirsts = 15498
+pathFirsts = pathCodes + maxPaths
 
 abbrev pub pathSeconds : ℕ
-pathSeconds = 15626
+pathSeconds = pathFirsts + maxPaths
 
 -- per form entry: its code and four operands
 abbrev pub formCodes : ℕ
-formCodes = 15754
+formCodes = pathSeconds + maxPaths
 
 abbrev pub formFirsts : ℕ
-formFirsts = 15866
+formFirsts = formCodes + maxForms
 
 abbrev pub formSeconds : ℕ
-formSeconds = 15978
+formSeconds = formFirsts + maxForms
 
 abbrev pub formThirds : ℕ
-formThirds = 16090
+formThirds = formSeconds + maxForms
 
 abbrev pub formFourths : ℕ
-formFourths = 16202
+formFourths = formThirds + maxForms
 
 -- the items of lists
 abbrev pub items : ℕ
-items = 16314
+items = formFourths + maxForms
 
 -- per shape: the form entry that it begins with
 abbrev pub roots : ℕ
-roots = 16442
+roots = items + maxItems
 
 -- per rule: its shape, and its target's code and operand
 abbrev pub ruleShapes : ℕ
-ruleShapes = 16506
+ruleShapes = roots + maxShapes
 
 abbrev pub ruleTargets : ℕ
-ruleTargets = 16538
+ruleTargets = ruleShapes + maxRules
 
 abbrev pub ruleOperands : ℕ
-ruleOperands = 16570
+ruleOperands = ruleTargets + maxRules
 
 -- how many cells there are
 abbrev pub cellCount : ℕ
-cellCount = 16602
+cellCount = ruleOperands + maxRules
 
 -- ---- values: the number of each node, then V of each form entry
 abbrev pub formValues : ℕ
-formValues = 1024
+formValues = maxNodes
 
 abbrev pub valueCount : ℕ
-valueCount = 1136
+valueCount = formValues + maxForms
 
--- ---- names: 32 bytes for each place of each pool
+-- ---- names: those of each pool, in their bytes
 abbrev pub linkNames : ℕ
-linkNames = 32768
+linkNames = maxNodes * nameBytes
 
 abbrev pub typeNames : ℕ
-typeNames = 40960
+typeNames = linkNames + maxLinks * nameBytes
 
 abbrev pub langNames : ℕ
-langNames = 41984
+langNames = typeNames + maxTypes * nameBytes
 
 abbrev pub shapeNames : ℕ
-shapeNames = 43008
+shapeNames = langNames + maxLangs * nameBytes
 
 abbrev pub nameCount : ℕ
-nameCount = 45056
+nameCount = shapeNames + maxShapes * nameBytes
 
 -- `*` for HI, and `id` for END
 abbrev pub noNumber : ℕ

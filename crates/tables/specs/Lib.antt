@@ -1,4 +1,5 @@
 pub mod Layout
+pub mod Codes
 pub mod Entries
 pub mod Decode
 pub mod WellFormed

@@ -1,67 +1,79 @@
-// Where each column begins and how long each table is; specs/Layout.antt has the same numbers, docs/LAYOUT.md shows them.
+// Where each column begins and how long each table is: a column begins where the one before it ends. specs/Layout.antt has the
+// same sums, docs/LAYOUT.md shows the numbers.
+use model::MAX_FACTS;
+use model::MAX_FORMS;
+use model::MAX_ITEMS;
+use model::MAX_LANGS;
+use model::MAX_LINKS;
+use model::MAX_NODES;
+use model::MAX_PATHS;
+use model::MAX_RULES;
+use model::MAX_SHAPES;
+use model::MAX_TYPES;
+use model::NAME_BYTES;
 
 // cells: ten counts, then per node
 pub const NODE_KINDS: usize = 10;
 
-pub const NODE_TYPES: usize = 1034;
+pub const NODE_TYPES: usize = NODE_KINDS + MAX_NODES;
 
-pub const NODE_LANGS: usize = 2058;
+pub const NODE_LANGS: usize = NODE_TYPES + MAX_NODES;
 
 // per triple
-pub const SUBJECTS: usize = 3082;
+pub const SUBJECTS: usize = NODE_LANGS + MAX_NODES;
 
-pub const PREDICATES: usize = 7178;
+pub const PREDICATES: usize = SUBJECTS + MAX_FACTS;
 
-pub const OBJECTS: usize = 11274;
+pub const OBJECTS: usize = PREDICATES + MAX_FACTS;
 
 // per path entry
-pub const PATH_CODES: usize = 15370;
+pub const PATH_CODES: usize = OBJECTS + MAX_FACTS;
 
-pub const PATH_FIRSTS: usize = 15498;
+pub const PATH_FIRSTS: usize = PATH_CODES + MAX_PATHS;
 
-pub const PATH_SECONDS: usize = 15626;
+pub const PATH_SECONDS: usize = PATH_FIRSTS + MAX_PATHS;
 
 // per form entry
-pub const FORM_CODES: usize = 15754;
+pub const FORM_CODES: usize = PATH_SECONDS + MAX_PATHS;
 
-pub const FORM_FIRSTS: usize = 15866;
+pub const FORM_FIRSTS: usize = FORM_CODES + MAX_FORMS;
 
-pub const FORM_SECONDS: usize = 15978;
+pub const FORM_SECONDS: usize = FORM_FIRSTS + MAX_FORMS;
 
-pub const FORM_THIRDS: usize = 16090;
+pub const FORM_THIRDS: usize = FORM_SECONDS + MAX_FORMS;
 
-pub const FORM_FOURTHS: usize = 16202;
+pub const FORM_FOURTHS: usize = FORM_THIRDS + MAX_FORMS;
 
 // list items
-pub const ITEMS: usize = 16314;
+pub const ITEMS: usize = FORM_FOURTHS + MAX_FORMS;
 
 // per shape
-pub const ROOTS: usize = 16442;
+pub const ROOTS: usize = ITEMS + MAX_ITEMS;
 
 // per rule
-pub const RULE_SHAPES: usize = 16506;
+pub const RULE_SHAPES: usize = ROOTS + MAX_SHAPES;
 
-pub const RULE_TARGETS: usize = 16538;
+pub const RULE_TARGETS: usize = RULE_SHAPES + MAX_RULES;
 
-pub const RULE_OPERANDS: usize = 16570;
+pub const RULE_OPERANDS: usize = RULE_TARGETS + MAX_RULES;
 
-pub const CELLS: usize = 16602;
+pub const CELLS: usize = RULE_OPERANDS + MAX_RULES;
 
 // values: per node, then per form entry
-pub const FORM_VALUES: usize = 1024;
+pub const FORM_VALUES: usize = MAX_NODES;
 
-pub const VALUES: usize = 1136;
+pub const VALUES: usize = FORM_VALUES + MAX_FORMS;
 
-// names: 32 bytes for each node, then each link, type, lang and shape
-pub const LINK_NAMES: usize = 32768;
+// names: those of nodes, then of links, types, langs and shapes
+pub const LINK_NAMES: usize = MAX_NODES * NAME_BYTES;
 
-pub const TYPE_NAMES: usize = 40960;
+pub const TYPE_NAMES: usize = LINK_NAMES + MAX_LINKS * NAME_BYTES;
 
-pub const LANG_NAMES: usize = 41984;
+pub const LANG_NAMES: usize = TYPE_NAMES + MAX_TYPES * NAME_BYTES;
 
-pub const SHAPE_NAMES: usize = 43008;
+pub const SHAPE_NAMES: usize = LANG_NAMES + MAX_LANGS * NAME_BYTES;
 
-pub const NAMES: usize = 45056;
+pub const NAMES: usize = SHAPE_NAMES + MAX_SHAPES * NAME_BYTES;
 
 // `*` for HI, and `id` for END
 pub const NO_NUMBER: u16 = 65535;

@@ -20,6 +20,7 @@ use Rattle.text.specs.Decimals.{digit, valueFrom, isMag, magOf, positive
 use Rattle.text.specs.declared.Number.{Number}
 use Rattle.text.specs.declared.Bound.{Bound}
 use Rattle.text.specs.declared.Mag.{Mag}
+use Rattle.model.specs.Limits.{maxCount}
 
 -- ---- digits of a part
 module _ (s : List ℕ) (t i : ℕ) (h : i < t) (k : t ≤ length s) where
@@ -132,7 +133,7 @@ module _ (s : List ℕ) (e : magOf s ≡ Mag.Over) where
 
   pub bound-long : boundOf s ≡ Bound.Over
   unfolding boundOf
-  bound-long = let m = over-mag s e in rw (m .0, lt-leb (valueFrom 0 s) 1024 (omega arith))
+  bound-long = let m = over-mag s e in rw (m .0, lt-leb (valueFrom 0 s) maxCount (omega arith))
 
 module _ (s : List ℕ) (v : ℕ) (e : magOf s ≡ Mag.Is v) where
   pub positive-is : positiveOf s ≡ cond (ltb v 9223372036854775808) (Number.Value (pos v)) Number.Range
@@ -147,7 +148,7 @@ module _ (s : List ℕ) (v : ℕ) (e : magOf s ≡ Mag.Is v) where
   unfolding negativeOf
   negative-is n = let m = is-mag s v e in rw (m .0, m .1, ne-eqb v 0 n) (ap (λ (z : ℤ). cond (leb v 9223372036854775808) (Number.Value z) Number.Range) (neg-suc v n))
 
-  pub bound-is : boundOf s ≡ cond (leb v 1024) (Bound.Value v) Bound.Over
+  pub bound-is : boundOf s ≡ cond (leb v maxCount) (Bound.Value v) Bound.Over
   unfolding boundOf
   bound-is = let m = is-mag s v e in rw (m .0, m .1)
 

@@ -17,6 +17,7 @@ use Rattle.chains.proofs.Chains.{last-le, last-key}
 use Rattle.text.specs.Pool.{padded, hashOf, nameKey, firstFrom, place, find}
 use Rattle.text.specs.declared.Found.{Found}
 use Rattle.text.specs.declared.Found.the-variants.{At, Nothing}
+use Rattle.model.specs.Limits.{nameBytes}
 
 -- ---- the hash
 module _ (s : List ℕ) (t : ℕ) where
@@ -40,7 +41,7 @@ hash-append n (x ∷ w) = rw (hash-append n w)
 
 pub hash-padded : (w : List ℕ) → hashOf (padded w) ≡ hashOf w
 unfolding padded
-hash-padded w = hash-append (32 - length w) w
+hash-padded w = hash-append (nameBytes - length w) w
 
 -- ---- the first match, from the last item on downward
 -- what was found, or f where that is nothing

@@ -20,6 +20,7 @@ use Rattle.text.specs.Decimals.{digitsOf, decimal, signed, digit, valueF
 use Rattle.text.specs.declared.Number.{Number}
 use Rattle.text.specs.declared.Bound.{Bound}
 use Rattle.text.proofs.Words.{plain, digits-plain}
+use Rattle.model.specs.Limits.{maxCount}
 
 -- ---- the two equations of `decimal`
 -- any bound above n gives the same digits
@@ -291,7 +292,7 @@ number-signed z e = number-value (signed z) z .1 (refl, e)
 
 -- ---- bounds
 module _ where
-  bound-forth : (n : ℕ) → boundOf (decimal n) ≡ cond (leb n 1024) (Bound.Value n) Bound.Over
+  bound-forth : (n : ℕ) → boundOf (decimal n) ≡ cond (leb n maxCount) (Bound.Value n) Bound.Over
   unfolding boundOf
   bound-forth n = rw (decimal-mag n, value-decimal n)
 
@@ -307,23 +308,23 @@ tell-bound (Bound.Value n) = 0
 tell-bound Bound.Over = 1
 tell-bound Bound.Not = 2
 
-bounds : Reading decimal (λ n. leb n 1024) boundOf Bound.Value Bound.Over Bound.Not
+bounds : Reading decimal (λ n. leb n maxCount) boundOf Bound.Value Bound.Over Bound.Not
 bounds = record { tell = tell-bound; tells = λ a. (refl, refl, refl); same = λ a b e. cc; forth = bound-forth; back = bound-back }
 
-pub bound-value : (s : List ℕ) (n : ℕ) → (boundOf s ≡ Bound.Value n) ↔ ((s ≡ decimal n) × (n ≤ 1024))
+pub bound-value : (s : List ℕ) (n : ℕ) → (boundOf s ≡ Bound.Value n) ↔ ((s ≡ decimal n) × (n ≤ maxCount))
 bound-value s n =
     let i = value-iff bounds s n in
-    (λ e. (i .0 e .0, leb-true n 1024 (i .0 e .1)), λ w. i .1 (w .0, le-leb n 1024 (w .1)))
+    (λ e. (i .0 e .0, leb-true n maxCount (i .0 e .1)), λ w. i .1 (w .0, le-leb n maxCount (w .1)))
 
-pub bound-over : (s : List ℕ) → (boundOf s ≡ Bound.Over) ↔ ((n : ℕ) × (s ≡ decimal n) × (1024 < n))
+pub bound-over : (s : List ℕ) → (boundOf s ≡ Bound.Over) ↔ ((n : ℕ) × (s ≡ decimal n) × (maxCount < n))
 bound-over s =
     let i = out-iff bounds 0 s in
-    (λ e. let w = i .0 e in (w .0, w .1, leb-false (w .0) 1024 (w .2)), λ w. i .1 (w .0, w .1, lt-leb (w .0) 1024 (w .2)))
+    (λ e. let w = i .0 e in (w .0, w .1, leb-false (w .0) maxCount (w .2)), λ w. i .1 (w .0, w .1, lt-leb (w .0) maxCount (w .2)))
 
 pub bound-not : (s : List ℕ) → (boundOf s ≡ Bound.Not) ↔ ((n : ℕ) → s ≡ decimal n → ⊥)
 bound-not = none-iff bounds
 
-pub bound-decimal : (n : ℕ) → n ≤ 1024 → boundOf (decimal n) ≡ Bound.Value n
+pub bound-decimal : (n : ℕ) → n ≤ maxCount → boundOf (decimal n) ≡ Bound.Value n
 bound-decimal n h = bound-value (decimal n) n .1 (refl, h)
 
 -- ---- a decimal is an item

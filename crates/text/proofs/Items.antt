@@ -13,6 +13,7 @@ use lib.Seq.{slice, drop-cons, length-slice}
 use Rattle.base.specs.Lists.{allb}
 use Rattle.base.proofs.Bools.{and-left, and-right}
 use Rattle.text.specs.Items.{edge, itemLen, itemEnd, nameByte, isName}
+use Rattle.model.specs.Limits.{maxName}
 
 module _ (s : List ℕ) (i : ℕ) where
   pub itemEnd-out : length s ≤ i → itemEnd s i ≡ i
@@ -51,24 +52,24 @@ module _ (s : List ℕ) (f t : ℕ) (k : t ≤ length s) where
   unfolding isName
   isName-none e = rw (length-slice f t s k, le-ltb 0 (t - f) (omega arith))
 
-  pub isName-long : 31 < t - f → isName (slice f t s) ≡ false
+  pub isName-long : maxName < t - f → isName (slice f t s) ≡ false
   unfolding isName
-  isName-long h = rw (length-slice f t s k, lt-ltb 0 (t - f) (omega arith), lt-leb (t - f) 31 h)
+  isName-long h = rw (length-slice f t s k, lt-ltb 0 (t - f) (omega arith), lt-leb (t - f) maxName h)
 
-  pub isName-all : f ≤ t → (t ≡ f → ⊥) → t - f ≤ 31 → isName (slice f t s) ≡ allb nameByte (slice f t s)
+  pub isName-all : f ≤ t → (t ≡ f → ⊥) → t - f ≤ maxName → isName (slice f t s) ≡ allb nameByte (slice f t s)
   unfolding isName
-  isName-all h n l = rw (length-slice f t s k, lt-ltb 0 (t - f) (omega arith), le-leb (t - f) 31 l)
+  isName-all h n l = rw (length-slice f t s k, lt-ltb 0 (t - f) (omega arith), le-leb (t - f) maxName l)
 
 -- the three parts of what a name is
 module _ (w : List ℕ) (e : isName w ≡ true) where
   pub name-some : 0 < length w
   unfolding isName
-  name-some = borrow.Author.Tests.ltb-true 0 (length w) (and-left (ltb 0 (length w)) (leb (length w) 31 && allb nameByte w) e)
+  name-some = borrow.Author.Tests.ltb-true 0 (length w) (and-left (ltb 0 (length w)) (leb (length w) maxName && allb nameByte w) e)
 
-  pub name-short : length w ≤ 31
+  pub name-short : length w ≤ maxName
   unfolding isName
-  name-short = leb-true (length w) 31 (and-left (leb (length w) 31) (allb nameByte w) (and-right (ltb 0 (length w)) (leb (length w) 31 && allb nameByte w) e))
+  name-short = leb-true (length w) maxName (and-left (leb (length w) maxName) (allb nameByte w) (and-right (ltb 0 (length w)) (leb (length w) maxName && allb nameByte w) e))
 
   pub name-bytes : allb nameByte w ≡ true
   unfolding isName
-  name-bytes = and-right (leb (length w) 31) (allb nameByte w) (and-right (ltb 0 (length w)) (leb (length w) 31 && allb nameByte w) e)
+  name-bytes = and-right (leb (length w) maxName) (allb nameByte w) (and-right (ltb 0 (length w)) (leb (length w) maxName && allb nameByte w) e)

@@ -19,7 +19,8 @@ use Rattle.text.specs.declared.Found.the-variants.{At, Nothing}
 use Rattle.text.proofs.Items.{name-short, name-bytes}
 use Rattle.text.proofs.Pool.{padded-length}
 use Rattle.text.specs.Spans.{Span}
-use Rattle.text.proofs.Spans.{span-split}
+use Rattle.text.proofs.Spans.{span-split, Span}
+use Rattle.model.specs.Limits.{nameBytes}
 
 -- ---- the first number that passes
 -- k is the first of the n numbers from i on that passes
@@ -134,7 +135,7 @@ pads-apart m n (x ∷ w) (y ∷ v) a b e =
 
 pub padded-injective : (w v : List ℕ) → isName w ≡ true → isName v ≡ true → padded w ≡ padded v → w ≡ v
 unfolding padded
-padded-injective w v a b e = pads-apart (32 - length w) (32 - length v) w v (name-bytes w a) (name-bytes v b) e
+padded-injective w v a b e = pads-apart (nameBytes - length w) (nameBytes - length v) w v (name-bytes w a) (name-bytes v b) e
 
 pub eql-padded : (w v : List ℕ) → isName w ≡ true → isName v ≡ true → eql (padded w) (padded v) ≡ eql w v
 eql-padded w v a b = same-test (eql (padded w) (padded v)) (eql w v)
@@ -158,7 +159,7 @@ unfolding poolOf
 pool-append [] vs = refl
 pool-append (w ∷ ws) vs = ap (λ (l : List ℕ). padded w ++ l) (pool-append ws vs) ∙ sym (append-assoc (padded w) (poolOf ws) (poolOf vs))
 
-pub pool-length : (ws : List (List ℕ)) → allNames ws ≡ true → length (poolOf ws) ≡ length ws * 32
+pub pool-length : (ws : List (List ℕ)) → allNames ws ≡ true → length (poolOf ws) ≡ length ws * nameBytes
 unfolding poolOf allNames
 pool-length [] e = refl
 pool-length (w ∷ ws) e =
@@ -173,12 +174,12 @@ pool-place (w ∷ ws) {names} {base} {end} e p k l = at-place k l
     (pool-place ws (and-right (isName w) (allNames ws) e) (subst (λ (n : ℕ). Span names (base + n) end (poolOf ws)) lw (span-split (padded w) (poolOf ws) p .1)))
     (subst (λ (n : ℕ). Span names base (base + n) (padded w)) lw (span-split (padded w) (poolOf ws) p .0) .text)
   where
-    lw : length (padded w) ≡ 32
+    lw : length (padded w) ≡ nameBytes
     lw = padded-length w (let s = name-short w (and-left (isName w) (allNames ws) e) in omega arith)
 
-    at-place : (k : ℕ) → k < suc (length ws) → ((k : ℕ) → k < length ws → place names (base + 32) k ≡ padded (getD ws k [])) → slice base (base + 32) names ≡ padded w → place names base k ≡ padded (getD (w ∷ ws) k [])
-    at-place zero l ih t = let z : base + 0 * 32 ≡ base = omega arith in ap (λ (n : ℕ). slice n (n + 32) names) z ∙ t
-    at-place (suc k) l ih t = let z : base + suc k * 32 ≡ base + 32 + k * 32 = omega arith in ap (λ (n : ℕ). slice n (n + 32) names) z ∙ ih k (omega arith)
+    at-place : (k : ℕ) → k < suc (length ws) → ((k : ℕ) → k < length ws → place names (base + nameBytes) k ≡ padded (getD ws k [])) → slice base (base + nameBytes) names ≡ padded w → place names base k ≡ padded (getD (w ∷ ws) k [])
+    at-place zero l ih t = let z : base + 0 * nameBytes ≡ base = omega arith in ap (λ (n : ℕ). slice n (n + nameBytes) names) z ∙ t
+    at-place (suc k) l ih t = let z : base + suc k * nameBytes ≡ base + nameBytes + k * nameBytes = omega arith in ap (λ (n : ℕ). slice n (n + nameBytes) names) z ∙ ih k (omega arith)
 
 -- a search there is the search in the list
 pub find-pool : (ws : List (List ℕ)) {names : List ℕ} {base end : ℕ} (w : List ℕ) → allNames ws ≡ true → isName w ≡ true → Span names base end (poolOf ws) → find names base (length ws) w ≡ indexOf ws w

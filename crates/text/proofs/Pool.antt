@@ -10,6 +10,7 @@ use lib.Seq.{slice, length-slice, getD-append-add, paste, take-all}
 use Rattle.text.specs.Pool.{padded, firstFrom, store}
 use Rattle.text.specs.declared.Found.the-variants.{At, Nothing}
 use Rattle.text.proofs.Parts.{slice-at}
+use Rattle.model.specs.Limits.{nameBytes}
 
 zeros-at : (n i : ℕ) → getD {A = ℕ} (replicate n 0) i 0 ≡ 0
 zeros-at zero i = refl
@@ -20,7 +21,7 @@ module _ (s : List ℕ) (f t : ℕ) (k : t ≤ length s) where
   pub padded-in : (j : ℕ) → j < t - f → getD (padded (slice f t s)) j 0 ≡ getD s (f + j) 0
   unfolding padded
   padded-in j h =
-      List·getD-append (slice f t s) (replicate (32 - length (slice f t s)) 0) 0 j (rw (length-slice f t s k) h)
+      List·getD-append (slice f t s) (replicate (nameBytes - length (slice f t s)) 0) 0 j (rw (length-slice f t s k) h)
       ∙ slice-at s f t j (omega arith)
 
   pub padded-out : (j : ℕ) → t - f ≤ j → getD (padded (slice f t s)) j 0 ≡ 0
@@ -30,10 +31,10 @@ module _ (s : List ℕ) (f t : ℕ) (k : t ≤ length s) where
       let l = length-slice f t s k in
       let e : length w + (j - length w) ≡ j = omega arith in
       ap (λ (i : ℕ). getD (padded w) i 0) (sym e)
-      ∙ getD-append-add w (replicate (32 - length w) 0) (j - length w) 0
-      ∙ zeros-at (32 - length w) (j - length w)
+      ∙ getD-append-add w (replicate (nameBytes - length w) 0) (j - length w) 0
+      ∙ zeros-at (nameBytes - length w) (j - length w)
 
-pub padded-length : (w : List ℕ) → length w ≤ 32 → length (padded w) ≡ 32
+pub padded-length : (w : List ℕ) → length w ≤ nameBytes → length (padded w) ≡ nameBytes
 unfolding padded
 padded-length w h = simp (length-append, length-replicate) (omega arith)
 

@@ -18,6 +18,7 @@ use Rattle.base.proofs.Bytes.{eql-true, eql-refl}
 use Rattle.text.specs.Pool.{padded, sameAt, zeroAt}
 use Rattle.text.proofs.Parts.{slice-at}
 use Rattle.text.proofs.Pool.{padded-in, padded-out, padded-length}
+use Rattle.model.specs.Limits.{maxName, nameBytes}
 
 -- ---- a loop that goes on to the end: r is the test of all that it has passed
 module _ (p : ℕ → Bool) where
@@ -54,19 +55,19 @@ eql-every a b n la lb = same-test (eql a b) (every p n) (λ e. every-all p n (λ
     same e = ext-getD 0 b a (lb ∙ sym la) (λ i h. eqb-true _ _ (every-at p n e i (omega arith)))
 
 -- the 32 bytes at b of t are the word from f to e of s and then zeros
-pub padded-same : (s t : List ℕ) (f e b : ℕ) → e ≤ length s → e - f ≤ 31 → b + 32 ≤ length t
-    → (every (sameAt t b s f) (e - f) && every (zeroAt t (b + (e - f))) (32 - (e - f))) ≡ eql (padded (slice f e s)) (slice b (b + 32) t)
+pub padded-same : (s t : List ℕ) (f e b : ℕ) → e ≤ length s → e - f ≤ maxName → b + nameBytes ≤ length t
+    → (every (sameAt t b s f) (e - f) && every (zeroAt t (b + (e - f))) (nameBytes - (e - f))) ≡ eql (padded (slice f e s)) (slice b (b + nameBytes) t)
 padded-same s t f e b k short room =
     let n : ℕ = e - f in
     let w : List ℕ = padded (slice f e s) in
-    let v : List ℕ = slice b (b + 32) t in
+    let v : List ℕ = slice b (b + nameBytes) t in
     let p : ℕ → Bool = λ i. eqb (getD v i 0) (getD w i 0) in
-    let q : n + (32 - n) ≡ 32 = omega arith in
+    let q : n + (nameBytes - n) ≡ nameBytes = omega arith in
     let l = length-slice f e s k in
     sym
-    (eql-every w v 32 (padded-length (slice f e s) (omega arith)) (length-slice b (b + 32) t room ∙ omega arith)
+    (eql-every w v nameBytes (padded-length (slice f e s) (omega arith)) (length-slice b (b + nameBytes) t room ∙ omega arith)
     ∙ ap (every p) (sym q)
-    ∙ every-add p n (32 - n)
+    ∙ every-add p n (nameBytes - n)
     ∙ ap₂ (λ (x y : Bool). x && y)
-    (every-ext p (sameAt t b s f) n (λ i h. ap₂ eqb (slice-at t b (b + 32) i (omega arith)) (padded-in s f e k i h)))
-    (every-ext (λ i. p (n + i)) (zeroAt t (b + n)) (32 - n) (λ i h. ap₂ eqb (slice-at t b (b + 32) (n + i) (omega arith) ∙ ap (λ (j : ℕ). getD t j 0) (sym (add-assoc b n i))) (padded-out s f e k (n + i) (omega arith)))))
+    (every-ext p (sameAt t b s f) n (λ i h. ap₂ eqb (slice-at t b (b + nameBytes) i (omega arith)) (padded-in s f e k i h)))
+    (every-ext (λ i. p (n + i)) (zeroAt t (b + n)) (nameBytes - n) (λ i h. ap₂ eqb (slice-at t b (b + nameBytes) (n + i) (omega arith) ∙ ap (λ (j : ℕ). getD t j 0) (sym (add-assoc b n i))) (padded-out s f e k (n + i) (omega arith)))))

@@ -10,6 +10,7 @@ use Rattle.text.specs.Items.{within}
 use Rattle.text.specs.declared.Number.{Number}
 use Rattle.text.specs.declared.Bound.{Bound}
 use Rattle.text.specs.declared.Mag.{Mag}
+use Rattle.model.specs.Limits.{maxCount}
 
 -- ---- writing
 -- the decimal digits of n, where k is above n, by whether n has one digit
@@ -59,7 +60,7 @@ numberOf s = cond (eqb (getD s 0 0) 45) (negativeOf (drop 1 s)) (positiveOf s)
 
 -- the bound of a count: an unsigned decimal without a leading zero, up to 1,024
 unfoldable pub boundOf : List ℕ → Bound
-boundOf s = cond (isMag s) (cond (leb (valueFrom 0 s) 1024) (Bound.Value (valueFrom 0 s)) Bound.Over) Bound.Not
+boundOf s = cond (isMag s) (cond (leb (valueFrom 0 s) maxCount) (Bound.Value (valueFrom 0 s)) Bound.Over) Bound.Not
 
 -- decimal digits without a leading zero by their value, as far as 64 bits hold it digit by digit
 unfoldable pub magOf : List ℕ → Mag

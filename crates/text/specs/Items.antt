@@ -5,6 +5,7 @@ use mathlib.Core.Bool.{Bool, cond, _&&_, _||_}
 use lib.ListN.{length, drop}
 use lib.Dec.{ltb, leb, eqb}
 use Rattle.base.specs.Lists.{allb}
+use Rattle.model.specs.Limits.{maxName}
 
 -- LF, space, ( and ) end an item
 unfoldable pub edge : ℕ → Bool
@@ -27,6 +28,6 @@ within lo hi b = leb lo b && leb b hi
 unfoldable pub nameByte : ℕ → Bool
 nameByte b = within 97 122 b || (within 48 57 b || (eqb b 45 || eqb b 95))
 
--- 1 to 31 of them
+-- at least one of them, and not more than the limit
 unfoldable pub isName : List ℕ → Bool
-isName s = ltb 0 (length s) && (leb (length s) 31 && allb nameByte s)
+isName s = ltb 0 (length s) && (leb (length s) maxName && allb nameByte s)

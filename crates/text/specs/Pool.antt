@@ -1,4 +1,4 @@
--- Pools of names: 32 bytes a name, the name and then zeros, in the order in which they were added.
+-- Pools of names: so many bytes a name, the name and then zeros, in the order in which they were added.
 use Prim.Native.Nat.{ℕ, zero, suc, _+_, _-_, _*_, _%_}
 use mathlib.Core.List.{List, [], _∷_, _++_}
 use mathlib.Core.Bool.{Bool, true, cond, _&&_}
@@ -9,10 +9,11 @@ use Rattle.base.specs.Bytes.{eql}
 use Rattle.text.specs.Items.{isName}
 use Rattle.text.specs.declared.Found.{Found}
 use Rattle.text.specs.declared.Found.the-variants.{At, Nothing}
+use Rattle.model.specs.Limits.{nameBytes}
 
--- a name in its 32 bytes
+-- a name in its bytes
 unfoldable pub padded : List ℕ → List ℕ
-padded w = w ++ replicate (32 - length w) 0
+padded w = w ++ replicate (nameBytes - length w) 0
 
 -- byte j after two starts is the same; it is 0
 abbrev pub sameAt : List ℕ → ℕ → List ℕ → ℕ → ℕ → Bool
@@ -40,9 +41,9 @@ firstFrom p (suc n) k = cond (p k) (At k) (firstFrom p n (suc k))
 unfoldable pub indexOf : List (List ℕ) → List ℕ → Found
 indexOf ws w = firstFrom (λ k. eql w (getD ws k [])) (length ws) 0
 
--- the 32 bytes of number k in the pool that starts at base
+-- the bytes of number k in the pool that starts at base
 abbrev pub place : List ℕ → ℕ → ℕ → List ℕ
-place names base k = slice (base + k * 32) (base + k * 32 + 32) names
+place names base k = slice (base + k * nameBytes) (base + k * nameBytes + nameBytes) names
 
 -- a number below 65,536 for a name, by all its bytes; zeros after it add nothing
 unfoldable pub hashOf : List ℕ → ℕ

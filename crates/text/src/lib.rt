@@ -1,6 +1,9 @@
-// The bytes of a book: items, names, decimals, and pools of names in 32 bytes each.
+// The bytes of a book: items, names, decimals, and pools of names in so many bytes each.
 // Functions for the crates above, on positions of a text that these have shown to lie within it. Operations: none.
 use base::cell;
+use model::MAX_COUNT;
+use model::MAX_NAME;
+use model::NAME_BYTES;
 ghost use mathlib.Core.Path.{_≡_};
 ghost use mathlib.Core.Bool.{true, cond};
 ghost use Prim.Native.Nat.{_≤_, _<_, _+_, _*_, _-_};
@@ -14,6 +17,7 @@ ghost use Rattle.text.specs.Items.{edge, itemEnd, nameByte, isName};
 ghost use Rattle.text.specs.Decimals.{digit, isMag, magOf, positiveOf, negativeOf, numberOf, boundOf};
 ghost use Rattle.text.specs.Pool.{padded, sameAt, zeroAt, hashOf, nameKey, find, store};
 ghost use Rattle.text.specs.declared.Found.the-variants.{At};
+ghost use Rattle.model.specs.Limits.{maxName, nameBytes};
 
 // A signed decimal of the 64-bit range; a well written decimal out of it; anything else.
 pub enum Number {
@@ -84,7 +88,7 @@ pub fn is_name(book: &[u8], at: usize, end: usize) -> bool
     if end == at {
         return false;
     }
-    if 31 < end - at {
+    if MAX_NAME < end - at {
         return false;
     }
     let mut i = at;
@@ -215,6 +219,9 @@ pub fn number_at(book: &[u8], at: usize, end: usize) -> Number
     positive(book, at, end)
 }
 
+// LO and HI may be so great.
+const MOST_COUNT: u64 = MAX_COUNT as u64;
+
 // The bound of a count from at to end.
 pub fn bound_at(book: &[u8], at: usize, end: usize) -> Bound
     requires { ⌜ (at ≤ end) × (end ≤ length (now book)) ⌝ }
@@ -224,7 +231,7 @@ pub fn bound_at(book: &[u8], at: usize, end: usize) -> Bound
         Mag::Not => Bound::Not,
         Mag::Over => Bound::Over,
         Mag::Is(v) => {
-            if v <= 1024 {
+            if v <= MOST_COUNT {
                 Bound::Value(v as u16)
             } else {
                 Bound::Over
@@ -265,13 +272,13 @@ fn zeros(names: &[u8], place: usize, len: usize) -> bool
     same
 }
 
-// The 32 bytes at place are the word from at to end and then zeros.
+// The bytes of a name at place are the word from at to end and then zeros.
 pub fn same_name(names: &[u8], place: usize, book: &[u8], at: usize, end: usize) -> bool
-    requires { ⌜ (at ≤ end) × (end ≤ length (now book)) × (end - at ≤ 31) × (place + 32 ≤ length (now names)) ⌝ }
-    ensures { λ r. ⌜ r ≡ eql (padded (slice at end (now (book .entry)))) (slice place (place + 32) (now (names .entry))) ⌝ }
+    requires { ⌜ (at ≤ end) × (end ≤ length (now book)) × (end - at ≤ maxName) × (place + nameBytes ≤ length (now names)) ⌝ }
+    ensures { λ r. ⌜ r ≡ eql (padded (slice at end (now (book .entry)))) (slice place (place + nameBytes) (now (names .entry))) ⌝ }
 {
     let len = end - at;
-    same_bytes(names, place, book, at, len) & zeros(names, place + len, 32 - len)
+    same_bytes(names, place, book, at, len) & zeros(names, place + len, NAME_BYTES - len)
 }
 
 // The number of the word from at to end in the pool of count names that starts at base.
@@ -283,12 +290,12 @@ pub fn find_name(
     at: usize,
     end: usize,
 ) -> Found
-    requires { ⌜ (at ≤ end) × (end ≤ length (now book)) × (end - at ≤ 31) × (base + count * 32 ≤ length (now names)) ⌝ }
+    requires { ⌜ (at ≤ end) × (end ≤ length (now book)) × (end - at ≤ maxName) × (base + count * nameBytes ≤ length (now names)) ⌝ }
     ensures { λ r. ⌜ r ≡ find (now (names .entry)) base count (slice at end (now (book .entry))) ⌝ }
 {
     let mut k = 0;
     while k < count {
-        if same_name(names, base + k * 32, book, at, end) {
+        if same_name(names, base + k * NAME_BYTES, book, at, end) {
             return Found::At(k);
         }
         k += 1;
@@ -330,26 +337,30 @@ pub fn find_chained(
     at: usize,
     end: usize,
 ) -> Found
-    requires { ⌜ (at ≤ end) × (end ≤ length (now book)) × (end - at ≤ 31) × (base + count * 32 ≤ length (now names)) × (heads + slots ≤ 65536) × (nexts + count ≤ 65536) × (0 < slots) × Chained (nameKey (now names) base slots) count slots heads nexts (now index) ⌝ }
+    requires { ⌜ (at ≤ end) × (end ≤ length (now book)) × (end - at ≤ maxName) × (base + count * nameBytes ≤ length (now names)) × (heads + slots ≤ 65536) × (nexts + count ≤ 65536) × (0 < slots) × Chained (nameKey (now names) base slots) count slots heads nexts (now index) ⌝ }
     ensures { λ r. ⌜ r ≡ find (now (names .entry)) base count (slice at end (now (book .entry))) ⌝ }
 {
     let mut found = Found::Nothing;
     let mut e = cell(index, heads + hash(book, at, end) % slots) as usize;
     while 0 < e {
         let i = e - 1;
-        found = found_if(same_name(names, base + i * 32, book, at, end), i, found);
+        found = found_if(
+            same_name(names, base + i * NAME_BYTES, book, at, end),
+            i,
+            found,
+        );
         e = cell(index, nexts + i) as usize;
     }
     found
 }
 
-// Stores the word from at to end, with zeros after it, in the 32 bytes at place.
+// Stores the word from at to end, with zeros after it, in the bytes of a name at place.
 pub fn put_name(names: &mut [u8], place: usize, book: &[u8], at: usize, end: usize)
-    requires { ⌜ (at ≤ end) × (end ≤ length (now book)) × (end - at ≤ 31) × (place + 32 ≤ length (now names)) ⌝ }
+    requires { ⌜ (at ≤ end) × (end ≤ length (now book)) × (end - at ≤ maxName) × (place + nameBytes ≤ length (now names)) ⌝ }
     ensures { λ _. ⌜ now (names .exit) ≡ store (now (names .entry)) place (padded (slice at end (now (book .entry)))) ⌝ }
 {
     let mut i = 0;
-    while i < 32 {
+    while i < NAME_BYTES {
         names[place + i] = letter(book, at, end, i);
         i += 1;
     }

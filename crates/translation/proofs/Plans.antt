@@ -16,6 +16,7 @@ use Rattle.base.proofs.Bounded.{every-all}
 use Rattle.base.proofs.Lists.{at-values}
 use Rattle.model.specs.Shapes.{conforms}
 use Rattle.model.specs.Rules.{violates}
+use Rattle.model.specs.Limits.{maxSteps}
 use Rattle.tables.specs.Layout.{formCount, ruleCount}
 use Rattle.tables.specs.Decode.{graphAt, shapeAt, schemaAt, ruleAt}
 use Rattle.tables.specs.WellFormed.{wellFormed}
@@ -48,7 +49,7 @@ module _ (cs : List ℕ) (ok : wellFormed cs ≡ true) where
   fine = sound cs ok
 
   -- so at most 512
-  pub plan-fits : length (stepsOf cs) ≤ 512
+  pub plan-fits : length (stepsOf cs) ≤ maxSteps
   plan-fits = omega (arith, plan-few cs, fine .forms, fine .rules)
 
   module _ (t : List ℕ) where
@@ -84,8 +85,8 @@ module _ (cs : List ℕ) (ok : wellFormed cs ≡ true) where
     pub plan-well-formed : planWellFormed cs plan ≡ true
     unfolding planWellFormed
     plan-well-formed =
-        and-both (leb (stepCount plan) 512) (every (λ k. stepOk cs k (stepAt plan k)) (stepCount plan) && every (λ r. ltb (ruleStepAt plan r) (stepCount plan)) (ruleCount cs))
-        (le-leb (stepCount plan) 512 (omega (arith, plan-count cs t, plan-fits)))
+        and-both (leb (stepCount plan) maxSteps) (every (λ k. stepOk cs k (stepAt plan k)) (stepCount plan) && every (λ r. ltb (ruleStepAt plan r) (stepCount plan)) (ruleCount cs))
+        (le-leb (stepCount plan) maxSteps (omega (arith, plan-count cs t, plan-fits)))
         (and-both (every (λ k. stepOk cs k (stepAt plan k)) (stepCount plan)) (every (λ r. ltb (ruleStepAt plan r) (stepCount plan)) (ruleCount cs))
         (every-all (λ k. stepOk cs k (stepAt plan k)) (stepCount plan) (λ k l. let m : k < length (stepsOf cs) = omega (arith, l, plan-count cs t) in ap (stepOk cs k) (plan-step k m) ∙ steps-fine cs fine k m))
         (every-all (λ r. ltb (ruleStepAt plan r) (stepCount plan)) (ruleCount cs) (λ r l. lt-ltb (ruleStepAt plan r) (stepCount plan) (omega (arith, plan-count cs t, plan-rule r l, rule-low cs r l)))))

@@ -15,7 +15,8 @@ use Rattle.base.specs.Numbered.{below}
 use Rattle.base.proofs.Bools.{and-left, and-right, not-and, not-or}
 use Rattle.base.proofs.Numbered.{at-number, below-number}
 use Rattle.model.specs.Graph.{Graph, holds}
-use Rattle.model.specs.Shapes.{Shape, Test, satisfies, within, less, from, conforms}
+use Rattle.model.specs.Shapes.{Shape, Test, satisfies, within, from, conforms}
+use Rattle.model.specs.Limits.{maxCount}
 use Rattle.tables.specs.Layout.{noNumber, shapeCount, pathCount, rootAt}
 use Rattle.tables.specs.Entries.{Entry}
 use Rattle.tables.specs.Decode.{graphAt, pathAt, upperOf, itemsAt, shapeOf, entryAt}
@@ -89,7 +90,7 @@ module _ (cs : List ℕ) (vs : List ℤ) (at : ℕ → Step) where
     right-test : (t : Test) → testOf cs (entryAt cs vs e) ≡ Option.some t → Has at s (Step.test e ∷ Step.untest e ∷ []) → Sets cs vs at (s + 2) s (s + 1) (λ v. satisfies t (g .term v))
     right-test t q st = right-two (Step.test e) (Step.untest e) (λ v. satisfies t (g .term v)) st (test-set cs vs (lower s) (lower (s + 1)) e t q) (test-untest cs vs (lower s) (lower (s + 1)) e t q)
 
-    right-count : (p a lo hi : ℕ) → Sets cs vs at s (keep a) (brk a) (conforms g (sh a)) → lo ≤ 1024 → Has at s (countPart s p (keep a) lo hi .steps)
+    right-count : (p a lo hi : ℕ) → Sets cs vs at s (keep a) (brk a) (conforms g (sh a)) → lo ≤ maxCount → Has at s (countPart s p (keep a) lo hi .steps)
         → Sets cs vs at (s + length (countPart s p (keep a) lo hi .steps)) (countPart s p (keep a) lo hi .keep) (countPart s p (keep a) lo hi .brk) (λ v. within lo (upperOf hi) (counted p (conforms g (sh a)) v))
     unfolding countPart countWay inStep
     right-count p a lo hi r low st = go (eqb lo 0) refl (eqb hi noNumber) refl st
@@ -141,9 +142,9 @@ module _ (cs : List ℕ) (vs : List ℤ) (at : ℕ → Step) where
     entry-right (Entry.to x) z ok st = right-test _ (ap (testOf cs) z) st
     entry-right (Entry.under x) z ok st = right-test _ (ap (testOf cs) z) st
     entry-right (Entry.count p a lo hi) z ok st =
-        let l = and-left (ltb p (pathCount cs) && ltb a e) (leb lo 1024 && upperOk cs hi) ok in
-        let m = and-right (ltb p (pathCount cs) && ltb a e) (leb lo 1024 && upperOk cs hi) ok in
-        right-count p a lo hi (before a (and-right (ltb p (pathCount cs)) (ltb a e) l)) (leb-true lo 1024 (and-left (leb lo 1024) (upperOk cs hi) m)) st
+        let l = and-left (ltb p (pathCount cs) && ltb a e) (leb lo maxCount && upperOk cs hi) ok in
+        let m = and-right (ltb p (pathCount cs) && ltb a e) (leb lo maxCount && upperOk cs hi) ok in
+        right-count p a lo hi (before a (and-right (ltb p (pathCount cs)) (ltb a e) l)) (leb-true lo maxCount (and-left (leb lo maxCount) (upperOk cs hi) m)) st
     entry-right (Entry.all p a) z ok st =
         let r = before a (and-right (ltb p (pathCount cs)) (ltb a e) ok) in
         record { keepLow = omega arith; breakLow = omega arith; keeps = set-every s (keep a) (conforms g (sh a)) (r .keepLow) (r .keeps) p (st .0); breaks = set-count (s + 1) (brk a) (λ v. not (conforms g (sh a) v)) (let l : brk a < s = r .breakLow in omega arith) (r .breaks) p 1 noNumber (st .1 .0) ∙ ext (λ v. sym (not-all (g .nodes) (from g (pathAt cs p) v) (conforms g (sh a)))) }

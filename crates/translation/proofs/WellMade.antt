@@ -12,6 +12,7 @@ use borrow.Author.Tests.{ne-eqb, eqb-false, ltb-true, lt-ltb, leb-true, le-leb}
 use Rattle.base.proofs.Bools.{and-left, and-right, and-both, or-cases, never-both}
 use Rattle.model.specs.Graph.{holds}
 use Rattle.model.specs.Shapes.{Test}
+use Rattle.model.specs.Limits.{maxCount}
 use Rattle.tables.specs.Layout.{noNumber, nodeCount, linkCount, pathCount, formCount, shapeCount, ruleCount, rootAt, ruleShapeAt, ruleTargetAt, ruleOperandAt}
 use Rattle.tables.specs.Entries.{Entry}
 use Rattle.tables.specs.Decode.{entryAt, targetOf, ruleAt}
@@ -106,23 +107,23 @@ module _ (cs : List ℕ) where
     unfolding stepOk closedOk holds
     closed-fine ls q = let o = and-both (ltb e (formCount cs)) (holds (λ ps. true) (linksOf cs (entryAt cs [] e))) (lt-ltb e (formCount cs) here) (ap (holds (λ ps. true)) q) in (o, (o, tt))
 
-    count-fine : (t p j lo hi : ℕ) → ltb p (pathCount cs) ≡ true → j < t → lo ≤ 1025 → upperOk cs hi ≡ true → stepOk cs t (Step.count p j lo hi) ≡ true
+    count-fine : (t p j lo hi : ℕ) → ltb p (pathCount cs) ≡ true → j < t → lo ≤ maxCount + 1 → upperOk cs hi ≡ true → stepOk cs t (Step.count p j lo hi) ≡ true
     unfolding stepOk
-    count-fine t p j lo hi o l a b = and-both (ltb p (pathCount cs) && ltb j t) (leb lo 1025 && upperOk cs hi) (and-both (ltb p (pathCount cs)) (ltb j t) o (lt-ltb j t l)) (and-both (leb lo 1025) (upperOk cs hi) (le-leb lo 1025 a) b)
+    count-fine t p j lo hi o l a b = and-both (ltb p (pathCount cs) && ltb j t) (leb lo (maxCount + 1) && upperOk cs hi) (and-both (ltb p (pathCount cs)) (ltb j t) o (lt-ltb j t l)) (and-both (leb lo (maxCount + 1)) (upperOk cs hi) (le-leb lo (maxCount + 1) a) b)
 
-    high-of : (hi : ℕ) → upperOk cs hi ≡ true → (hi ≡ noNumber → ⊥) → hi ≤ 1024
+    high-of : (hi : ℕ) → upperOk cs hi ≡ true → (hi ≡ noNumber → ⊥) → hi ≤ maxCount
     unfolding upperOk
-    high-of hi o n = mathlib.Core.Logic.⊎-elim (λ l. leb-true hi 1024 l) (λ q. absurd (never-both q (ne-eqb hi noNumber n))) (or-cases (leb hi 1024) (eqb hi noNumber) o)
+    high-of hi o n = mathlib.Core.Logic.⊎-elim (λ l. leb-true hi maxCount l) (λ q. absurd (never-both q (ne-eqb hi noNumber n))) (or-cases (leb hi maxCount) (eqb hi noNumber) o)
 
-    high-small : (hi : ℕ) → hi ≤ 1024 → upperOk cs hi ≡ true
+    high-small : (hi : ℕ) → hi ≤ maxCount → upperOk cs hi ≡ true
     unfolding upperOk
-    high-small hi l = ap (λ (t : Bool). t || eqb hi noNumber) (le-leb hi 1024 l)
+    high-small hi l = ap (λ (t : Bool). t || eqb hi noNumber) (le-leb hi maxCount l)
 
     high-star : upperOk cs noNumber ≡ true
     unfolding upperOk
     high-star = refl
 
-    counts-fine : (p j lo hi : ℕ) → ltb p (pathCount cs) ≡ true → j < s → lo ≤ 1024 → upperOk cs hi ≡ true → Fine s (countPart s p j lo hi .steps)
+    counts-fine : (p j lo hi : ℕ) → ltb p (pathCount cs) ≡ true → j < s → lo ≤ maxCount → upperOk cs hi ≡ true → Fine s (countPart s p j lo hi .steps)
     unfolding countPart countWay stepOk
     counts-fine p j lo hi o l a b = ways (eqb lo 0) (eqb hi noNumber) refl
       where
@@ -163,9 +164,9 @@ module _ (cs : List ℕ) where
     entry-fine (Entry.to x) z ok = test-fine _ (ap (testOf cs) z)
     entry-fine (Entry.under x) z ok = test-fine _ (ap (testOf cs) z)
     entry-fine (Entry.count p a lo hi) z ok =
-        let l = and-left (ltb p (pathCount cs) && ltb a e) (leb lo 1024 && upperOk cs hi) ok in
-        let m = and-right (ltb p (pathCount cs) && ltb a e) (leb lo 1024 && upperOk cs hi) ok in
-        counts-fine p (keep a) lo hi (and-left (ltb p (pathCount cs)) (ltb a e) l) (low a (and-right (ltb p (pathCount cs)) (ltb a e) l) .0) (leb-true lo 1024 (and-left (leb lo 1024) (upperOk cs hi) m)) (and-right (leb lo 1024) (upperOk cs hi) m)
+        let l = and-left (ltb p (pathCount cs) && ltb a e) (leb lo maxCount && upperOk cs hi) ok in
+        let m = and-right (ltb p (pathCount cs) && ltb a e) (leb lo maxCount && upperOk cs hi) ok in
+        counts-fine p (keep a) lo hi (and-left (ltb p (pathCount cs)) (ltb a e) l) (low a (and-right (ltb p (pathCount cs)) (ltb a e) l) .0) (leb-true lo maxCount (and-left (leb lo maxCount) (upperOk cs hi) m)) (and-right (leb lo maxCount) (upperOk cs hi) m)
     entry-fine (Entry.all p a) z ok =
         let x = low a (and-right (ltb p (pathCount cs)) (ltb a e) ok) in
         let o = and-left (ltb p (pathCount cs)) (ltb a e) ok in

@@ -1,9 +1,17 @@
 // The printing program: a book on standard input, its report on standard output.
+use lists::LENGTH_PLACES;
+use lists::LIST_PLACES;
+use model::MAX_BYTES;
 use model::Refusal;
+use plan::PLAN_CELLS;
 use report::PAGE_BYTES;
 use report::Page;
 use report::report_part;
 use report::report_refusal;
+use runner::WORK_WORDS;
+use tables::layout::CELLS;
+use tables::layout::NAMES;
+use tables::layout::VALUES;
 use tables::reads::rule_count;
 use validation::Validated;
 use validation::validate;
@@ -46,15 +54,17 @@ fn print_refusal(refusal: Refusal, page: &mut [u8]) {
 }
 
 // One byte more than a book may have, so that a longer one is seen to be too long.
+const BOOK_BYTES: usize = MAX_BYTES + 1;
+
 fn main() {
-    let mut book = [0u8; 65537];
-    let mut names = [0u8; 45056];
-    let mut cells = [0u16; 16602];
-    let mut values = [0i64; 1136];
-    let mut plan = [0u16; 2593];
-    let mut work = [0u64; 8192];
-    let mut lists = [0u16; 32768];
-    let mut lengths = [0u16; 32];
+    let mut book = [0u8; BOOK_BYTES];
+    let mut names = [0u8; NAMES];
+    let mut cells = [0u16; CELLS];
+    let mut values = [0i64; VALUES];
+    let mut plan = [0u16; PLAN_CELLS];
+    let mut work = [0u64; WORK_WORDS];
+    let mut lists = [0u16; LIST_PLACES];
+    let mut lengths = [0u16; LENGTH_PLACES];
     let mut page = [0u8; PAGE_BYTES];
     let n = io::read_full(0, &mut book);
     let answer = validate(

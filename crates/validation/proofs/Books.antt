@@ -13,6 +13,7 @@ use Rattle.model.specs.Rules.{Rule, violates, violations, noRule}
 use Rattle.model.specs.Books.{Book, graphOf, schema, rules, listOf}
 use Rattle.model.specs.Sizes.{formsIn}
 use Rattle.model.specs.Valid.{admissible}
+use Rattle.model.specs.Limits.{maxNodes, maxRules}
 use Rattle.tables.specs.Decode.{graphAt, ruleAt}
 use Rattle.tables.proofs.WellFormed.{sound}
 use Rattle.encoding.specs.Encode.{encodeCells, encodeValues}
@@ -33,12 +34,12 @@ module _ (b : Book) (ok : admissible b ≡ true) where
       ap₂ (λ (g : Graph) (H : List Shape). violations g H (ruleAt (encodeCells b) r)) (graph-read b ok) (schema-read b ok)
       ∙ ap (violations (graphOf b) (schema b)) (rule-at b ok r noRule low)
 
-  pub few-nodes : graphOf b .nodes ≤ 1024
+  pub few-nodes : graphOf b .nodes ≤ maxNodes
   unfolding graphAt
-  few-nodes = subst (λ n. n ≤ 1024) (ap (λ (g : Graph). g .nodes) (graph-read b ok)) (sound (encodeCells b) (well-formed b ok) .nodes)
+  few-nodes = subst (λ n. n ≤ maxNodes) (ap (λ (g : Graph). g .nodes) (graph-read b ok)) (sound (encodeCells b) (well-formed b ok) .nodes)
 
-  pub few-rules : length (rules b) ≤ 32
-  few-rules = subst (λ n. n ≤ 32) (rules-counted b) (sound (encodeCells b) (well-formed b ok) .rules)
+  pub few-rules : length (rules b) ≤ maxRules
+  few-rules = subst (λ n. n ≤ maxRules) (rules-counted b) (sound (encodeCells b) (well-formed b ok) .rules)
 
   pub steps-few : length (stepsOf (encodeCells b)) ≤ 4 * formsIn b + 2 * length (rules b)
   steps-few = omega (arith, plan-few (encodeCells b), forms-counted b, rules-counted b)

@@ -16,6 +16,7 @@ use Rattle.model.specs.Answers.{Answer, value, refusal, mapValue}
 use Rattle.model.proofs.Answers.{same-refusal, not-refused}
 use Rattle.model.specs.Refusals.{codeOf, lineOf}
 use Rattle.model.specs.Books.{Book, rules, listOf}
+use Rattle.model.specs.Limits.{maxNodes}
 use Rattle.tables.specs.Layout.{nameCount, cellCount, valueCount, ruleCount}
 use Rattle.tables.specs.Sizes.{longEnough}
 use Rattle.tables.specs.WellFormed.{wellFormed}
@@ -97,7 +98,7 @@ module _ (s : List ℕ) (l : Lent) where
       abbrev list : ℕ → List ℕ
       list r = listOf b (ruleOf b r)
 
-      short : (r : ℕ) → length (list r) ≤ 1024
+      short : (r : ℕ) → length (list r) ≤ maxNodes
       short r = omega (arith, listed-few b (ruleOf b r), few-nodes b (valid-admissible b is-valid))
 
       -- what is left, tables and plan up to their limits

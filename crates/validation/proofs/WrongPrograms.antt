@@ -29,6 +29,7 @@ use Rattle.model.specs.Books.{Book, rule, newNames, newTerms, newTriples, newSh
 use Rattle.model.specs.Sizes.{pathEntries, endEntries, formEntries, shapePaths, listItems, sumOver, formsIn, pathsIn, itemsIn}
 use Rattle.model.specs.Valid.{capacity, isResource, defined, hasRoom, termOk, factOk, pathOk, endOk, shapeOk, targetOk, entriesFit, lineOk}
 use Rattle.model.specs.Cases.{bookB}
+use Rattle.model.specs.Limits.{maxNodes}
 use Rattle.grammar.specs.Writing.{spaced, bracket, nameOf, writePath, writeEnd, writeShape, writeTarget, writeNode, writeLine, renderFrom, render}
 use Rattle.grammar.specs.Valid.{pathDepth, endDepth, shapeDepth, lineDepth, reserved, wellNamed, newName, namesOk, validLine, validFrom, valid}
 use Rattle.grammar.proofs.BookB.{b-valid}
@@ -121,7 +122,7 @@ module _ (b : Book) (ok : valid b ≡ true) (after : Lent) (n : ℕ) (h : Right 
       subst (λ m. k < m) (h .counted) (subst (λ (ps : List ℕ). ruleStepAt ps r < stepCount ps) (sym (h .planned ∙ ap planOf (h .cells))) there)
 
   -- None has no members
-  none-empty : stepAt (planIn after) k ≡ Step.none → (v : ℕ) → v < 1024 → has (drop (16 * k) (after .work)) v ≡ false
+  none-empty : stepAt (planIn after) k ≡ Step.none → (v : ℕ) → v < maxNodes → has (drop (16 * k) (after .work)) v ≡ false
   unfolding setWords setAt setBy inStep
   none-empty e v l =
       let cs : List ℕ = cellsIn after in

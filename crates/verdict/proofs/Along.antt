@@ -15,6 +15,7 @@ use Rattle.nodeset.specs.Words.{has, wordsOf}
 use Rattle.nodeset.proofs.Sets.{has-of, has-wordsOf, has-drop}
 use Rattle.model.specs.Paths.{End, predicate, along, ends, endsOf}
 use Rattle.model.specs.Shapes.{within, subset, from, objects, starts, conforms}
+use Rattle.model.specs.Limits.{maxNodes}
 use Rattle.tables.specs.Layout.{nodeCount, pathCount, formCodeAt, formFirstAt, formSecondAt, formThirdAt, formFourthAt}
 use Rattle.tables.specs.Entries.{entryOf}
 use Rattle.tables.specs.Decode.{triplesAt, graphAt, pathAt, endAt, upperOf, shapeOf, shapeAt}
@@ -63,10 +64,10 @@ module _ {cs index : List ℕ} {vs : List ℤ} {memo : List ℕ} {e : ℕ} (r : 
       unfolding endsOf
       none w h = bool-cases (λ t. ended w ≡ t → (t && has (drop (16 * j) memo) w) ≡ false) (ended w) (λ _ k. absurd (omega (arith, ends-low cs index (r .tables) (along (pathAt cs (formFirstAt cs e))) v w l k))) (λ _ k. refl) refl
 
-      part-size : size (λ w. ended w && has (drop (16 * j) memo) w) 1024 ≡ size (λ w. ended w && has partRow w) (nodeCount cs)
+      part-size : size (λ w. ended w && has (drop (16 * j) memo) w) maxNodes ≡ size (λ w. ended w && has partRow w) (nodeCount cs)
       part-size =
-          ap (size (λ w. ended w && has (drop (16 * j) memo) w)) (let z : 1024 ≡ nodeCount cs + (1024 - nodeCount cs) = omega (arith, nodes-le cs (r .tables)) in z)
-          ∙ size-beyond (λ w. ended w && has (drop (16 * j) memo) w) (nodeCount cs) (1024 - nodeCount cs) none
+          ap (size (λ w. ended w && has (drop (16 * j) memo) w)) (let z : maxNodes ≡ nodeCount cs + (maxNodes - nodeCount cs) = omega (arith, nodes-le cs (r .tables)) in z)
+          ∙ size-beyond (λ w. ended w && has (drop (16 * j) memo) w) (nodeCount cs) (maxNodes - nodeCount cs) none
           ∙ size-ext (λ w. ended w && has (drop (16 * j) memo) w) (λ w. ended w && has partRow w) (nodeCount cs) (λ w m. ap (λ (b : Bool). ended w && b) (part-has w m))
 
       part-every : every (λ w. ended w ⇒ has (drop (16 * j) memo) w) (nodeCount cs) ≡ every (λ w. ended w ⇒ has partRow w) (nodeCount cs)
@@ -81,7 +82,7 @@ module _ {cs index : List ℕ} {vs : List ℤ} {memo : List ℕ} {e : ℕ} (r : 
       pub count-tells : {lo hi : ℕ} → lo ≡ formThirdAt cs e → hi ≡ formFourthAt cs e → formCodeAt cs e ≡ 13 → {ws : List ℕ} → ws ≡ nodesOf (onPath (Count lo hi)) (nodeCount cs) → Tells cs vs memo e ws
       unfolding asked graphAt
       count-tells {lo} {hi} el eh q ew = tells (onPath (Count lo hi)) ew λ v l k.
-          (λ i. within (el i) (upperOf (eh i)) (size (λ w. ends (nodeCount cs) (triplesAt cs) (pathAt cs (ep i)) v w && has (drop (16 * j) memo) w) 1024))
+          (λ i. within (el i) (upperOf (eh i)) (size (λ w. ends (nodeCount cs) (triplesAt cs) (pathAt cs (ep i)) v w && has (drop (16 * j) memo) w) maxNodes))
           ∙ ap (within (formThirdAt cs e) (upperOf (formFourthAt cs e))) (part-size 13 q (first-by cs e 13 q) j ej v l)
           ∙ holds-count (enough v l k) (firstPart cs e) refl refl q
 

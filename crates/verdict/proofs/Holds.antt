@@ -15,6 +15,7 @@ use Rattle.nodeset.specs.Words.{has, wordsOf}
 use Rattle.nodeset.proofs.Sets.{has-of}
 use Rattle.model.specs.Paths.{ends}
 use Rattle.model.specs.Shapes.{within, conforms}
+use Rattle.model.specs.Limits.{maxNodes, maxForms}
 use Rattle.tables.specs.Layout.{nodeCount, formCodeAt, formFirstAt, formSecondAt, formThirdAt, formFourthAt, rootAt}
 use Rattle.tables.specs.Entries.{Entry, entryOf}
 use Rattle.tables.specs.Decode.{triplesAt, graphAt, pathAt, upperOf, itemsAt, shapeOf, shapeAt}
@@ -40,10 +41,10 @@ module _ {cs index : List ℕ} {vs : List ℤ} {memo : List ℕ} {e v : ℕ} (k 
   pub asked-of : Asked cs index e v
   asked-of = record { tables = k .ready .tables; entry = k .ready .entry; node = k .node }
 
-  low : (w : ℕ) → w < nodeCount cs → w < 1024
+  low : (w : ℕ) → w < nodeCount cs → w < maxNodes
   low w l = omega (arith, nodes-le cs (k .ready .tables))
 
-  pub node-lt : v < 1024
+  pub node-lt : v < maxNodes
   node-lt = low v (k .node)
 
   -- what the entry says of v
@@ -86,10 +87,10 @@ module _ {cs index : List ℕ} {vs : List ℤ} {memo : List ℕ} {e v : ℕ} (k 
       ∙ ap (λ (b : ℕ). conforms (graphAt cs vs) (shapeAt cs vs b) w) (second-by cs e n q)
 
   -- the numbers of the parts are below 112
-  pub first-lt : (a : ℕ) → a ≡ firstPart cs e → hasParts cs e ≡ true → a < 112
+  pub first-lt : (a : ℕ) → a ≡ firstPart cs e → hasParts cs e ≡ true → a < maxForms
   first-lt a ea h = omega (arith, ea, parts-lower cs e (k .ready .tables) (k .ready .entry) h .0, k .ready .entry, sound-of cs (k .ready .tables) .forms)
 
-  pub second-lt : (b : ℕ) → b ≡ secondPart cs e → hasParts cs e ≡ true → b < 112
+  pub second-lt : (b : ℕ) → b ≡ secondPart cs e → hasParts cs e ≡ true → b < maxForms
   second-lt b eb h = omega (arith, eb, parts-lower cs e (k .ready .tables) (k .ready .entry) h .1, k .ready .entry, sound-of cs (k .ready .tables) .forms)
 
   module _ (a : ℕ) (ea : a ≡ firstPart cs e) where
@@ -118,7 +119,7 @@ module _ {cs index : List ℕ} {vs : List ℤ} {memo : List ℕ} {e v : ℕ} (k 
       row-known : (n : ℕ) → formCodeAt cs e ≡ n → partsCode n ≡ true → endsCode n ≡ true → (w : ℕ) → w < nodeCount cs → ended w ≡ true → has ws w ≡ conforms (graphAt cs vs) (shapeAt cs vs (firstOf n)) w
       row-known n q hp he w l h = has-of (λ w. has memo (yesPlace a w)) 16 ew w (low w l) ∙ first-known n q hp a w ea l (looks-along cs e n q he v w ∙ h)
 
-      pub row-low : (w : ℕ) → w < 1024 → has ws w ≡ true → w < nodeCount cs
+      pub row-low : (w : ℕ) → w < maxNodes → has ws w ≡ true → w < nodeCount cs
       row-low w l h = k .ready .right .low a w l (sym (has-of (λ w. has memo (yesPlace a w)) 16 ew w l) ∙ h)
 
       pub holds-count : formCodeAt cs e ≡ 13 → within (formThirdAt cs e) (upperOf (formFourthAt cs e)) (size (λ w. ended w && has ws w) (nodeCount cs)) ≡ holds

@@ -14,9 +14,10 @@ use Rattle.base.proofs.Bools.{bool-cases, never-both, or-cases}
 use Rattle.nodeset.specs.Words.{has, wordsOf, with, difference}
 use Rattle.nodeset.proofs.Sets.{has-out, has-wordsOf, length-wordsOf, has-zeros, has-drop, has-of, wordsOf-ext, difference-of}
 use Rattle.model.specs.Shapes.{conforms}
+use Rattle.model.specs.Limits.{maxNodes, maxForms}
 use Rattle.tables.specs.Layout.{nodeCount}
 use Rattle.tables.specs.Decode.{graphAt, shapeAt}
-use Rattle.verdict.specs.Memo.{yesPlace, noPlace, settled, Right}
+use Rattle.verdict.specs.Memo.{yesPlace, noPlace, settled, Right, memoCount}
 
 -- ---- words with one number more
 within : (ws : List ℕ) (m : ℕ) → has ws m ≡ true → m < 64 * length ws
@@ -46,7 +47,7 @@ settled-grows before after e v g h = ⊎-elim
 
 module _ (cs : List ℕ) (vs : List ℤ) where
   -- what is known is the verdict
-  pub known-right : (memo : List ℕ) (e v : ℕ) → Right cs vs memo → v < 1024 → settled memo e v ≡ true → has memo (yesPlace e v) ≡ conforms (graphAt cs vs) (shapeAt cs vs e) v
+  pub known-right : (memo : List ℕ) (e v : ℕ) → Right cs vs memo → v < maxNodes → settled memo e v ≡ true → has memo (yesPlace e v) ≡ conforms (graphAt cs vs) (shapeAt cs vs e) v
   unfolding settled
   known-right memo e v r l h = ⊎-elim (λ a. a ∙ sym (r .yes e v l a)) (λ a. no a (has memo (yesPlace e v)) refl ∙ sym (r .no e v l a)) (or-cases (has memo (yesPlace e v)) (has memo (noPlace e v)) h)
     where
@@ -63,17 +64,17 @@ module _ (cs : List ℕ) (vs : List ℤ) where
   }
 
   -- one verdict more
-  module _ (memo new : List ℕ) (e v : ℕ) (b : Bool) (r : Right cs vs memo) (l : v < nodeCount cs) (room : nodeCount cs ≤ 1024) (eb : b ≡ conforms (graphAt cs vs) (shapeAt cs vs e) v) (en : new ≡ with memo (cond b (yesPlace e v) (noPlace e v))) where
+  module _ (memo new : List ℕ) (e v : ℕ) (b : Bool) (r : Right cs vs memo) (l : v < nodeCount cs) (room : nodeCount cs ≤ maxNodes) (eb : b ≡ conforms (graphAt cs vs) (shapeAt cs vs e) v) (en : new ≡ with memo (cond b (yesPlace e v) (noPlace e v))) where
     -- a number of the memo afterwards: an old one, or the new one
     old-or-new : (m : ℕ) → has new m ≡ true → (has memo m ≡ true) ⊎ (m ≡ cond b (yesPlace e v) (noPlace e v))
     old-or-new m h = has-with memo (cond b (yesPlace e v) (noPlace e v)) m (ap (λ (ws : List ℕ). has ws m) (sym en) ∙ h)
 
     -- the new one is a yes of e and v, or a no
-    new-yes : (f w : ℕ) → w < 1024 → (c : Bool) → b ≡ c → yesPlace f w ≡ cond c (yesPlace e v) (noPlace e v) → (f ≡ e) × (w ≡ v) × (b ≡ true)
+    new-yes : (f w : ℕ) → w < maxNodes → (c : Bool) → b ≡ c → yesPlace f w ≡ cond c (yesPlace e v) (noPlace e v) → (f ≡ e) × (w ≡ v) × (b ≡ true)
     new-yes f w k true q m = (omega arith, omega arith, q)
     new-yes f w k false q m = absurd (omega arith)
 
-    new-no : (f w : ℕ) → w < 1024 → (c : Bool) → b ≡ c → noPlace f w ≡ cond c (yesPlace e v) (noPlace e v) → (f ≡ e) × (w ≡ v) × (b ≡ false)
+    new-no : (f w : ℕ) → w < maxNodes → (c : Bool) → b ≡ c → noPlace f w ≡ cond c (yesPlace e v) (noPlace e v) → (f ≡ e) × (w ≡ v) × (b ≡ false)
     new-no f w k true q m = absurd (omega arith)
     new-no f w k false q m = (omega arith, omega arith, q)
 
@@ -90,7 +91,7 @@ module _ (cs : List ℕ) (vs : List ℤ) where
     pub grows-more : (m : ℕ) → has memo m ≡ true → has new m ≡ true
     grows-more m h = ap (λ (ws : List ℕ). has ws m) en ∙ with-has memo (cond b (yesPlace e v) (noPlace e v)) m h
 
-    pub settled-more : length memo ≡ 3584 → e < 112 → settled new e v ≡ true
+    pub settled-more : length memo ≡ memoCount → e < maxForms → settled new e v ≡ true
     unfolding settled
     settled-more size low = go b refl
       where

@@ -14,19 +14,20 @@ use Rattle.nodeset.specs.Words.{has, wordsOf, with}
 use Rattle.nodeset.specs.Members.{nextFrom}
 use Rattle.nodeset.proofs.Sets.{has-of}
 use Rattle.model.specs.Shapes.{conforms}
+use Rattle.model.specs.Limits.{maxNodes, maxForms}
 use Rattle.tables.specs.Layout.{nodeCount, formCount}
 use Rattle.tables.specs.Decode.{graphAt, shapeAt}
 use Rattle.conditions.proofs.Members.{Passed, passed-none, passed-more, passed-all}
 use Rattle.paths.specs.Facts.{Tables}
 use Rattle.entries.proofs.Codes.{nodes-le, sound-of}
-use Rattle.verdict.specs.Memo.{yesPlace, noPlace, settled, Right, Ready, Settled}
+use Rattle.verdict.specs.Memo.{yesPlace, noPlace, settled, Right, Ready, Settled, memoCount}
 use Rattle.verdict.specs.Parts.{firstPart, secondPart, looksAt, PartsKnown}
 use Rattle.verdict.proofs.Memo.{with-new, settled-grows, known-right, right-none, right-more, grows-more, settled-more}
 
 -- ---- the loop over the nodes: n nodes, of which those before v are settled
 pub record Filling (cs : List ℕ) (vs : List ℤ) (start memo : List ℕ) (e : ℕ) (nodes : List ℕ) (n v : ℕ) : Type 0 where
   pub count : n ≡ nodeCount cs
-  pub size : length memo ≡ 3584
+  pub size : length memo ≡ memoCount
   pub right : Right cs vs memo
   pub grows : (m : ℕ) → has start m ≡ true → has memo m ≡ true
   pub passed : Passed (has nodes) (settled memo e) n v
@@ -43,7 +44,7 @@ module _ {cs : List ℕ} {vs : List ℤ} {start : List ℕ} {e : ℕ} {nodes : L
   pub filling-none : {index : List ℕ} {v : ℕ} → Ready cs index vs start e → n ≡ nodeCount cs → v ≡ nextFrom (has nodes) 0 n → Filling cs vs start start e nodes n v
   filling-none r en ev = record { count = en; size = r .size; right = r .right; grows = λ m h. h; passed = passed-none (has nodes) (settled start e) n ev }
 
-  pub filling-more : {index memo new : List ℕ} {v w : ℕ} {b : Bool} → Filling cs vs start memo e nodes n v → Tables cs index → e < 112 → v < n → b ≡ conforms (graphAt cs vs) (shapeAt cs vs e) v
+  pub filling-more : {index memo new : List ℕ} {v w : ℕ} {b : Bool} → Filling cs vs start memo e nodes n v → Tables cs index → e < maxForms → v < n → b ≡ conforms (graphAt cs vs) (shapeAt cs vs e) v
       → new ≡ with memo (cond b (yesPlace e v) (noPlace e v)) → length new ≡ length memo → w ≡ nextFrom (has nodes) (v + 1) n → Filling cs vs start new e nodes n w
   filling-more {index} {memo} {new} {v} {w} {b} f t le l eb en el ew =
       let lv : v < nodeCount cs = omega (arith, f .count) in
@@ -104,13 +105,13 @@ parts-settled {cs} {vs} e {a} {b} nodes {ws} {one} {two} {three} looks ea s eb t
     (ap (λ (a : ℕ). settled three a w) (sym ea) ∙ settled-grows two three a w (t .grows) (s .all w lw m), ap (λ (b : ℕ). settled three b w) (sym eb) ∙ t .all w lw m)
 
 -- an entry's number
-pub entry-lt : {cs index : List ℕ} {vs : List ℤ} {memo : List ℕ} {e : ℕ} → Ready cs index vs memo e → e < 112
+pub entry-lt : {cs index : List ℕ} {vs : List ℤ} {memo : List ℕ} {e : ℕ} → Ready cs index vs memo e → e < maxForms
 entry-lt {cs} r = omega (arith, r .entry, sound-of cs (r .tables) .forms)
 
 -- ---- one question: at first nothing is known, and one node is wanted
-pub ready-none : {cs index : List ℕ} {vs : List ℤ} {e : ℕ} → Tables cs index → e < formCount cs → Ready cs index vs (replicate 3584 0) e
-ready-none {cs} {index} {vs} t l = record { tables = t; size = length-replicate {A = ℕ} 3584 0; right = right-none cs vs 3584; entry = l }
+pub ready-none : {cs index : List ℕ} {vs : List ℤ} {e : ℕ} → Tables cs index → e < formCount cs → Ready cs index vs (replicate memoCount 0) e
+ready-none {cs} {index} {vs} t l = record { tables = t; size = length-replicate {A = ℕ} memoCount 0; right = right-none cs vs memoCount; entry = l }
 
-pub one-known : {cs : List ℕ} {vs : List ℤ} {start memo : List ℕ} {e : ℕ} {want : List ℕ} (v : ℕ) → want ≡ with (replicate 16 0) v → Settled cs vs start memo e want → v < nodeCount cs → nodeCount cs ≤ 1024 → has memo (yesPlace e v) ≡ conforms (graphAt cs vs) (shapeAt cs vs e) v
+pub one-known : {cs : List ℕ} {vs : List ℤ} {start memo : List ℕ} {e : ℕ} {want : List ℕ} (v : ℕ) → want ≡ with (replicate 16 0) v → Settled cs vs start memo e want → v < nodeCount cs → nodeCount cs ≤ maxNodes → has memo (yesPlace e v) ≡ conforms (graphAt cs vs) (shapeAt cs vs e) v
 one-known {cs} {vs} {start} {memo} {e} {want} v ew s l room =
     known-right cs vs memo e v (s .right) (omega arith) (s .all v l (ap (λ (ws : List ℕ). has ws v) ew ∙ with-new (replicate 16 0) v (omega (arith, length-replicate {A = ℕ} 16 0))))

@@ -8,6 +8,7 @@ use lib.IntN.{ℤ}
 use lib.ListN.{length}
 use Rattle.nodeset.specs.Words.{has}
 use Rattle.model.specs.Shapes.{conforms}
+use Rattle.model.specs.Limits.{maxNodes, maxForms}
 use Rattle.tables.specs.Layout.{nodeCount, formCount}
 use Rattle.tables.specs.Decode.{graphAt, shapeAt}
 use Rattle.paths.specs.Facts.{Tables}
@@ -19,20 +20,24 @@ yesPlace e v = 32 * e * 64 + v
 abbrev pub noPlace : ℕ → ℕ → ℕ
 noPlace e v = (32 * e + 16) * 64 + v
 
+-- how long the memo is
+abbrev pub memoCount : ℕ
+memoCount = 32 * maxForms
+
 -- the verdict on entry e and node v is known
 unfoldable pub settled : List ℕ → ℕ → ℕ → Bool
 settled memo e v = has memo (yesPlace e v) || has memo (noPlace e v)
 
 -- what is known is right, and is of nodes
 pub record Right (cs : List ℕ) (vs : List ℤ) (memo : List ℕ) : Type 0 where
-  pub low : (e v : ℕ) → v < 1024 → has memo (yesPlace e v) ≡ true → v < nodeCount cs
-  pub yes : (e v : ℕ) → v < 1024 → has memo (yesPlace e v) ≡ true → conforms (graphAt cs vs) (shapeAt cs vs e) v ≡ true
-  pub no : (e v : ℕ) → v < 1024 → has memo (noPlace e v) ≡ true → conforms (graphAt cs vs) (shapeAt cs vs e) v ≡ false
+  pub low : (e v : ℕ) → v < maxNodes → has memo (yesPlace e v) ≡ true → v < nodeCount cs
+  pub yes : (e v : ℕ) → v < maxNodes → has memo (yesPlace e v) ≡ true → conforms (graphAt cs vs) (shapeAt cs vs e) v ≡ true
+  pub no : (e v : ℕ) → v < maxNodes → has memo (noPlace e v) ≡ true → conforms (graphAt cs vs) (shapeAt cs vs e) v ≡ false
 
 -- an entry is to be settled
 pub record Ready (cs index : List ℕ) (vs : List ℤ) (memo : List ℕ) (e : ℕ) : Type 0 where
   pub tables : Tables cs index
-  pub size : length memo ≡ 3584
+  pub size : length memo ≡ memoCount
   pub right : Right cs vs memo
   pub entry : e < formCount cs
 

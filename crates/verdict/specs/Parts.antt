@@ -10,22 +10,23 @@ use Rattle.nodeset.specs.Words.{has}
 use Rattle.model.specs.Paths.{ends}
 use Rattle.model.specs.Shapes.{conforms}
 use Rattle.tables.specs.Layout.{nodeCount, formCodeAt, formFirstAt, formSecondAt, rootAt}
+use Rattle.tables.specs.Codes as codes
 use Rattle.tables.specs.Decode.{triplesAt, graphAt, pathAt, shapeAt}
 use Rattle.verdict.specs.Memo.{settled, Ready}
 
 -- by code: `count` and `all`; these and `shape`, `and`, `or`, `not`
 abbrev pub endsCode : ℕ → Bool
-endsCode k = eqb k 13 || eqb k 14
+endsCode k = eqb k codes.formCount || eqb k codes.formAll
 
 abbrev pub partsCode : ℕ → Bool
-partsCode k = (leb 2 k && leb k 5) || endsCode k
+partsCode k = (leb codes.formShape k && leb k codes.formNot) || endsCode k
 
 -- the first part, of a shape's root and two operands; the second, of the first and the second operand
 abbrev pub firstBy : ℕ → ℕ → ℕ → ℕ → ℕ
-firstBy k root a b = cond (eqb k 2) root (cond (leb k 5) a b)
+firstBy k root a b = cond (eqb k codes.formShape) root (cond (leb k codes.formNot) a b)
 
 abbrev pub secondBy : ℕ → ℕ → ℕ → ℕ
-secondBy k first b = cond (eqb k 3 || eqb k 4) b first
+secondBy k first b = cond (eqb k codes.formAnd || eqb k codes.formOr) b first
 
 module _ (cs : List ℕ) (e : ℕ) where
   unfoldable pub looksAtEnds : Bool

@@ -14,6 +14,8 @@ use entries::count_holds;
 use entries::ends_from;
 use entries::lang_holds;
 use entries::sets_hold;
+use model::MAX_FORMS;
+use model::MAX_NODES;
 use model::Refusal;
 use nodeset::NodeSet;
 use nodeset::insert;
@@ -28,6 +30,7 @@ use stepsets::NO_END;
 use stepsets::ends_set;
 use stepsets::lang_set;
 use stepsets::path_set;
+use tables::codes;
 use tables::layout::CELLS;
 use tables::layout::VALUES;
 use tables::reads::form_code;
@@ -50,18 +53,25 @@ ghost use Rattle.base.specs.Bounded.{every};
 ghost use Rattle.nodeset.specs.Words.{has, wordsOf, with};
 ghost use Rattle.model.specs.Answers.{isGiven};
 ghost use Rattle.model.specs.Shapes.{conforms};
+ghost use Rattle.model.specs.Limits.{maxNodes, maxForms};
 ghost use Rattle.tables.specs.Layout.{cellCount, nodeCount, formCount, formCodeAt};
+ghost use Rattle.tables.specs.Codes as codes;
 ghost use Rattle.tables.specs.Decode.{graphAt, shapeAt};
 ghost use Rattle.tables.specs.WellFormed.{wellFormed};
 ghost use Rattle.paths.specs.Facts.{Tables};
 ghost use Rattle.stepsets.specs.Ends.{Held};
 ghost use Rattle.verdict.specs.Answers.{answerOf, answerOn, verdictAnswer, tallied};
-ghost use Rattle.verdict.specs.Memo.{yesPlace, noPlace, Ready, Decided, Settled};
+ghost use Rattle.verdict.specs.Memo.{yesPlace, noPlace, Ready, Decided, Settled, memoCount};
 ghost use Rattle.verdict.specs.Parts.{looksAtEnds, hasParts, firstPart, secondPart, looksAt, PartsKnown, Tells, Enough};
+
+// How long the memo is: 32 words for each entry; and the rows of ends: sixteen for each node.
+const MEMO_WORDS: usize = 32 * MAX_FORMS;
+
+const ROWS_WORDS: usize = 16 * MAX_NODES;
 
 // Node v is known to conform to entry e.
 fn known(memo: &[u64], e: usize, v: usize) -> bool
-    requires { ⌜ (e < 112) × (v < 1024) ⌝ }
+    requires { ⌜ (e < maxForms) × (v < maxNodes) ⌝ }
     ensures { λ r. ⌜ r ≡ has (now (memo .entry)) (yesPlace e v) ⌝ }
 {
     test(memo, 32 * e * 64 + v)
@@ -69,7 +79,7 @@ fn known(memo: &[u64], e: usize, v: usize) -> bool
 
 // Whether node v conforms to entry e is known from now on.
 fn remember(memo: &mut [u64], e: usize, v: usize, yes: bool)
-    requires { ⌜ (e < 112) × (v < 1024) ⌝ }
+    requires { ⌜ (e < maxForms) × (v < maxNodes) ⌝ }
     ensures { λ _. ⌜ now (memo .exit) ≡ with (now (memo .entry)) (cond yes (yesPlace e v) (noPlace e v)) ⌝ }
 {
     insert(memo, pick(yes, 32 * e * 64 + v, (32 * e + 16) * 64 + v));
@@ -85,7 +95,7 @@ fn row(memo: &[u64], at: usize) -> NodeSet
 
 // The nodes of want of which it is not known whether they conform to entry e.
 fn unsettled(memo: &[u64], e: usize, want: NodeSet) -> NodeSet
-    requires { ⌜ (e < 112) × (length (now memo) ≡ 3584) ⌝ }
+    requires { ⌜ (e < maxForms) × (length (now memo) ≡ memoCount) ⌝ }
     ensures { λ r. ⌜ r .words ≡ wordsOf (λ v. (has (want .words) v && not (has (now (memo .entry)) (yesPlace e v))) && not (has (now (memo .entry)) (noPlace e v))) 16 ⌝ }
 {
     let yes = row(memo, 32 * e);
@@ -99,7 +109,7 @@ fn looks_at_ends(cells: &[u16], e: usize) -> bool
     ensures { λ r. ⌜ r ≡ looksAtEnds (now (cells .entry)) e ⌝ }
 {
     let code = form_code(cells, e);
-    (code == 13) | (code == 14)
+    (code == codes::FORM_COUNT) | (code == codes::FORM_ALL)
 }
 
 // Entry e is one of these: the verdict on it looks at parts.
@@ -107,7 +117,7 @@ fn has_parts(cells: &[u16], e: usize) -> bool
     ensures { λ r. ⌜ r ≡ hasParts (now (cells .entry)) e ⌝ }
 {
     let code = form_code(cells, e);
-    ((2 <= code) & (code <= 5)) | looks_at_ends(cells, e)
+    ((codes::FORM_SHAPE <= code) & (code <= codes::FORM_NOT)) | looks_at_ends(cells, e)
 }
 
 // The numbers of the parts of entry e; one that has a single part has it as both.
@@ -117,7 +127,11 @@ fn first_part(cells: &[u16], e: usize) -> usize
     let code = form_code(cells, e);
     let a = wide(form_first(cells, e));
     let b = wide(form_second(cells, e));
-    pick(code == 2, root(cells, a), pick(code <= 5, a, b))
+    pick(
+        code == codes::FORM_SHAPE,
+        root(cells, a),
+        pick(code <= codes::FORM_NOT, a, b),
+    )
 }
 
 fn second_part(cells: &[u16], e: usize) -> usize
@@ -125,7 +139,11 @@ fn second_part(cells: &[u16], e: usize) -> usize
 {
     let code = form_code(cells, e);
     let b = wide(form_second(cells, e));
-    pick((code == 3) | (code == 4), b, first_part(cells, e))
+    pick(
+        (code == codes::FORM_AND) | (code == codes::FORM_OR),
+        b,
+        first_part(cells, e),
+    )
 }
 
 // Where the verdicts on entry e at these nodes look at its parts.
@@ -155,46 +173,46 @@ fn entry_holds(
     let a = first_part(cells, e);
     let b = second_part(cells, e);
     match form_code(cells, e) {
-        0 => true,
-        1 => {
+        codes::FORM_TRUE => true,
+        codes::FORM_IS => {
             let node = form_node(cells, e);
             v == wide(node.0)
         }
-        2 => known(memo, a, v),
-        3 => known(memo, a, v) & known(memo, b, v),
-        4 => known(memo, a, v) | known(memo, b, v),
-        5 => !known(memo, a, v),
-        13 => {
+        codes::FORM_SHAPE => known(memo, a, v),
+        codes::FORM_AND => known(memo, a, v) & known(memo, b, v),
+        codes::FORM_OR => known(memo, a, v) | known(memo, b, v),
+        codes::FORM_NOT => !known(memo, a, v),
+        codes::FORM_COUNT => {
             let part = row(memo, 32 * a);
             let words = part.words;
             count_holds(cells, index, e, v, &words)
         }
-        14 => {
+        codes::FORM_ALL => {
             let part = row(memo, 32 * a);
             let words = part.words;
             all_holds(cells, index, e, v, &words)
         }
-        17 => closed_holds(cells, e, v),
-        20 => lang_holds(cells, index, values, e, v),
-        6..=12 => test_holds(cells, values, e, v),
+        codes::FORM_CLOSED => closed_holds(cells, e, v),
+        codes::FORM_ONELANG => lang_holds(cells, index, values, e, v),
+        codes::FORM_KIND..=codes::FORM_BELOW => test_holds(cells, values, e, v),
         _ => sets_hold(cells, index, values, e, v),
     }
 }
 
 // The nodes that conform to entry e, which looks along a path, all at once. Of a node where what is known of the parts is not
-// enough nothing is said. f and s are rows for the ends of all nodes, of the numbers x and y.
+// enough nothing is said. first and second are rows for the ends of all nodes: of number end, and of number link.
 fn set_of_rows(
-    f: &mut [u64],
-    x: &mut usize,
-    s: &mut [u64],
-    y: &mut usize,
+    first: &mut [u64],
+    end: &mut usize,
+    second: &mut [u64],
+    link: &mut usize,
     memo: &[u64],
     cells: &[u16],
     index: &[u16],
     values: &[i64],
     e: usize,
 ) -> NodeSet
-    requires { ⌜ Ready (now cells) (now index) (now values) (now memo) e × (13 ≤ formCodeAt (now cells) e) × (formCodeAt (now cells) e ≡ 17 → ⊥) × Held (now cells) (now x) (now f) × Held (now cells) (now y) (now s) ⌝ }
+    requires { ⌜ Ready (now cells) (now index) (now values) (now memo) e × (codes.formCount ≤ formCodeAt (now cells) e) × (formCodeAt (now cells) e ≡ codes.formClosed → ⊥) × Held (now cells) (now end) (now first) × Held (now cells) (now link) (now second) ⌝ }
     ensures { λ r. ⌜ Tells (now (cells .entry)) (now (values .entry)) (now (memo .entry)) e (r .words) ⌝ }
 {
     let p = wide(form_first(cells, e));
@@ -202,30 +220,89 @@ fn set_of_rows(
     let count = Ask::Count(wide(form_third(cells, e)), wide(form_fourth(cells, e)));
     let j = 2 * wide(form_second(cells, e));
     match form_code(cells, e) {
-        13 => path_set(f, x, count, false, cells, index, values, p, memo, j),
-        14 => path_set(f, x, Ask::Every, false, cells, index, values, p, memo, j),
-        15 => ends_set(f, x, s, y, Ask::Equal, false, cells, index, values, p, l),
-        16 => ends_set(f, x, s, y, Ask::Apart, false, cells, index, values, p, l),
-        18 => ends_set(f, x, s, y, Ask::Less, false, cells, index, values, p, l),
-        19 => ends_set(f, x, s, y, Ask::LessEq, false, cells, index, values, p, l),
-        _ => lang_set(f, x, false, cells, index, values, p),
+        codes::FORM_COUNT => path_set(first, end, count, false, cells, index, values, p, memo, j),
+        codes::FORM_ALL => path_set(
+            first,
+            end,
+            Ask::Every,
+            false,
+            cells,
+            index,
+            values,
+            p,
+            memo,
+            j,
+        ),
+        codes::FORM_EQUAL => ends_set(
+            first,
+            end,
+            second,
+            link,
+            Ask::Equal,
+            false,
+            cells,
+            index,
+            values,
+            p,
+            l,
+        ),
+        codes::FORM_APART => ends_set(
+            first,
+            end,
+            second,
+            link,
+            Ask::Apart,
+            false,
+            cells,
+            index,
+            values,
+            p,
+            l,
+        ),
+        codes::FORM_LESS => ends_set(
+            first,
+            end,
+            second,
+            link,
+            Ask::Less,
+            false,
+            cells,
+            index,
+            values,
+            p,
+            l,
+        ),
+        codes::FORM_LESSEQ => ends_set(
+            first,
+            end,
+            second,
+            link,
+            Ask::LessEq,
+            false,
+            cells,
+            index,
+            values,
+            p,
+            l,
+        ),
+        _ => lang_set(first, end, false, cells, index, values, p),
     }
 }
 
 // The same, with rows of its own.
 fn set_along(memo: &[u64], cells: &[u16], index: &[u16], values: &[i64], e: usize) -> NodeSet
-    requires { ⌜ Ready (now cells) (now index) (now values) (now memo) e × (13 ≤ formCodeAt (now cells) e) × (formCodeAt (now cells) e ≡ 17 → ⊥) ⌝ }
+    requires { ⌜ Ready (now cells) (now index) (now values) (now memo) e × (codes.formCount ≤ formCodeAt (now cells) e) × (formCodeAt (now cells) e ≡ codes.formClosed → ⊥) ⌝ }
     ensures { λ r. ⌜ Tells (now (cells .entry)) (now (values .entry)) (now (memo .entry)) e (r .words) ⌝ }
 {
-    let mut f = [0u64; 16384];
-    let mut s = [0u64; 16384];
-    let mut x = NO_END;
-    let mut y = NO_END;
+    let mut first = [0u64; ROWS_WORDS];
+    let mut second = [0u64; ROWS_WORDS];
+    let mut end = NO_END;
+    let mut link = NO_END;
     set_of_rows(
-        &mut f,
-        &mut x,
-        &mut s,
-        &mut y,
+        &mut first,
+        &mut end,
+        &mut second,
+        &mut link,
         memo,
         cells,
         index,
@@ -271,10 +348,10 @@ fn decide(
     ensures { λ r. ⌜ Decided (now (cells .entry)) (now (values .entry)) e (nodes .words) (r .words) ⌝ }
 {
     let code = form_code(cells, e);
-    if code < 13 {
+    if code < codes::FORM_COUNT {
         return set_among(memo, cells, index, values, e, nodes);
     }
-    if (code == 17) | (nodes.count() <= 16) {
+    if (code == codes::FORM_CLOSED) | (nodes.count() <= 16) {
         return set_among(memo, cells, index, values, e, nodes);
     }
     set_along(memo, cells, index, values, e)
@@ -331,8 +408,7 @@ fn conforming(cells: &[u16], values: &[i64], e: usize, v: usize) -> bool
     // the chains of the facts, made once
     let mut index = [0u16; INDEX_CELLS];
     index_table(&mut index, cells);
-    // 32 words for each of 112 entries
-    let mut memo = [0u64; 3584];
+    let mut memo = [0u64; MEMO_WORDS];
     let nobody = NodeSet::EMPTY;
     settle(&mut memo, e, nobody.with(v), cells, &index, values);
     known(&memo, e, v)

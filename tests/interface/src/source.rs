@@ -50,23 +50,39 @@ pub fn read(texts: &Sources, faults: &mut Vec<String>) -> Source {
 /// Numbers that stand in definitions only: how many bytes a name takes, where a plan has its number of steps, what the verdict
 /// answers for a node that conforms, what stands for no refusal.
 const DEFINED: [(&str, &str, &str); 4] = [
-    ("NAME", "padded w = w ++ replicate (", " - length w) 0"),
+    ("NAME", "nameBytes = ", ""),
     ("PLAN_STEPS", "stepCount ps = getD ps ", " 0"),
     ("CONFORMS", "verdictConforms (given b) = cond b ", " 0"),
     ("NONE", "runNumber Option.none = ", ""),
 ];
 
-/// `pub const NODE_KINDS: usize = 10;`
+/// `pub const NODE_KINDS: usize = 10;`, `pub const NODE_TYPES: usize = NODE_KINDS + MAX_NODES;`
 fn constants(code: &[Text], faults: &mut Vec<String>) -> Numbers {
+    fn parts(line: &str) -> Option<(&str, &str)> {
+        line.strip_prefix("pub const ")?.strip_suffix(';')?.split_once(": usize = ")
+    }
     let mut found = Numbers::new();
-    for line in code.iter().flat_map(|file| file.text.lines()) {
-        let parts = line.strip_prefix("pub const ").and_then(|l| l.strip_suffix(';')?.split_once(": usize = "));
-        let Some((name, Some(n))) = parts.map(|(name, n)| (name, decimal(n))) else { continue };
-        if found.insert(name.to_owned(), n).is_some_and(|before| before != n) {
-            faults.push(format!("{name}: two numbers in the source"));
+    let mut left: Vec<_> = code.iter().flat_map(|file| file.text.lines()).filter_map(parts).collect();
+    // a constant may stand before those that it is a sum of
+    while !left.is_empty() {
+        let known: Vec<_> = left.iter().filter_map(|(name, sum)| Some((*name, value(sum, &found)?))).collect();
+        if known.is_empty() {
+            break;
+        }
+        left.retain(|(_, sum)| value(sum, &found).is_none());
+        for (name, n) in known {
+            if found.insert(name.to_owned(), n).is_some_and(|before| before != n) {
+                faults.push(format!("{name}: two numbers in the source"));
+            }
         }
     }
     found
+}
+
+/// A sum of products of numbers and constants, where all of these are known.
+fn value(sum: &str, constants: &Numbers) -> Option<u64> {
+    let factor = |f: &str| decimal(f).or_else(|| constants.get(f.trim()).copied());
+    sum.split('+').map(|product| product.split('*').map(factor).product::<Option<u64>>()).sum()
 }
 
 /// A slice's size is the constant that its length is tested against: `PLAN_CELLS <= plan.len()`, `plan.len() < PLAN_CELLS`, and

@@ -26,7 +26,7 @@ pub struct Sources {
 
 const EXPORTED: &str = "crates/melivanoup/src/lib.rt";
 const DEFINITIONS: [&str; 4] = [
-    "crates/tables/specs/Layout.antt", "crates/plan/specs/Layout.antt", "crates/text/specs/Pool.antt",
+    "crates/tables/specs/Layout.antt", "crates/plan/specs/Layout.antt", "crates/model/specs/Limits.antt",
     "crates/melivanoup/specs/Numbers.antt",
 ];
 

@@ -129,15 +129,18 @@ fn change_uses(file: &Text) -> Vec<Change> {
 }
 
 /// In the source: the constants, cases and definitions that callers depend on, by how their lines begin.
-const DEPENDED: [&str; 21] = [
+const DEPENDED: [&str; 36] = [
     "pub const NAMES:", "pub const CELLS:", "pub const VALUES:", "pub const PLAN_CELLS:", "pub const WORK_WORDS:",
-    "pub const MAX_NODES:", "pub const LIST_PLACES:", "pub const LENGTH_PLACES:", "pub const PAGE_BYTES:",
-    "pub const MAX_BYTES:", "pub const SHAPE_NAMES:", "pub const RULE_SHAPES:", "nodeCount cs =", "shapeCount cs =",
-    "factCount cs =", "ruleCount cs =", "stepCount ps =", "padded w =", "runNumber Option.none =", "verdictConforms (given b) =",
+    "pub const LIST_PLACES:", "pub const LENGTH_PLACES:", "pub const PAGE_BYTES:", "pub const SHAPE_NAMES:",
+    "pub const RULE_SHAPES:", "pub const NODE_KINDS:", "pub const NODE_TYPES:", "pub const NAME_BYTES:",
+    "pub const BREAK_BYTES:", "pub const MAX_BYTES:", "pub const MAX_NODES:", "pub const MAX_LINKS:", "pub const MAX_TYPES:",
+    "pub const MAX_LANGS:", "pub const MAX_SHAPES:", "pub const MAX_RULES:", "pub const MAX_FACTS:", "pub const MAX_FORMS:",
+    "pub const MAX_PATHS:", "pub const MAX_ITEMS:", "pub const MAX_NAME:", "pub const MAX_STEPS:", "nodeCount cs =", "shapeCount cs =",
+    "factCount cs =", "ruleCount cs =", "stepCount ps =", "nameBytes =", "runNumber Option.none =", "verdictConforms (given b) =",
     "        Refusal::",
 ];
 
-/// Each number that callers depend on one more; each test of a length against another constant.
+/// Each number that callers depend on one more, and each sum; each test of a length against another constant.
 fn change_source(file: &Text) -> Vec<Change> {
     let mut planter = Planter::new(file);
     let text = &file.text;
@@ -147,6 +150,8 @@ fn change_source(file: &Text) -> Vec<Change> {
         let is_one = |w: &str| is_number(w) && !(w == "0" && line.contains("=>"));
         if let Some(number) = word(text, at + equals..at + line.len(), is_one) {
             planter.increase(number);
+        } else if let Some(end) = line.rfind(';') {
+            planter.plant(at + end..at + end, " + 1");
         }
     }
     let sized = ["PLAN_CELLS", "WORK_WORDS", "LIST_PLACES", "LENGTH_PLACES", "PAGE_BYTES", "NAMES", "CELLS", "VALUES"];

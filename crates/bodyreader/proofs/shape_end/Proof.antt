@@ -2,7 +2,7 @@ use Prim.Native.Nat.{_+_}
 use mathlib.Core.Path.{sym, ap, _∙_}
 use mathlib.Core.Bool.{true}
 use lib.Seq.{slice}
-use Rattle.model.specs.Books.{shape, shapes}
+use Rattle.model.specs.Books.{shape}
 use Rattle.model.specs.declared.Counts.{Counts}
 use Rattle.linereader.specs.declared.LineAnswer.{LineAnswer}
 use Rattle.linereader.specs.Storing.{lineEnd}

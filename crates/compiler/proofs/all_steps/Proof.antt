@@ -1,5 +1,6 @@
-use mathlib.Core.List.{[], _∷_}
 use denote.Ref.{now}
+use Rattle.tables.specs.Layout.{noNumber}
+use Rattle.plan.specs.Steps.{Step, numbersOf}
 use Rattle.compiler.proofs.Laws.{two-law}
 use borrow.Author.Needs.{needs}
 use Rattle.compiler.proofs.all_steps.Statement.{statement}
@@ -30,7 +31,8 @@ same-length : tie.Need-same-length
 same-length c = search needs
 
 returns : tie.Need-returns
-returns c = let a = c .before .before .before .before .before .before .before .before .before .before .before .args in two-law (now (a .plan)) (c .before .before .before .before .before .before .before .before .put-step .last .0) (c .before .before .before .before .put-step2 .last .0) (a .n) (9 ∷ a .p ∷ a .j ∷ 0 ∷ 0 ∷ []) (8 ∷ a .p ∷ a .k ∷ 1 ∷ 65535 ∷ []) (c .before .narrow .result) (c .narrow2 .result) (c .before .before .before .before .before .before .before .before .put-step .ensures) (c .before .before .before .before .put-step2 .ensures) (c .before .narrow .ensures) (c .narrow2 .ensures)
+unfolding numbersOf
+returns c = let a = c .before .before .before .before .before .before .before .before .before .before .before .args in two-law (now (a .plan)) (c .before .before .before .before .before .before .before .before .put-step .last .0) (c .before .before .before .before .put-step2 .last .0) (a .n) (numbersOf (Step.every (a .p) (a .j))) (numbersOf (Step.count (a .p) (a .k) 1 noNumber)) (c .before .narrow .result) (c .narrow2 .result) (c .before .before .before .before .before .before .before .before .put-step .ensures) (c .before .before .before .before .put-step2 .ensures) (c .before .narrow .ensures) (c .narrow2 .ensures)
 
 pub all-steps-spec : {M : Type 1} → statement M
 all-steps-spec =

@@ -4,6 +4,7 @@ use mathlib.Core.Path.{_≡_, refl, ap, _∙_, subst}
 use denote.Ref.{now}
 use native.Mathlib.Omega.{arith}
 use lib.ListN.{getD, length, length-set, length-replicate}
+use Rattle.model.specs.Limits.{maxForms}
 use Rattle.tables.specs.Layout.{formCount}
 use Rattle.translation.specs.Compile.{made}
 use Rattle.compiler.specs.Stores.{FormsAdded}
@@ -14,7 +15,7 @@ use Rattle.compiler.proofs.fill_forms.Statement.{statement}
 use Rattle.compiler.proofs.fill_forms.Tie as tie
 
 abbrev Inv-loop : tie.InvT-loop
-Inv-loop plan₀ breaks₀ cells forms keeps₀ n₀ e₀ plan breaks keeps n e = (e ≤ forms) × (forms ≡ formCount cells) × (length plan ≡ length plan₀) × (length breaks ≡ 112) × (length keeps ≡ 112) × FormsAdded cells plan₀ plan e n breaks × ((j : ℕ) → getD keeps j 0 ≡ made cells e .keep j)
+Inv-loop plan₀ breaks₀ cells forms keeps₀ n₀ e₀ plan breaks keeps n e = (e ≤ forms) × (forms ≡ formCount cells) × (length plan ≡ length plan₀) × (length breaks ≡ maxForms) × (length keeps ≡ maxForms) × FormsAdded cells plan₀ plan e n breaks × ((j : ℕ) → getD keeps j 0 ≡ made cells e .keep j)
 
 abbrev μ-loop : tie.MeasureT-loop
 μ-loop plan₀ breaks₀ cells forms keeps₀ n₀ e₀ plan breaks keeps n e = forms - e
@@ -23,7 +24,7 @@ form-count-requires : tie.Need-form-count-requires Inv-loop μ-loop
 form-count-requires c κs = search needs
 
 loop-holds : tie.Need-loop-holds Inv-loop μ-loop
-loop-holds c = let a = c .before .before .before .before .args in (search needs, c .form-count .ensures, refl, ap length (c .before .before .before .before .pre .1) ∙ length-replicate {A = ℕ} 112 0, length-replicate {A = ℕ} 112 0, forms-none (now (a .cells)) (now (a .plan)) (now (a .breaks)) (λ j. ap (λ (l : List ℕ). getD l j 0) (c .before .before .before .before .pre .1) ∙ zeros 112 j), keeps-none (now (a .cells)))
+loop-holds c = let a = c .before .before .before .before .args in (search needs, c .form-count .ensures, refl, ap length (c .before .before .before .before .pre .1) ∙ length-replicate {A = ℕ} maxForms 0, length-replicate {A = ℕ} maxForms 0, forms-none (now (a .cells)) (now (a .plan)) (now (a .breaks)) (λ j. ap (λ (l : List ℕ). getD l j 0) (c .before .before .before .before .pre .1) ∙ zeros maxForms j), keeps-none (now (a .cells)))
 
 slice-aggregate-compile-entry : tie.Need-slice-aggregate-compile-entry Inv-loop μ-loop
 slice-aggregate-compile-entry c = search needs

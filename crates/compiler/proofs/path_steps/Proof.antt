@@ -1,3 +1,4 @@
+use Rattle.plan.specs.Steps.{numbersOf}
 use borrow.Author.Needs.{needs}
 use Rattle.compiler.proofs.path_steps.Statement.{statement}
 use Rattle.compiler.proofs.path_steps.Tie as tie
@@ -12,6 +13,7 @@ same-length : tie.Need-same-length
 same-length c = search needs
 
 returns : tie.Need-returns
+unfolding numbersOf
 returns c = rw (← c .before .before .before .before .form-first .ensures) (c .before .before .two .ensures)
 
 pub path-steps-spec : {M : Type 1} → statement M

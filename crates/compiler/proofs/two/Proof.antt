@@ -30,7 +30,7 @@ same-length : tie.Need-same-length
 same-length c = search needs
 
 returns : tie.Need-returns
-returns c = let a = c .before .before .before .before .before .before .before .before .before .before .before .args in two-law (now (a .plan)) (c .before .before .before .before .before .before .before .before .put-step .last .0) (c .before .before .before .before .put-step2 .last .0) (a .n) (a .c ∷ a .a ∷ a .b ∷ 0 ∷ 0 ∷ []) (a .d ∷ a .x ∷ a .y ∷ 0 ∷ 0 ∷ []) (c .before .narrow .result) (c .narrow2 .result) (c .before .before .before .before .before .before .before .before .put-step .ensures) (c .before .before .before .before .put-step2 .ensures) (c .before .narrow .ensures) (c .narrow2 .ensures)
+returns c = let a = c .before .before .before .before .before .before .before .before .before .before .before .args in two-law (now (a .plan)) (c .before .before .before .before .before .before .before .before .put-step .last .0) (c .before .before .before .before .put-step2 .last .0) (a .n) (a .keeping ∷ a .a ∷ a .b ∷ 0 ∷ 0 ∷ []) (a .breaking ∷ a .x ∷ a .y ∷ 0 ∷ 0 ∷ []) (c .before .narrow .result) (c .narrow2 .result) (c .before .before .before .before .before .before .before .before .put-step .ensures) (c .before .before .before .before .put-step2 .ensures) (c .before .narrow .ensures) (c .narrow2 .ensures)
 
 pub two-spec : {M : Type 1} → statement M
 two-spec =

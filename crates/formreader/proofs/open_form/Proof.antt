@@ -4,6 +4,7 @@ use native.Mathlib.Omega.{arith}
 use borrow.Author.Tests.{leb-false}
 use lib.ListN.{length}
 use Rattle.text.proofs.Parts.{inside}
+use Rattle.model.specs.Limits.{maxForms}
 use Rattle.grammar.specs.Reading.{formBegun}
 use Rattle.itemreader.proofs.Heads.{headed-word}
 use Rattle.leafreader.proofs.Forms.{form-no, form-is}
@@ -56,7 +57,7 @@ open-word-requires c κs =
     let s = c .before .before .before .before .before .before .before .before .before .before .before .before .args in
     let p = c .before .before .before .before .before .before .before .before .before .before .before .before .pre in
     let w = headed-word _ _ _ _ (c .before .before .before .before .before .form-head .result) _ _ (c .before .before .before .before .before .form-head .ensures .1) (c .before .before .before .code .given .1) in
-    let u = leb-false 112 (s .n .forms + s .up) (w .2) in
+    let u = leb-false maxForms (s .n .forms + s .up) (w .2) in
     (w .3, p .1, p .2, p .3, w .1, omega arith, p .5, p .6, p .7, w .0, p .8)
 
 same-length : tie.Need-same-length

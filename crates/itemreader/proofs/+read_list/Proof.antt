@@ -1,5 +1,5 @@
 use borrow.Author.Needs.{needs}
-use Prim.Native.Nat.{suc, _+_, _-_}
+use Prim.Native.Nat.{suc, _+_, _-_, ℕ, _<_}
 use mathlib.Core.Path.{_≡_, refl, sym, ap, _∙_}
 use mathlib.Core.List.{List, _∷_}
 use native.Mathlib.Omega.{arith}
@@ -7,6 +7,8 @@ use native.Mathlib.Nat.{add-zero}
 use lib.ListN.{getD, length-set}
 use lib.Seq.{drop-set-lt}
 use Rattle.model.specs.Books.{Book}
+use Rattle.model.specs.Limits.{maxItems}
+use Rattle.tables.specs.Layout.{cellCount, items}
 use Rattle.stores.specs.Entries.{putItems}
 use Rattle.grammar.specs.Syntax.{used}
 use Rattle.grammar.specs.Reading.{Begun, Read, got, refused, andThen, noReaders, argAt, listAt}
@@ -14,7 +16,6 @@ use Rattle.itemreader.specs.declared.Item.{Item}
 use Rattle.itemreader.specs.Answers.{poolOf, same}
 use Rattle.itemreader.specs.Held.{Held}
 use Rattle.itemreader.proofs.Items.{number-got, item-refused, below-is, counted-less, count-limit, list-end, list-refused, list-full, list-more, more-answer, more-listed}
-use Prim.Native.Nat.{ℕ, _<_}
 use borrow.Fn.Kinds.{In}
 use borrow.Fn.PlainCycle.{Measures, is, falls, and}
 use Rattle.itemreader.proofs.read_list.Reads as read-list
@@ -26,7 +27,7 @@ use Rattle.itemreader.proofs.+read_list.{statement}
 use Rattle.itemreader.proofs.+read_list.Tie.{close}
 
 abbrev μ-read-list : Measures 4 read-list-kinds.ps ℕ
-μ-read-list κs a = 128 - a .1 .1 .1 .1 .1 .1 .1 .0
+μ-read-list κs a = maxItems - a .1 .1 .1 .1 .1 .1 .1 .0
 
 abbrev read-list-at : ℕ → In 4 read-list-kinds.ps
 read-list-at t = and 4 read-list-kinds.ps (is 4 read-list-kinds.ps μ-read-list t) read-list.Pre
@@ -50,8 +51,8 @@ unfolding putItems
 read-list-returns t c =
     let s = c .before .before .before .before .before .before .args in
     let n : getD (s .book .now) (s .at) 0 ≡ 32 → ⊥ = λ e. c .if1 .taken (c .before .byte .ensures ∙ e) in (
-      λ a h. rw (list-end (s .book .now) a (poolOf (s .pool)) (s .at) (128 - s .i) n) (ap (λ (k : ℕ). Item.Is k (s .at)) (sym (add-zero (s .i)))),
-      (λ a h. rw (list-end (s .book .now) a (poolOf (s .pool)) (s .at) (128 - s .i) n) refl, ((omega arith, omega arith, c .before .before .before .before .before .before .pre .1 .0), refl)),
+      λ a h. rw (list-end (s .book .now) a (poolOf (s .pool)) (s .at) (maxItems - s .i) n) (ap (λ (k : ℕ). Item.Is k (s .at)) (sym (add-zero (s .i)))),
+      (λ a h. rw (list-end (s .book .now) a (poolOf (s .pool)) (s .at) (maxItems - s .i) n) refl, ((omega arith, omega arith, c .before .before .before .before .before .before .pre .1 .0), refl)),
     )
 
 read-list-read-used-requires : (t : ℕ) → read-list-lts.Need-read-used-requires (read-list-calls t) (read-list-at t) read-list.Post
@@ -71,8 +72,8 @@ read-list-returns-2 t c =
     let k = c .enum-told .given in
     let z = sym (c .before .before .before .before .byte .ensures) ∙ c .before .before .before .if1 .left in
     let r = c .before .before .read-used in (
-      λ a h. k .1 ∙ rw (list-refused (s .book .now) a (poolOf (s .pool)) (s .at) z (noReaders (s .book .now) a) none (128 - s .i) (k .0 .0) (item-refused same (argAt (s .book .now) a (noReaders (s .book .now) a) (used (poolOf (s .pool))) none (s .at)) (r .result) (k .0 .0) (r .ensures .0 a h (noReaders (s .book .now) a) none) (k .1))),
-      (λ a h. rw (list-refused (s .book .now) a (poolOf (s .pool)) (s .at) z (noReaders (s .book .now) a) none (128 - s .i) (k .0 .0) (item-refused same (argAt (s .book .now) a (noReaders (s .book .now) a) (used (poolOf (s .pool))) none (s .at)) (r .result) (k .0 .0) (r .ensures .0 a h (noReaders (s .book .now) a) none) (k .1))) tt, (rw (k .1) tt, refl)),
+      λ a h. k .1 ∙ rw (list-refused (s .book .now) a (poolOf (s .pool)) (s .at) z (noReaders (s .book .now) a) none (maxItems - s .i) (k .0 .0) (item-refused same (argAt (s .book .now) a (noReaders (s .book .now) a) (used (poolOf (s .pool))) none (s .at)) (r .result) (k .0 .0) (r .ensures .0 a h (noReaders (s .book .now) a) none) (k .1))),
+      (λ a h. rw (list-refused (s .book .now) a (poolOf (s .pool)) (s .at) z (noReaders (s .book .now) a) none (maxItems - s .i) (k .0 .0) (item-refused same (argAt (s .book .now) a (noReaders (s .book .now) a) (used (poolOf (s .pool))) none (s .at)) (r .result) (k .0 .0) (r .ensures .0 a h (noReaders (s .book .now) a) none) (k .1))) tt, (rw (k .1) tt, refl)),
     )
 
 read-list-returns-3 : (t : ℕ) → read-list-lts.Need-returns-3 (read-list-calls t) (read-list-at t) read-list.Post
@@ -81,9 +82,9 @@ read-list-returns-3 t c =
     let z = sym (c .before .before .before .before .before .before .byte .ensures) ∙ c .before .before .before .before .before .if1 .left in
     let u = c .before .before .used .given in
     let r = c .before .before .before .before .read-used in
-    let f : 128 - s .i ≡ 0 = omega (arith, c .if2 .taken) in
-    let e : (a : Book) → Held (s .names .now) (s .counts) a → listAt (s .book .now) a (poolOf (s .pool)) (128 - s .i) (s .at) ≡ refused 7 =
-    λ a h. list-full (s .book .now) a (poolOf (s .pool)) (s .at) z (noReaders (s .book .now) a) none (u .0 .0) (u .0 .1 .0) (number-got (argAt (s .book .now) a (noReaders (s .book .now) a) (used (poolOf (s .pool))) none (s .at)) (r .result) (u .0 .0) (u .0 .1 .0) (r .ensures .0 a h (noReaders (s .book .now) a) none) (u .1)) (128 - s .i) f in
+    let f : maxItems - s .i ≡ 0 = omega (arith, c .if2 .taken) in
+    let e : (a : Book) → Held (s .names .now) (s .counts) a → listAt (s .book .now) a (poolOf (s .pool)) (maxItems - s .i) (s .at) ≡ refused 7 =
+    λ a h. list-full (s .book .now) a (poolOf (s .pool)) (s .at) z (noReaders (s .book .now) a) none (u .0 .0) (u .0 .1 .0) (number-got (argAt (s .book .now) a (noReaders (s .book .now) a) (used (poolOf (s .pool))) none (s .at)) (r .result) (u .0 .0) (u .0 .1 .0) (r .ensures .0 a h (noReaders (s .book .now) a) none) (u .1)) (maxItems - s .i) f in
     (λ a h. rw (e a h), (λ a h. rw (e a h) tt, (tt, refl)))
 
 read-list-cast-cells : (t : ℕ) → read-list-lts.Need-cast-cells (read-list-calls t) (read-list-at t) read-list.Post
@@ -117,7 +118,7 @@ read-list-read-list-requires t c κs =
 read-list-same-length : (t : ℕ) → read-list-lts.Need-same-length (read-list-calls t) (read-list-at t) read-list.Post
 read-list-same-length t c =
     let s = c .before .before .before .before .before .before .before .before .before .before .before .before .before .before .before .args in
-    omega (arith, c .before .before .read-list .kept .0, length-set (s .cells .now) (16314 + s .i) (c .before .before .before .before .before .before .used .given .0 .0))
+    omega (arith, c .before .before .read-list .kept .0, length-set (s .cells .now) (items + s .i) (c .before .before .before .before .before .before .used .given .0 .0))
 
 read-list-returns-4 : (t : ℕ) → read-list-lts.Need-returns-4 (read-list-calls t) (read-list-at t) read-list.Post
 read-list-returns-4 t c =
@@ -126,14 +127,14 @@ read-list-returns-4 t c =
     let u = c .before .before .before .before .before .before .used .given in
     let r = c .before .before .before .before .before .before .before .before .read-used in
     let o = c .before .before .read-list in
-    let m : 128 - s .i ≡ suc (128 - (s .i + 1)) = omega (arith, c .before .before .before .before .if2 .left) in
-    let rest : Book → Read (List ℕ) = λ a. listAt (s .book .now) a (poolOf (s .pool)) (128 - (s .i + 1)) (u .0 .1 .0) in
-    let e : (a : Book) → Held (s .names .now) (s .counts) a → listAt (s .book .now) a (poolOf (s .pool)) (128 - s .i) (s .at) ≡ andThen (rest a) (λ ks last. got (u .0 .0 ∷ ks) last) =
-    λ a h. list-more (s .book .now) a (poolOf (s .pool)) (s .at) z (noReaders (s .book .now) a) none (u .0 .0) (u .0 .1 .0) (number-got (argAt (s .book .now) a (noReaders (s .book .now) a) (used (poolOf (s .pool))) none (s .at)) (r .result) (u .0 .0) (u .0 .1 .0) (r .ensures .0 a h (noReaders (s .book .now) a) none) (u .1)) (128 - s .i) (128 - (s .i + 1)) m in (
+    let m : maxItems - s .i ≡ suc (maxItems - (s .i + 1)) = omega (arith, c .before .before .before .before .if2 .left) in
+    let rest : Book → Read (List ℕ) = λ a. listAt (s .book .now) a (poolOf (s .pool)) (maxItems - (s .i + 1)) (u .0 .1 .0) in
+    let e : (a : Book) → Held (s .names .now) (s .counts) a → listAt (s .book .now) a (poolOf (s .pool)) (maxItems - s .i) (s .at) ≡ andThen (rest a) (λ ks last. got (u .0 .0 ∷ ks) last) =
+    λ a h. list-more (s .book .now) a (poolOf (s .pool)) (s .at) z (noReaders (s .book .now) a) none (u .0 .0) (u .0 .1 .0) (number-got (argAt (s .book .now) a (noReaders (s .book .now) a) (used (poolOf (s .pool))) none (s .at)) (r .result) (u .0 .0) (u .0 .1 .0) (r .ensures .0 a h (noReaders (s .book .now) a) none) (u .1)) (maxItems - s .i) (maxItems - (s .i + 1)) m in (
       λ a h. rw (e a h) (o .ensures .0 a h ∙ more-answer (s .i) (u .0 .0) (rest a)),
       (
         λ a h. rw (e a h) (more-listed (s .i) (u .0 .0) (rest a) (s .cells .now) (o .last .0) (o .ensures .1 .0 a h)),
-        (counted-less (s .i + 1) (s .i) _ _ (o .result) (omega arith) (o .ensures .1 .1 .0), o .ensures .1 .1 .1 ∙ drop-set-lt 16602 (s .cells .now) (16314 + s .i) (u .0 .0) (omega (arith, c .before .before .before .before .if2 .left))),
+        (counted-less (s .i + 1) (s .i) _ _ (o .result) (omega arith) (o .ensures .1 .1 .0), o .ensures .1 .1 .1 ∙ drop-set-lt cellCount (s .cells .now) (items + s .i) (u .0 .0) (omega (arith, c .before .before .before .before .if2 .left))),
       ),
     )
 

@@ -2,6 +2,7 @@ use Prim.Native.Nat.{_+_}
 use mathlib.Core.Path.{sym, _∙_}
 use borrow.Author.Tests.{eq-eqb, ne-eqb}
 use native.Mathlib.Omega.{arith}
+use Rattle.model.specs.Limits.{maxCount}
 use Rattle.encoding.specs.Flatten.{upperNumber}
 use Rattle.grammar.specs.Reading.{argAt}
 use Rattle.itemreader.proofs.Items.{item-within, high-star, below-more, high-arg}
@@ -53,7 +54,7 @@ returns-3 c =
     let end = c .before .before .before .before .item-end in
     let z = sym (c .before .before .before .before .before .before .byte .ensures) ∙ c .before .before .before .before .before .if1 .left in (
       λ a R b. high-arg (s .book .now) a R b (s .at) z (end .result) (end .ensures) (sym (c .before .before .is-word .ensures) ∙ c .before .if2 .left) (c .read-low .result) (c .read-low .ensures .0 a R b),
-      below-more 1025 65536 _ (c .read-low .result) (omega arith) (c .read-low .ensures .1),
+      below-more (maxCount + 1) 65536 _ (c .read-low .result) (omega arith) (c .read-low .ensures .1),
     )
 
 pub read-high-spec : {M : Type 1} → statement M

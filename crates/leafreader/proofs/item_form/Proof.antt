@@ -53,7 +53,7 @@ returns-2 c =
       λ a R b k g at e m cs vs vs' f cl.
           let y = item-got g (argAt (s .book .now) a R k b at) (s .item) (j .0 .0) next e (j .1) in
           form-is (rest-one (s .book .now) a R k f b at (y .0) next (y .1))
-          (closed-form (s .book .now) next (s .n) a (putItem (s .lone) (s .n .forms) (s .code) (s .a) (s .cells .now) (g (y .0))) (s .cells .now) (cl (y .0)) (o .ensures .0) (o .ensures .1 .0 ∙ ap (λ (q : List ℕ). cond (eqb (getD (s .book .now) next 0) 41) q (s .cells .now)) (put-item (s .lone) (s .n .forms) (s .code) (s .a) (s .cells .now) (c .before .before .before .before .pick-cell .result) (c .before .before .before .pick-cell2 .result) (j .0 .0) (g (y .0)) (c .before .before .before .before .pick-cell .ensures) (c .before .before .before .pick-cell2 .ensures) (y .2)))),
+          (closed-form (s .book .now) next (s .n) a (putItem (s .lone) (s .n .forms) (s .code) (s .first) (s .cells .now) (g (y .0))) (s .cells .now) (cl (y .0)) (o .ensures .0) (o .ensures .1 .0 ∙ ap (λ (q : List ℕ). cond (eqb (getD (s .book .now) next 0) 41) q (s .cells .now)) (put-item (s .lone) (s .n .forms) (s .code) (s .first) (s .cells .now) (c .before .before .before .before .pick-cell .result) (c .before .before .before .pick-cell2 .result) (j .0 .0) (g (y .0)) (c .before .before .before .before .pick-cell .ensures) (c .before .before .before .pick-cell2 .ensures) (y .2)))),
       (rw (o .ensures .0) (closed-within (s .book .now) next (s .n) (s .n .forms) (s .up) (omega arith) (p .0) (p .1) (p .2)), o .ensures .1 .1),
     )
 

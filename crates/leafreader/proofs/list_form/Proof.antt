@@ -3,6 +3,7 @@ use mathlib.Core.Path.{refl, _∙_}
 use mathlib.Core.List.{List, []}
 use mathlib.Core.Bool.{true}
 use native.Mathlib.Omega.{arith}
+use Rattle.model.specs.Limits.{maxItems}
 use Rattle.grammar.specs.Syntax.{list}
 use Rattle.grammar.specs.Reading.{listAt}
 use Rattle.stores.specs.Entries.{putForm}
@@ -47,7 +48,7 @@ returns c =
     let s = c .before .before .before .before .before .before .before .before .before .before .before .args in
     let k = c .before .k .given in
     let r = c .before .before .before .before .before .read-list in
-    (λ a h R b q f sh vs. form-no (k .0 .0) (rest-refused (s .book .now) a R true (list (poolOf (s .pool))) [] (λ xs. f (xs .0)) b (s .at) (k .0 .0) (list-arg (s .book .now) a R (poolOf (s .pool)) b (s .n .items) (s .at) q ∙ item-refused (itemsAfter (s .n .items)) (listAt (s .book .now) a (poolOf (s .pool)) (128 - s .n .items) (s .at)) (r .result) (k .0 .0) (r .ensures .0 a h) (k .1))) refl, (tt, r .ensures .1 .1 .1))
+    (λ a h R b q f sh vs. form-no (k .0 .0) (rest-refused (s .book .now) a R true (list (poolOf (s .pool))) [] (λ xs. f (xs .0)) b (s .at) (k .0 .0) (list-arg (s .book .now) a R (poolOf (s .pool)) b (s .n .items) (s .at) q ∙ item-refused (itemsAfter (s .n .items)) (listAt (s .book .now) a (poolOf (s .pool)) (maxItems - s .n .items) (s .at)) (r .result) (k .0 .0) (r .ensures .0 a h) (k .1))) refl, (tt, r .ensures .1 .1 .1))
 
 same-length-2 : tie.Need-same-length-2
 same-length-2 c = search needs
@@ -64,7 +65,7 @@ returns-2 c =
     let mid : List ℕ = r .last .0 in
     let w = counted-is _ _ _ (r .result) _ _ (r .ensures .1 .1 .0) (j .1) in (
       λ a h R b q f sh vs.
-          let x = listAt (s .book .now) a (poolOf (s .pool)) (128 - s .n .items) (s .at) in
+          let x = listAt (s .book .now) a (poolOf (s .pool)) (maxItems - s .n .items) (s .at) in
           let y = item-got (itemsAfter (s .n .items)) x (r .result) m next (r .ensures .0 a h) (j .1) in
           form-is (rest-one (s .book .now) a R (list (poolOf (s .pool))) f b (s .at) (y .0) next (list-arg (s .book .now) a R (poolOf (s .pool)) b (s .n .items) (s .at) q ∙ y .1))
           (closed-form (s .book .now) next (record { forms = s .n .forms; paths = s .n .paths; items = m }) a (putForm (s .n .forms) (s .code) (s .n .items) (m - s .n .items) 0 0 mid) mid (list-closes f (s .code) sh (s .n) m (y .0) (s .cells .now) mid vs (y .2) (listed-got x (y .0) next (s .n .items) (s .cells .now) mid (y .1) (r .ensures .1 .0 a h))) (o .ensures .0) (o .ensures .1 .0)),

@@ -5,6 +5,8 @@ use borrow.Author.Tests.{not-true, not-false, le-leb, lt-leb}
 use lib.Dec.{leb}
 use lib.ListN.{drop}
 use Rattle.text.proofs.Items.{itemEnd-from, itemEnd-within}
+use Rattle.model.specs.Limits.{maxForms}
+use Rattle.tables.specs.Layout.{cellCount}
 use Rattle.leafreader.proofs.Forms.{form-no, form-drop, true-not, true-full, true-got}
 use Rattle.leafreader.proofs.Shapes.{true-read}
 use borrow.Author.Needs.{needs}
@@ -26,7 +28,7 @@ returns : tie.Need-returns
 returns c =
     let s = c .before .before .before .before .before .before .args in
     let i = c .before .before .before .item-end in
-    (λ a vs. form-no 2 (true-not (s .book .now) a (leb 112 (s .n .forms + s .up)) (s .at) (i .result) (i .ensures) (sym (c .before .is-word .ensures) ∙ not-true _ (c .if1 .taken))) refl, (tt, refl))
+    (λ a vs. form-no 2 (true-not (s .book .now) a (leb maxForms (s .n .forms + s .up)) (s .at) (i .result) (i .ensures) (sym (c .before .is-word .ensures) ∙ not-true _ (c .if1 .taken))) refl, (tt, refl))
 
 add-if2 : tie.Need-add-if2
 add-if2 c = search needs
@@ -35,7 +37,7 @@ returns-2 : tie.Need-returns-2
 returns-2 c =
     let s = c .before .before .before .before .before .before .before .args in
     let i = c .before .before .before .before .item-end in
-    (λ a vs. form-no 7 (true-full (s .book .now) a (leb 112 (s .n .forms + s .up)) (s .at) (i .result) (i .ensures) (sym (c .before .before .is-word .ensures) ∙ not-false _ (c .before .if1 .left)) (le-leb 112 (s .n .forms + s .up) (c .if2 .taken))) refl, (tt, refl))
+    (λ a vs. form-no 7 (true-full (s .book .now) a (leb maxForms (s .n .forms + s .up)) (s .at) (i .result) (i .ensures) (sym (c .before .before .is-word .ensures) ∙ not-false _ (c .before .if1 .left)) (le-leb maxForms (s .n .forms + s .up) (c .if2 .taken))) refl, (tt, refl))
 
 put-form-requires : tie.Need-put-form-requires
 put-form-requires c κs = search needs
@@ -53,8 +55,8 @@ returns-3 c =
     let i = c .before .before .before .before .before .before .before .before .item-end in
     let o = c .before .before .put-form .ensures in
     let f = c .before .before .before .before .if2 .left in (
-      λ a vs. true-read (s .n) (s .cells .now) vs (i .result) (true-got (s .book .now) a (leb 112 (s .n .forms + s .up)) (s .at) (i .result) (i .ensures) (sym (c .before .before .before .before .before .before .is-word .ensures) ∙ not-false _ (c .before .before .before .before .before .if1 .left)) (lt-leb 112 (s .n .forms + s .up) f)) o,
-      ((omega arith, omega arith, p .3, p .4, omega (arith, itemEnd-within (s .book .now) (s .at) (p .0), i .ensures)), ap (drop 16602) o ∙ form-drop (s .n .forms) 0 0 0 0 0 (s .cells .now) (omega arith)),
+      λ a vs. true-read (s .n) (s .cells .now) vs (i .result) (true-got (s .book .now) a (leb maxForms (s .n .forms + s .up)) (s .at) (i .result) (i .ensures) (sym (c .before .before .before .before .before .before .is-word .ensures) ∙ not-false _ (c .before .before .before .before .before .if1 .left)) (lt-leb maxForms (s .n .forms + s .up) f)) o,
+      ((omega arith, omega arith, p .3, p .4, omega (arith, itemEnd-within (s .book .now) (s .at) (p .0), i .ensures)), ap (drop cellCount) o ∙ form-drop (s .n .forms) 0 0 0 0 0 (s .cells .now) (omega arith)),
     )
 
 pub read-true-spec : {M : Type 1} → statement M

@@ -6,6 +6,7 @@ use native.Mathlib.Omega.{arith}
 use lib.Seq.{drop-set-lt}
 use Rattle.grammar.specs.Syntax.{value}
 use Rattle.grammar.specs.Reading.{argAt}
+use Rattle.tables.specs.Layout.{valueCount, formValues}
 use Rattle.stores.specs.Entries.{putForm, putValue}
 use Rattle.itemreader.proofs.Heads.{rest-refused}
 use Rattle.itemreader.proofs.Items.{value-got, value-refused}
@@ -62,10 +63,10 @@ returns-2 c =
     let z = toZ-ofZ (record { sfits = c .before .before .before .before .known-told2 .given .0 .1 }) in
     let next : ℕ = j .0 .1 .0 in (
       λ a R b f sh.
-          value-stored (1024 + s .n .forms) (j .0 .0) (toZ w64 (ofZ w64 (j .0 .0))) z
+          value-stored (formValues + s .n .forms) (j .0 .0) (toZ w64 (ofZ w64 (j .0 .0))) z
           (form-is (rest-one (s .book .now) a R value f b (s .at) (j .0 .0) next (value-got (argAt (s .book .now) a R value b (s .at)) (r .result) (j .0 .0) next (r .ensures .0 a R b) (j .1)))
           (closed-form (s .book .now) next (s .n) a (putForm (s .n .forms) (s .code) 0 0 0 0 (s .cells .now)) (s .cells .now) (sh (s .n) (j .0 .0) (s .cells .now) (s .values .now)) (o .ensures .0) (o .ensures .1 .0))),
-      (rw (o .ensures .0) (closed-within (s .book .now) next (s .n) (s .n .forms) (s .up) (omega arith) (p .3) (p .4) (p .5)), (o .ensures .1 .1, drop-set-lt 1136 (s .values .now) (1024 + s .n .forms) (toZ w64 (ofZ w64 (j .0 .0))) (omega arith))),
+      (rw (o .ensures .0) (closed-within (s .book .now) next (s .n) (s .n .forms) (s .up) (omega arith) (p .3) (p .4) (p .5)), (o .ensures .1 .1, drop-set-lt valueCount (s .values .now) (formValues + s .n .forms) (toZ w64 (ofZ w64 (j .0 .0))) (omega arith))),
     )
 
 pub value-form-spec : {M : Type 1} → statement M

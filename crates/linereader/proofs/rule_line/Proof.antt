@@ -7,6 +7,7 @@ use lib.Dec.{ltb}
 use borrow.Author.Tests.{ltb-true}
 use Rattle.model.specs.Rules.{Rule, targetNode}
 use Rattle.model.specs.Books.{rule, shapes}
+use Rattle.model.specs.Limits.{maxRules}
 use Rattle.grammar.specs.Syntax.{used, target, ruleL, lineFamily}
 use Rattle.grammar.specs.Reading.{argAt, after, readersAt, lineRoom, begunAbove}
 use Rattle.stores.specs.Lines.{lineNames, lineValues}
@@ -120,8 +121,8 @@ put-row-requires c κs =
     let k = c .before .enum-told2 .given in
     let o = c .before .before .before .line-end in
     let l = rule (record { shape = 0; target = targetNode 0 }) in
-    let y = ended-yes S [] (ltb (s .counts .rules) 32) l (v .0 .1 .1 .0) (c .before .before .before .before .with-rule .result) (o .result) (k .0 .0) (k .0 .1 .0) (o .ensures [] l) (k .1) in
-    let n : s .counts .rules < 32 = ltb-true (s .counts .rules) 32 (ended-room S [] (ltb (s .counts .rules) 32) l (v .0 .1 .1 .0) (k .0 .0) (y .0)) in
+    let y = ended-yes S [] (ltb (s .counts .rules) maxRules) l (v .0 .1 .1 .0) (c .before .before .before .before .with-rule .result) (o .result) (k .0 .0) (k .0 .1 .0) (o .ensures [] l) (k .1) in
+    let n : s .counts .rules < maxRules = ltb-true (s .counts .rules) maxRules (ended-room S [] (ltb (s .counts .rules) maxRules) l (v .0 .1 .1 .0) (k .0 .0) (y .0)) in
     let m = c .before .before .before .before .before .before .before .before .before .before .before .before .before .before .before .before .before .pre .2 in
     (omega arith, omega arith, omega arith)
 

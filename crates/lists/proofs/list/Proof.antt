@@ -7,6 +7,8 @@ use lib.Seq.{length-take-le}
 use borrow.Author.Tests.{not-true, not-false, le-ltb, lt-ltb}
 use Rattle.model.proofs.Answers.{short, malformed, absent, done}
 use Rattle.plancheck.proofs.Both.{tables-formed, plan-formed}
+use Rattle.tables.specs.Layout.{cellCount}
+use Rattle.plan.specs.Layout.{planCount}
 use Rattle.lists.proofs.Rows.{few-nodes, step-in}
 use Rattle.lists.proofs.Answers.{list-answers, list-room}
 use borrow.Author.Needs.{needs}
@@ -23,10 +25,10 @@ returns : tie.Need-returns
 returns c = let a = c .before .before .before .before .before .before .before .before .args in short (list-answers (now (a .names)) (now (a .cells)) (now (a .values)) (now (a .plan)) (now (a .work)) (a .rule) (now (a .row))) (sym (c .before .long-enough .ensures) ∙ not-true (c .before .long-enough .result) (c .if1 .taken))
 
 slice-aggregate-cs : tie.Need-slice-aggregate-cs
-slice-aggregate-cs c = let a = c .before .before .before .before .before .before .before .before .before .args in sym (length-take-le 16602 (now (a .cells)) (list-room (now (a .names)) (now (a .cells)) (now (a .values)) (now (a .plan)) (now (a .work)) (now (a .row)) (sym (c .before .before .long-enough .ensures) ∙ not-false (c .before .before .long-enough .result) (c .before .if1 .left)) .tables .cells))
+slice-aggregate-cs c = let a = c .before .before .before .before .before .before .before .before .before .args in sym (length-take-le cellCount (now (a .cells)) (list-room (now (a .names)) (now (a .cells)) (now (a .values)) (now (a .plan)) (now (a .work)) (now (a .row)) (sym (c .before .before .long-enough .ensures) ∙ not-false (c .before .before .long-enough .result) (c .before .if1 .left)) .tables .cells))
 
 slice-aggregate-ps : tie.Need-slice-aggregate-ps
-slice-aggregate-ps c = let a = c .before .before .before .before .before .before .before .before .before .before .args in sym (length-take-le 2593 (now (a .plan)) (list-room (now (a .names)) (now (a .cells)) (now (a .values)) (now (a .plan)) (now (a .work)) (now (a .row)) (sym (c .before .before .before .long-enough .ensures) ∙ not-false (c .before .before .before .long-enough .result) (c .before .before .if1 .left)) .first))
+slice-aggregate-ps c = let a = c .before .before .before .before .before .before .before .before .before .before .args in sym (length-take-le planCount (now (a .plan)) (list-room (now (a .names)) (now (a .cells)) (now (a .values)) (now (a .plan)) (now (a .work)) (now (a .row)) (sym (c .before .before .before .long-enough .ensures) ∙ not-false (c .before .before .before .long-enough .result) (c .before .before .if1 .left)) .first))
 
 both-well-formed-requires : tie.Need-both-well-formed-requires
 both-well-formed-requires c κs = search needs
@@ -51,8 +53,8 @@ list-rule-requires c κs =
     let a = c .before .before .before .before .before .before .before .before .before .before .before .before .before .before .before .args in
     let l = list-room (now (a .names)) (now (a .cells)) (now (a .values)) (now (a .plan)) (now (a .work)) (now (a .row)) (sym (c .before .before .before .before .before .before .before .before .long-enough .ensures) ∙ not-false (c .before .before .before .before .before .before .before .before .long-enough .result) (c .before .before .before .before .before .before .before .if1 .left)) in
     let w = (sym (c .before .before .before .before .both-well-formed .ensures) ∙ not-false (c .before .before .before .before .both-well-formed .result) (c .before .before .before .if2 .left)) in
-    let cs = take 16602 (now (a .cells)) in
-    let ps = take 2593 (now (a .plan)) in
+    let cs = take cellCount (now (a .cells)) in
+    let ps = take planCount (now (a .plan)) in
     let e = tables-formed cs ps w in
     let f = plan-formed cs ps w in
     (few-nodes cs ps e f, l .third, omega (arith, step-in cs ps e f (a .rule) (omega (arith, c .before .if3 .left, c .before .before .rule-count .ensures)), l .second))

@@ -1,5 +1,6 @@
 use Prim.Native.Nat.{_-_, _*_, _≤_}
 use lib.ListN.{length, drop, length-take, length-drop}
+use Rattle.model.specs.Limits.{maxNodes}
 use Rattle.tables.specs.Layout.{ruleCount}
 use mathlib.Core.Path.{_≡_, refl, ap, _∙_}
 use denote.Ref.{now}
@@ -39,7 +40,7 @@ part-list-rule-end c = let a = c .before .before .before .before .before .before
 
 list-rule-requires : tie.Need-list-rule-requires Inv-loop μ-loop
 list-rule-requires c κs = let a = c .before .before .before .before .before .before .before .before .before .args in let q = c .before .before .before .before .before .before .before .before .before .pre in let l = c .before .before .loop in let low = c .before .loop-test .taken in
-    (few-nodes (now (a .cells)) (now (a .plan)) (q .0) (q .1), omega (arith, length-take (length (l .lists) - 1024 * l .r) (drop (1024 * l .r) (l .lists)), length-drop (1024 * l .r) (l .lists), l .inv .1 .lists-kept, q .3, low, few-rules (now (a .cells)) (now (a .plan)) (q .0) (q .1), c .before .before .before .rule-count .ensures), omega (arith, step-in (now (a .cells)) (now (a .plan)) (q .0) (q .1) (l .r) (omega (arith, low, c .before .before .before .rule-count .ensures)), q .2))
+    (few-nodes (now (a .cells)) (now (a .plan)) (q .0) (q .1), omega (arith, length-take (length (l .lists) - maxNodes * l .r) (drop (maxNodes * l .r) (l .lists)), length-drop (maxNodes * l .r) (l .lists), l .inv .1 .lists-kept, q .3, low, few-rules (now (a .cells)) (now (a .plan)) (q .0) (q .1), c .before .before .before .rule-count .ensures), omega (arith, step-in (now (a .cells)) (now (a .plan)) (q .0) (q .1) (l .r) (omega (arith, low, c .before .before .before .rule-count .ensures)), q .2))
 
 cast-lengths : tie.Need-cast-lengths Inv-loop μ-loop
 cast-lengths c = let a = c .before .before .before .before .before .before .before .before .before .before .before .before .args in let q = c .before .before .before .before .before .before .before .before .before .before .before .before .pre in let l = c .before .before .before .before .before .loop in search (needs, few-rules (now (a .cells)) (now (a .plan)) (q .0) (q .1), c .before .before .before .before .before .before .rule-count .ensures, c .before .before .before .before .loop-test .taken, l .inv .1 .lengths-kept, q .4, c .before .before .list-rule .ensures .1 .1)
@@ -59,7 +60,7 @@ loop-less c = let a = c .before .before .before .before .before .before .before 
 loop-again : tie.Need-loop-again Inv-loop μ-loop
 loop-again c =
     let a = c .before .before .before .before .before .before .before .before .before .before .before .before .args in let q = c .before .before .before .before .before .before .before .before .before .before .before .before .pre in let l = c .before .before .before .before .before .loop in let w = c .before .before .list-rule in
-    let e = row-tail (l .lists) (listIn (now (a .cells)) (now (a .plan)) (now (a .work)) (l .r)) (l .r) (length (l .lists) - 1024 * l .r) refl (w .ensures .1 .0) in
+    let e = row-tail (l .lists) (listIn (now (a .cells)) (now (a .plan)) (now (a .work)) (l .r)) (l .r) (length (l .lists) - maxNodes * l .r) refl (w .ensures .1 .0) in
     (omega (arith, c .before .before .before .before .loop-test .taken), listed-more (listIn (now (a .cells)) (now (a .plan)) (now (a .work))) (now (a .lists)) (now (a .lengths)) (l .r) (l .lists) (l .lengths) (l .inv .1) _ (w .result) e (omega (arith, w .ensures .0, w .ensures .1 .1, l .inv .1 .lists-kept, q .3, c .before .before .before .before .loop-test .taken, few-rules (now (a .cells)) (now (a .plan)) (q .0) (q .1), c .before .before .before .before .before .before .rule-count .ensures)) (w .ensures .0))
 
 same-length : tie.Need-same-length Inv-loop μ-loop

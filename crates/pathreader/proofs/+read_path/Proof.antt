@@ -1,5 +1,5 @@
 use borrow.Author.Needs.{needs}
-use Prim.Native.Nat.{_+_, _-_}
+use Prim.Native.Nat.{_+_, _-_, ℕ, _<_}
 use mathlib.Core.Path.{refl, sym, _∙_}
 use mathlib.Core.List.{List}
 use native.Mathlib.Omega.{arith}
@@ -7,12 +7,12 @@ use borrow.Author.Tests.{leb-false}
 use lib.ListN.{length}
 use Rattle.text.proofs.Parts.{inside}
 use Rattle.model.specs.Paths.{inverse}
+use Rattle.model.specs.Limits.{maxPaths}
 use Rattle.grammar.specs.Syntax.{path}
 use Rattle.grammar.specs.Reading.{pathBegun, after, readersAt}
 use Rattle.stores.specs.Entries.{putPath}
 use Rattle.itemreader.proofs.Heads.{headed-word}
 use Rattle.pathreader.proofs.Paths.{done-no, done-is, path-got, done-refused, path-unspaced, path-bare, path-head-refused, path-word, joined, body-refused, body-inverse, body-second-refused, body-joined, begun-first, begun-second, inverse-count, inverse-stored, joined-count, joined-stored, closed-read, closed-grown, grown-is}
-use Prim.Native.Nat.{ℕ, _<_}
 use borrow.Fn.Kinds.{In}
 use borrow.Fn.PlainCycle.{Measures, is, falls, and}
 use Rattle.pathreader.proofs.read_path.Reads as read-path
@@ -84,7 +84,7 @@ read-path-read-path-requires t c κs =
     let m = p .0 in
     let w = headed-word _ _ _ _ (c .before .before .before .before .path-head .result) _ _ (c .before .before .before .before .path-head .ensures .1) (c .before .before .code .given .1) in
     let s = c .before .before .before .before .before .before .before .before .before .before .before .args in
-    let u = leb-false 128 (s .n + s .up) (w .2) in
+    let u = leb-false maxPaths (s .n + s .up) (w .2) in
     let l = w .1 in
     (omega arith, (w .3, p .1 .1, p .1 .2, omega arith, p .1 .4, p .1 .5))
 

@@ -8,6 +8,7 @@ use borrow.Author.Needs.{needs}
 use borrow.Author.Tests.{le-leb, lt-leb}
 use Rattle.base.specs.Bounded.{every}
 use Rattle.base.proofs.Bounded.{every-more, every-fails}
+use Rattle.model.specs.Limits.{maxNodes}
 use Rattle.tablecheck.proofs.Items.{every-none, every-to}
 use Rattle.report.specs.Pages.{lengthOk}
 use Rattle.report.proofs.lengths_ok.Statement.{statement}
@@ -35,7 +36,7 @@ returns : tie.Need-returns Inv-loop μ-loop
 returns c =
     let a = c .before .before .before .before .before .before .args in
     let w = c .before .wide in
-    sym (every-fails (lengthOk (now (a .lengths))) (a .n) (c .before .before .before .before .loop .i) (c .before .before .before .loop-test .taken) (ap (λ k. leb k 1024) (sym (w .ensures)) ∙ lt-leb (w .result) 1024 (c .if1 .taken)))
+    sym (every-fails (lengthOk (now (a .lengths))) (a .n) (c .before .before .before .before .loop .i) (c .before .before .before .loop-test .taken) (ap (λ k. leb k maxNodes) (sym (w .ensures)) ∙ lt-leb (w .result) maxNodes (c .if1 .taken)))
 
 add-i : tie.Need-add-i Inv-loop μ-loop
 add-i c = search needs
@@ -48,7 +49,7 @@ loop-again c =
     let a = c .before .before .before .before .before .before .args in
     let w = c .before .wide in
     let l = c .before .before .before .before .loop in
-    (omega arith, every-more (lengthOk (now (a .lengths))) (l .i) (l .inv .1) (ap (λ k. leb k 1024) (sym (w .ensures)) ∙ le-leb (w .result) 1024 (c .if1 .left)))
+    (omega arith, every-more (lengthOk (now (a .lengths))) (l .i) (l .inv .1) (ap (λ k. leb k maxNodes) (sym (w .ensures)) ∙ le-leb (w .result) maxNodes (c .if1 .left)))
 
 returns-2 : tie.Need-returns-2 Inv-loop μ-loop
 returns-2 c =

@@ -3,15 +3,16 @@ use native.Mathlib.Omega.{arith}
 use denote.Ref.{now}
 use lib.ListN.{length}
 use borrow.Author.Needs.{needs}
+use Rattle.model.specs.Limits.{maxName, nameBytes}
 use Rattle.report.proofs.Names.{Named, named-start, named-more, named-stop, named-end}
 use Rattle.report.proofs.name_length.Statement.{statement}
 use Rattle.report.proofs.name_length.Tie as tie
 
 abbrev Inv-loop : tie.InvT-loop
-Inv-loop names v j₀ j = (j ≤ 31) × ((room : 32 * v + 31 ≤ length names) → Named names v room j)
+Inv-loop names v j₀ j = (j ≤ maxName) × ((room : nameBytes * v + maxName ≤ length names) → Named names v room j)
 
 abbrev μ-loop : tie.MeasureT-loop
-μ-loop names v j₀ j = 31 - j
+μ-loop names v j₀ j = maxName - j
 
 loop-holds : tie.Need-loop-holds Inv-loop μ-loop
 loop-holds c = (omega arith, λ room. named-start (now (c .args .names)) (c .args .v) room)
@@ -29,7 +30,7 @@ returns : tie.Need-returns Inv-loop μ-loop
 returns c =
     let l = c .before .before .before .loop in
     let a = c .before .before .before .before .args in
-    let room : 32 * a .v + 31 ≤ length (now (a .names)) = omega arith in
+    let room : nameBytes * a .v + maxName ≤ length (now (a .names)) = omega arith in
     (named-stop (now (a .names)) (a .v) room (l .j) (c .before .before .loop-test .taken) (c .if1 .taken) (l .inv .1 room), l .inv .0)
 
 add-j : tie.Need-add-j Inv-loop μ-loop
@@ -48,7 +49,7 @@ returns-2 : tie.Need-returns-2 Inv-loop μ-loop
 returns-2 c =
     let l = c .before .loop in
     let a = c .before .before .args in
-    let room : 32 * a .v + 31 ≤ length (now (a .names)) = omega arith in
+    let room : nameBytes * a .v + maxName ≤ length (now (a .names)) = omega arith in
     (named-end (now (a .names)) (a .v) room (l .j) (omega (arith, l .inv .0, c .loop-test .left)) (l .inv .1 room), l .inv .0)
 
 pub name-length-spec : {M : Type 1} → statement M

@@ -9,15 +9,16 @@ use lib.Dec.{ltb}
 use lib.Seq.{take-all}
 use borrow.Author.Tests.{ltb-true}
 use Rattle.base.proofs.Lists.{allb-at}
+use Rattle.model.specs.Limits.{maxNodes}
 use Rattle.report.specs.Report.{breakLine, breakLines}
-use Rattle.report.specs.Pages.{nameIn, Put}
+use Rattle.report.specs.Pages.{nameIn, Put, breakBytes}
 use Rattle.report.proofs.Writing.{put-none, put-then, put-as, put-length}
 use Rattle.report.proofs.Parts.{lines-none, lines-more}
 use Rattle.report.proofs.put_breaks.Statement.{statement}
 use Rattle.report.proofs.put_breaks.Tie as tie
 
 abbrev Inv-loop : tie.InvT-loop
-Inv-loop page₀ names list r at₀ i₀ page at i = (i ≤ length list) × (at ≤ 44 * i) × (length page ≡ length page₀) × Put page₀ page 0 (breakLines r (map (nameIn names) (take i list))) at
+Inv-loop page₀ names list r at₀ i₀ page at i = (i ≤ length list) × (at ≤ breakBytes * i) × (length page ≡ length page₀) × Put page₀ page 0 (breakLines r (map (nameIn names) (take i list))) at
 
 abbrev μ-loop : tie.MeasureT-loop
 μ-loop page₀ names list r at₀ i₀ page at i = length list - i
@@ -39,7 +40,7 @@ put-break-requires c κs =
     let a = c .before .before .before .before .before .before .before .before .args in
     let q = c .before .before .before .before .before .before .before .before .pre in
     let l = c .before .before .before .before .loop in
-    let low = ltb-true (getD (now (a .list)) (l .i) 0) 1024 (allb-at (λ v. ltb v 1024) (now (a .list)) 0 (q .3) (l .i) (c .before .before .before .loop-test .taken)) in
+    let low = ltb-true (getD (now (a .list)) (l .i) 0) maxNodes (allb-at (λ v. ltb v maxNodes) (now (a .list)) 0 (q .3) (l .i) (c .before .before .before .loop-test .taken)) in
     (omega (arith, l .inv .0, l .inv .1, l .inv .2, q .0, q .2, c .before .before .before .loop-test .taken), q .4, omega (arith, low, c .wide .ensures), q .1)
 
 add-i : tie.Need-add-i Inv-loop μ-loop

@@ -4,6 +4,7 @@ use mathlib.Core.Path.{_≡_, ap, _∙_}
 use native.Mathlib.Omega.{arith}
 use denote.Ref.{now}
 use lib.ListN.{take, drop, length-take}
+use Rattle.model.specs.Limits.{nameBytes}
 use Rattle.report.proofs.Writing.{put-then, put-as}
 use Rattle.report.specs.Pages.{nameIn}
 use Rattle.report.proofs.put_name.Statement.{statement}
@@ -45,9 +46,9 @@ returns c =
     let n = c .before .before .before .before .before .name-length in
     let first = c .before .before .before .before .before .before .before .before .put-bytes .ensures in
     let last = c .before .before .put-bytes2 .ensures in
-    let same : 32 * a .v + n .result - 32 * a .v ≡ n .result = omega arith in
-    let name : take (32 * a .v + n .result - 32 * a .v) (drop (32 * a .v) (now (a .names))) ≡ nameIn (now (a .names)) (a .v) = ap (λ (k : ℕ). take k (drop (32 * a .v) (now (a .names)))) same ∙ n .ensures .0 in
-    (put-then first (put-as name last), omega (arith, first .ends, last .ends, same, n .ensures .1, length-take (32 * a .v + n .result - 32 * a .v) (drop (32 * a .v) (now (a .names)))))
+    let same : nameBytes * a .v + n .result - nameBytes * a .v ≡ n .result = omega arith in
+    let name : take (nameBytes * a .v + n .result - nameBytes * a .v) (drop (nameBytes * a .v) (now (a .names))) ≡ nameIn (now (a .names)) (a .v) = ap (λ (k : ℕ). take k (drop (nameBytes * a .v) (now (a .names)))) same ∙ n .ensures .0 in
+    (put-then first (put-as name last), omega (arith, first .ends, last .ends, same, n .ensures .1, length-take (nameBytes * a .v + n .result - nameBytes * a .v) (drop (nameBytes * a .v) (now (a .names)))))
 
 pub put-name-spec : {M : Type 1} → statement M
 put-name-spec =

@@ -7,6 +7,7 @@ use denote.Ref.{now}
 use lib.ListN.{drop, length-take}
 use lib.Dec.{ltb}
 use Rattle.base.specs.Lists.{allb}
+use Rattle.model.specs.Limits.{maxNodes}
 use Rattle.report.specs.Report.{breakLines}
 use Rattle.report.specs.Pages.{nameIn}
 use Rattle.report.proofs.Writing.{put-as}
@@ -45,8 +46,8 @@ put-breaks-requires : tie.Need-put-breaks-requires
 put-breaks-requires c κs =
     let q = c .before .before .before .before .before .before .before .before .pre in
     let n = c .before .before .wide in
-    let same : 1024 * c .before .before .before .before .before .before .before .before .args .r + n .result - 1024 * c .before .before .before .before .before .before .before .before .args .r ≡ n .result = omega arith in
-    (q .0, q .1, omega (arith, length-take (1024 * c .before .before .before .before .before .before .before .before .args .r + n .result - 1024 * c .before .before .before .before .before .before .before .before .args .r) (drop (1024 * c .before .before .before .before .before .before .before .before .args .r) (now (c .before .before .before .before .before .before .before .before .args .lists))), same, n .ensures, q .5), ap (allb (λ v. ltb v 1024)) (row-lent (now (c .before .before .before .before .before .before .before .before .args .lists)) (now (c .before .before .before .before .before .before .before .before .args .lengths)) (c .before .before .before .before .before .before .before .before .args .r) (c .before .before .wide .result) (c .before .before .wide .ensures)) ∙ q .6, omega (arith, q .4))
+    let same : maxNodes * c .before .before .before .before .before .before .before .before .args .r + n .result - maxNodes * c .before .before .before .before .before .before .before .before .args .r ≡ n .result = omega arith in
+    (q .0, q .1, omega (arith, length-take (maxNodes * c .before .before .before .before .before .before .before .before .args .r + n .result - maxNodes * c .before .before .before .before .before .before .before .before .args .r) (drop (maxNodes * c .before .before .before .before .before .before .before .before .args .r) (now (c .before .before .before .before .before .before .before .before .args .lists))), same, n .ensures, q .5), ap (allb (λ v. ltb v maxNodes)) (row-lent (now (c .before .before .before .before .before .before .before .before .args .lists)) (now (c .before .before .before .before .before .before .before .before .args .lengths)) (c .before .before .before .before .before .before .before .before .args .r) (c .before .before .wide .result) (c .before .before .wide .ensures)) ∙ q .6, omega (arith, q .4))
 
 same-length : tie.Need-same-length
 same-length c = search needs

@@ -10,7 +10,8 @@ use lib.Seq.{length-take-le}
 use borrow.Author.Tests.{not-true, not-false, le-leb, lt-leb}
 use Rattle.base.proofs.Bools.{and-left, and-right}
 use Rattle.model.proofs.Answers.{short, malformed, absent}
-use Rattle.tables.specs.Layout.{ruleCount}
+use Rattle.tables.specs.Layout.{ruleCount, cellCount}
+use Rattle.model.specs.Limits.{maxRules}
 use Rattle.tables.specs.WellFormed.{wellFormed}
 use Rattle.tables.proofs.WellFormed as tables
 use Rattle.report.specs.Pages.{partOk}
@@ -28,7 +29,7 @@ returns : tie.Need-returns
 returns c = refused-on (short (part-answers (now (c .before .before .before .before .before .before .before .before .args .names)) (now (c .before .before .before .before .before .before .before .before .args .cells)) (now (c .before .before .before .before .before .before .before .before .args .values)) (now (c .before .before .before .before .before .before .before .before .args .lists)) (now (c .before .before .before .before .before .before .before .before .args .lengths)) (c .before .before .before .before .before .before .before .before .args .k) (now (c .before .before .before .before .before .before .before .before .args .page))) (sym (c .before .long-enough .ensures) ∙ not-true (c .before .long-enough .result) (c .if1 .taken)))
 
 slice-aggregate-cs : tie.Need-slice-aggregate-cs
-slice-aggregate-cs c = sym (length-take-le 16602 (now (c .before .before .before .before .before .before .before .before .before .args .cells)) (part-room (now (c .before .before .before .before .before .before .before .before .before .args .names)) (now (c .before .before .before .before .before .before .before .before .before .args .cells)) (now (c .before .before .before .before .before .before .before .before .before .args .values)) (now (c .before .before .before .before .before .before .before .before .before .args .lists)) (now (c .before .before .before .before .before .before .before .before .before .args .lengths)) (now (c .before .before .before .before .before .before .before .before .before .args .page)) (sym (c .before .before .long-enough .ensures) ∙ not-false (c .before .before .long-enough .result) (c .before .if1 .left)) .tables .cells))
+slice-aggregate-cs c = sym (length-take-le cellCount (now (c .before .before .before .before .before .before .before .before .before .args .cells)) (part-room (now (c .before .before .before .before .before .before .before .before .before .args .names)) (now (c .before .before .before .before .before .before .before .before .before .args .cells)) (now (c .before .before .before .before .before .before .before .before .before .args .values)) (now (c .before .before .before .before .before .before .before .before .before .args .lists)) (now (c .before .before .before .before .before .before .before .before .before .args .lengths)) (now (c .before .before .before .before .before .before .before .before .before .args .page)) (sym (c .before .before .long-enough .ensures) ∙ not-false (c .before .before .long-enough .result) (c .before .if1 .left)) .tables .cells))
 
 part-ok-requires : tie.Need-part-ok-requires
 part-ok-requires c κs = let l = part-room (now (c .before .before .before .before .before .before .before .before .before .args .names)) (now (c .before .before .before .before .before .before .before .before .before .args .cells)) (now (c .before .before .before .before .before .before .before .before .before .args .values)) (now (c .before .before .before .before .before .before .before .before .before .args .lists)) (now (c .before .before .before .before .before .before .before .before .before .args .lengths)) (now (c .before .before .before .before .before .before .before .before .before .args .page)) (sym (c .before .before .long-enough .ensures) ∙ not-false (c .before .before .long-enough .result) (c .before .if1 .left)) in (l .first, l .second)
@@ -44,8 +45,8 @@ rule-count-requires c κs = search needs
 
 add-if3 : tie.Need-add-if3
 add-if3 c =
-    let cs : List ℕ = take 16602 (now (c .before .before .before .before .before .before .before .before .before .before .before .before .args .cells)) in
-    let few : ruleCount cs ≤ 32 = tables.sound cs (and-left (wellFormed cs) (partOk cs (now (c .before .before .before .before .before .before .before .before .before .before .before .before .args .lists)) (now (c .before .before .before .before .before .before .before .before .before .before .before .before .args .lengths)) (c .before .before .before .before .before .before .before .before .before .before .before .before .args .k)) (sym (c .before .before .part-ok .ensures) ∙ not-false (c .before .before .part-ok .result) (c .before .if2 .left))) .rules in
+    let cs : List ℕ = take cellCount (now (c .before .before .before .before .before .before .before .before .before .before .before .before .args .cells)) in
+    let few : ruleCount cs ≤ maxRules = tables.sound cs (and-left (wellFormed cs) (partOk cs (now (c .before .before .before .before .before .before .before .before .before .before .before .before .args .lists)) (now (c .before .before .before .before .before .before .before .before .before .before .before .before .args .lengths)) (c .before .before .before .before .before .before .before .before .before .before .before .before .args .k)) (sym (c .before .before .part-ok .ensures) ∙ not-false (c .before .before .part-ok .result) (c .before .if2 .left))) .rules in
     omega (arith, few, c .rule-count .ensures)
 
 same-length-3 : tie.Need-same-length-3
@@ -59,7 +60,7 @@ returns-3 c =
 put-part-requires : tie.Need-put-part-requires
 put-part-requires c κs =
     let l = part-room (now (c .before .before .before .before .before .before .before .before .before .before .before .before .before .before .args .names)) (now (c .before .before .before .before .before .before .before .before .before .before .before .before .before .before .args .cells)) (now (c .before .before .before .before .before .before .before .before .before .before .before .before .before .before .args .values)) (now (c .before .before .before .before .before .before .before .before .before .before .before .before .before .before .args .lists)) (now (c .before .before .before .before .before .before .before .before .before .before .before .before .before .before .args .lengths)) (now (c .before .before .before .before .before .before .before .before .before .before .before .before .before .before .args .page)) (sym (c .before .before .before .before .before .before .before .long-enough .ensures) ∙ not-false (c .before .before .before .before .before .before .before .long-enough .result) (c .before .before .before .before .before .before .if1 .left)) in
-    let cs = take 16602 (now (c .before .before .before .before .before .before .before .before .before .before .before .before .before .before .args .cells)) in
+    let cs = take cellCount (now (c .before .before .before .before .before .before .before .before .before .before .before .before .before .before .args .cells)) in
     let ok = partOk cs (now (c .before .before .before .before .before .before .before .before .before .before .before .before .before .before .args .lists)) (now (c .before .before .before .before .before .before .before .before .before .before .before .before .before .before .args .lengths)) (c .before .before .before .before .before .before .before .before .before .before .before .before .before .before .args .k) in
     (l .third, l .tables .names, l .first, l .second, and-left (wellFormed cs) ok (sym (c .before .before .before .before .part-ok .ensures) ∙ not-false (c .before .before .before .before .part-ok .result) (c .before .before .before .if2 .left)), and-right (wellFormed cs) ok (sym (c .before .before .before .before .part-ok .ensures) ∙ not-false (c .before .before .before .before .part-ok .result) (c .before .before .before .if2 .left)))
 

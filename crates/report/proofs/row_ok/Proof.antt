@@ -6,6 +6,7 @@ use denote.Ref.{now}
 use lib.ListN.{getD, take, drop}
 use lib.Dec.{ltb}
 use Rattle.base.specs.Lists.{allb}
+use Rattle.model.specs.Limits.{maxNodes}
 use Rattle.report.proofs.Parts.{row-long, row-test, row-lent}
 use Rattle.report.proofs.row_ok.Statement.{statement}
 use Rattle.report.proofs.row_ok.Tie as tie
@@ -52,7 +53,7 @@ returns-2 : tie.Need-returns-2
 returns-2 c =
     let a = c .before .before .before .before .before .before .before .before .before .args in
     let n = c .before .before .before .before .wide in
-    c .all-below .ensures ∙ ap (λ (k : ℕ). allb (λ v. ltb v k) (take (1024 * a .r + n .result - 1024 * a .r) (drop (1024 * a .r) (now (a .lists))))) (c .before .node-count .ensures)
+    c .all-below .ensures ∙ ap (λ (k : ℕ). allb (λ v. ltb v k) (take (maxNodes * a .r + n .result - maxNodes * a .r) (drop (maxNodes * a .r) (now (a .lists))))) (c .before .node-count .ensures)
     ∙ ap (allb (λ v. ltb v (getD (now (a .cells)) 0 0))) (row-lent (now (a .lists)) (now (a .lengths)) (a .r) (n .result) (n .ensures))
     ∙ row-test (now (a .cells)) (now (a .lists)) (now (a .lengths)) (a .r) (omega (arith, c .before .before .before .if1 .left, n .ensures))
 

@@ -8,7 +8,7 @@ use lib.Seq.{length-take-le}
 use borrow.Author.Tests.{not-true, not-false}
 use borrow.Author.Needs.{needs}
 use Rattle.model.proofs.Answers.{short, malformed, done}
-use Rattle.tables.specs.Layout.{cellCount}
+use Rattle.tables.specs.Layout.{cellCount, valueCount}
 use Rattle.plan.specs.Layout.{planCount}
 use Rattle.plancheck.specs.Both.{bothWellFormed}
 use Rattle.plancheck.proofs.Both.{tables-formed, plan-formed}
@@ -46,10 +46,10 @@ returns : tie.Need-returns
 returns c = short (run-answers (now (c .before .before .before .before .before .before .before .args .names)) (now (c .before .before .before .before .before .before .before .args .cells)) (now (c .before .before .before .before .before .before .before .args .values)) (now (c .before .before .before .before .before .before .before .args .plan)) (now (c .before .before .before .before .before .before .before .args .work))) (sym (c .before .lent-long .ensures) ∙ not-true (c .before .lent-long .result) (c .if1 .taken))
 
 slice-aggregate-cs : tie.Need-slice-aggregate-cs
-slice-aggregate-cs c = sym (length-take-le 16602 (now (c .before .before .before .before .before .before .before .before .args .cells)) (room (c .before) .tables .cells))
+slice-aggregate-cs c = sym (length-take-le cellCount (now (c .before .before .before .before .before .before .before .before .args .cells)) (room (c .before) .tables .cells))
 
 slice-aggregate-ps : tie.Need-slice-aggregate-ps
-slice-aggregate-ps c = sym (length-take-le 2593 (now (c .before .before .before .before .before .before .before .before .before .args .plan)) (room (c .before .before) .plan))
+slice-aggregate-ps c = sym (length-take-le planCount (now (c .before .before .before .before .before .before .before .before .before .args .plan)) (room (c .before .before) .plan))
 
 both-well-formed-requires : tie.Need-both-well-formed-requires
 both-well-formed-requires c κs = search needs
@@ -61,10 +61,10 @@ returns-2 : tie.Need-returns-2
 returns-2 c = malformed (run-answers (now (c .before .before .before .before .before .before .before .before .before .before .before .args .names)) (now (c .before .before .before .before .before .before .before .before .before .before .before .args .cells)) (now (c .before .before .before .before .before .before .before .before .before .before .before .args .values)) (now (c .before .before .before .before .before .before .before .before .before .before .before .args .plan)) (now (c .before .before .before .before .before .before .before .before .before .before .before .args .work))) (is-long (c .before .before .before .before)) (sym (c .before .both-well-formed .ensures) ∙ not-true (c .before .both-well-formed .result) (c .if2 .taken))
 
 slice-aggregate-run-steps : tie.Need-slice-aggregate-run-steps
-slice-aggregate-run-steps c = sym (length-take-le 1136 (now (c .before .before .before .before .before .before .before .before .before .before .before .before .before .args .values)) (room (c .before .before .before .before .before .before) .tables .values))
+slice-aggregate-run-steps c = sym (length-take-le valueCount (now (c .before .before .before .before .before .before .before .before .before .before .before .before .before .args .values)) (room (c .before .before .before .before .before .before) .tables .values))
 
 run-steps-requires : tie.Need-run-steps-requires
-run-steps-requires c κs = (le-of-eq (sym (length-take-le 16602 (now (c .before .before .before .before .before .before .before .before .before .before .before .before .before .args .cells)) (room (c .before .before .before .before .before .before) .tables .cells))), tables-formed (take cellCount (now (c .before .before .before .before .before .before .before .before .before .before .before .before .before .args .cells))) (take planCount (now (c .before .before .before .before .before .before .before .before .before .before .before .before .before .args .plan))) (are-formed (c .before .before)), plan-formed (take cellCount (now (c .before .before .before .before .before .before .before .before .before .before .before .before .before .args .cells))) (take planCount (now (c .before .before .before .before .before .before .before .before .before .before .before .before .before .args .plan))) (are-formed (c .before .before)), room (c .before .before .before .before .before .before) .work)
+run-steps-requires c κs = (le-of-eq (sym (length-take-le cellCount (now (c .before .before .before .before .before .before .before .before .before .before .before .before .before .args .cells)) (room (c .before .before .before .before .before .before) .tables .cells))), tables-formed (take cellCount (now (c .before .before .before .before .before .before .before .before .before .before .before .before .before .args .cells))) (take planCount (now (c .before .before .before .before .before .before .before .before .before .before .before .before .before .args .plan))) (are-formed (c .before .before)), plan-formed (take cellCount (now (c .before .before .before .before .before .before .before .before .before .before .before .before .before .args .cells))) (take planCount (now (c .before .before .before .before .before .before .before .before .before .before .before .before .before .args .plan))) (are-formed (c .before .before)), room (c .before .before .before .before .before .before) .work)
 
 same-length-3 : tie.Need-same-length-3
 same-length-3 c = search needs

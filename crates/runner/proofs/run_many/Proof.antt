@@ -2,6 +2,7 @@
 use Prim.Native.Nat.{_*_, _≤_}
 use mathlib.Core.Path.{refl}
 use native.Mathlib.Omega.{arith}
+use Rattle.model.specs.Limits.{maxNodes}
 use Rattle.tables.specs.Layout.{nodeCount}
 use Rattle.tables.proofs.WellFormed.{sound}
 use Rattle.stepsets.proofs.Rows.{rows-zeros}
@@ -19,8 +20,8 @@ run-all-requires : tie.Need-run-all-requires
 run-all-requires c κs =
     let a = c .before .before .before .before .before .before .before .args in
     let pre = c .before .before .before .before .before .before .before .pre in
-    let l : 16 * nodeCount (a .cells .now) ≤ 16384 = omega (arith, sound (a .cells .now) (pre .0 .ok) .nodes) in
-    (pre .0, pre .1, pre .2, rows-zeros (a .cells .now) 16384 l refl, rows-zeros (a .cells .now) 16384 l refl)
+    let l : 16 * nodeCount (a .cells .now) ≤ (16 * maxNodes) = omega (arith, sound (a .cells .now) (pre .0 .ok) .nodes) in
+    (pre .0, pre .1, pre .2, rows-zeros (a .cells .now) (16 * maxNodes) l refl, rows-zeros (a .cells .now) (16 * maxNodes) l refl)
 
 same-length : tie.Need-same-length
 same-length c = search needs

@@ -6,6 +6,7 @@ use lib.Dec.{ltb}
 use lib.ListN.{drop}
 use denote.Ref.{now}
 use Rattle.nodeset.specs.Words.{has, wordsOf}
+use Rattle.model.specs.Limits.{maxNodes}
 use Rattle.tables.specs.Layout.{nodeCount}
 use Rattle.tables.proofs.WellFormed.{sound}
 use Rattle.plan.specs.Layout.{stepAt}
@@ -46,7 +47,7 @@ words c e = ap (kindSet (now (c .before .before .before .before .before .before 
 right : (c : Place) {x : Kind} → c .step-kind .result ≡ x → KindOk (now (c .before .before .before .before .before .before .before .before .args .cells)) x
 right c e = subst (KindOk (now (c .before .before .before .before .before .before .before .before .args .cells))) (sym (c .step-kind .ensures) ∙ e) (kind-ok (now (c .before .before .before .before .before .before .before .before .args .cells)) (c .before .before .before .before .before .before .before .before .args .k) (c .before .before .before .before .before .before .before .before .pre .1) (stepAt (now (c .before .before .before .before .before .before .before .before .args .plan)) (c .before .before .before .before .before .before .before .before .args .k)) (c .before .before .before .before .before .before .before .before .pre .2))
 
-few : (c : Place) → nodeCount (now (c .before .before .before .before .before .before .before .before .args .cells)) ≤ 1024
+few : (c : Place) → nodeCount (now (c .before .before .before .before .before .before .before .before .args .cells)) ≤ maxNodes
 few c = sound (now (c .before .before .before .before .before .before .before .before .args .cells)) (c .before .before .before .before .before .before .before .before .pre .0 .ok) .nodes
 
 -- the rows that no arm has touched

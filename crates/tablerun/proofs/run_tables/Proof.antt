@@ -3,6 +3,8 @@ use denote.Ref.{now}
 use native.Mathlib.Omega.{arith}
 use lib.Seq.{length-take-le}
 use Rattle.tables.proofs.Sizes.{long}
+use Rattle.tables.specs.Layout.{cellCount}
+use Rattle.plan.specs.Layout.{planCount}
 use Rattle.tablerun.proofs.Answers.{plan-right, rows-left, lengths-left}
 use borrow.Author.Needs.{needs}
 use Rattle.tablerun.proofs.run_tables.Statement.{statement}
@@ -12,13 +14,13 @@ plan-and-run-requires : tie.Need-plan-and-run-requires
 plan-and-run-requires c κs = search needs
 
 slice-aggregate-list-rows : tie.Need-slice-aggregate-list-rows
-slice-aggregate-list-rows c = let a = c .before .before .before .before .before .before .before .before .before .before .before .before .before .before .before .before .args in let q = c .before .before .before .before .before .before .before .before .before .before .before .before .before .before .before .before .pre in let x = c .before .before .before .before .before .before .before .plan-and-run in sym (length-take-le 16602 (now (a .cells)) (long (now (a .names)) (now (a .cells)) (now (a .values)) (q .0) .cells))
+slice-aggregate-list-rows c = let a = c .before .before .before .before .before .before .before .before .before .before .before .before .before .before .before .before .args in let q = c .before .before .before .before .before .before .before .before .before .before .before .before .before .before .before .before .pre in let x = c .before .before .before .before .before .before .before .plan-and-run in sym (length-take-le cellCount (now (a .cells)) (long (now (a .names)) (now (a .cells)) (now (a .values)) (q .0) .cells))
 
 slice-reshare-prefix-list-rows : tie.Need-slice-reshare-prefix-list-rows
 slice-reshare-prefix-list-rows c = search needs
 
 slice-aggregate-list-rows-2 : tie.Need-slice-aggregate-list-rows-2
-slice-aggregate-list-rows-2 c = let a = c .before .before .before .before .before .before .before .before .before .before .before .before .before .before .before .before .before .args in let q = c .before .before .before .before .before .before .before .before .before .before .before .before .before .before .before .before .before .pre in let x = c .before .before .before .before .before .before .before .before .plan-and-run in sym (length-take-le 2593 (x .last .0) (omega (arith, x .kept .0, q .2)))
+slice-aggregate-list-rows-2 c = let a = c .before .before .before .before .before .before .before .before .before .before .before .before .before .before .before .before .before .args in let q = c .before .before .before .before .before .before .before .before .before .before .before .before .before .before .before .before .before .pre in let x = c .before .before .before .before .before .before .before .before .plan-and-run in sym (length-take-le planCount (x .last .0) (omega (arith, x .kept .0, q .2)))
 
 list-rows-requires : tie.Need-list-rows-requires
 list-rows-requires c κs = let a = c .before .before .before .before .before .before .before .before .before .before .before .before .before .before .before .before .before .before .args in let q = c .before .before .before .before .before .before .before .before .before .before .before .before .before .before .before .before .before .before .pre in let x = c .before .before .before .before .before .before .before .before .before .plan-and-run in (q .1, plan-right (now (a .names)) (now (a .cells)) (now (a .values)) (now (a .plan)) (q .0) (q .1) (q .2) (x .last .0) (now (a .work)) (x .ensures .1 .0) (q .3), omega (arith, x .kept .1 .0, q .3), q .4, q .5)

@@ -9,6 +9,7 @@ use Rattle.text.specs.declared.Mag.{Mag}
 use Rattle.text.proofs.Decimals.{bound-none, bound-long, bound-is}
 use Rattle.text.proofs.bound_at.Statement.{statement}
 use Rattle.text.proofs.bound_at.Tie as tie
+use Rattle.model.specs.Limits.{maxCount}
 
 -- the part that is read, and its magnitude where it has one
 abbrev word : tie.After-magnitude → List ℕ
@@ -42,10 +43,10 @@ returns-2 : tie.Need-returns-2
 returns-2 c = sym (bound-long (word (c .before .before)) (sym (c .before .before .magnitude .ensures) ∙ c .enum-told2 .given .1))
 
 returns-3 : tie.Need-returns-3
-returns-3 c = sym (rw (le-leb (value (c .before .before)) 1024 (c .if1 .taken)) at (bound-is (word (c .before .before .before .before)) (value (c .before .before)) (is (c .before .before))))
+returns-3 c = sym (rw (le-leb (value (c .before .before)) maxCount (c .if1 .taken)) at (bound-is (word (c .before .before .before .before)) (value (c .before .before)) (is (c .before .before))))
 
 returns-4 : tie.Need-returns-4
-returns-4 c = sym (rw (lt-leb (value (c .before .before)) 1024 (c .if1 .left)) at (bound-is (word (c .before .before .before .before)) (value (c .before .before)) (is (c .before .before))))
+returns-4 c = sym (rw (lt-leb (value (c .before .before)) maxCount (c .if1 .left)) at (bound-is (word (c .before .before .before .before)) (value (c .before .before)) (is (c .before .before))))
 
 pub bound-at-spec : {M : Type 1} → statement M
 bound-at-spec =

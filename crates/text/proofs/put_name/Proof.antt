@@ -10,12 +10,13 @@ use Rattle.text.specs.Pool.{padded}
 use Rattle.text.proofs.Pool.{padded-length, store-done}
 use Rattle.text.proofs.put_name.Statement.{statement}
 use Rattle.text.proofs.put_name.Tie as tie
+use Rattle.model.specs.Limits.{nameBytes}
 
 abbrev Inv-loop : tie.InvT-loop
-Inv-loop names₀ place book at end i₀ names i = (i ≤ 32) × (names ≡ paste names₀ place (padded (slice at end book)) i) × (length names ≡ length names₀)
+Inv-loop names₀ place book at end i₀ names i = (i ≤ nameBytes) × (names ≡ paste names₀ place (padded (slice at end book)) i) × (length names ≡ length names₀)
 
 abbrev μ-loop : tie.MeasureT-loop
-μ-loop names₀ place book at end i₀ names i = 32 - i
+μ-loop names₀ place book at end i₀ names i = nameBytes - i
 
 loop-holds : tie.Need-loop-holds Inv-loop μ-loop
 loop-holds c =

@@ -3,6 +3,7 @@ use Prim.Native.Nat.{_*_, _≤_}
 use mathlib.Core.Path.{refl}
 use native.Mathlib.Omega.{arith}
 use borrow.Author.Needs.{needs}
+use Rattle.model.specs.Limits.{maxNodes}
 use Rattle.tables.specs.Layout.{nodeCount}
 use Rattle.entries.proofs.Codes.{nodes-le}
 use Rattle.stepsets.proofs.Rows.{held-none, rows-zeros}
@@ -19,8 +20,8 @@ set-of-rows-requires : tie.Need-set-of-rows-requires
 set-of-rows-requires c κs =
     let cs = c .before .before .before .before .before .before .before .args .cells .now in
     let pre = c .before .before .before .before .before .before .before .pre in
-    let l : 16 * nodeCount cs ≤ 16384 = omega (arith, nodes-le cs (pre .0 .tables)) in
-    let none = held-none cs (pre .0 .tables .ok) (rows-zeros cs 16384 l refl) in
+    let l : 16 * nodeCount cs ≤ (16 * maxNodes) = omega (arith, nodes-le cs (pre .0 .tables)) in
+    let none = held-none cs (pre .0 .tables .ok) (rows-zeros cs (16 * maxNodes) l refl) in
     (pre .0, pre .1, pre .2, none, none)
 
 returns : tie.Need-returns

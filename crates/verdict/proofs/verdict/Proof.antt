@@ -8,6 +8,7 @@ use borrow.Author.Tests.{not-true, not-false}
 use Rattle.tables.specs.Sizes.{longEnough}
 use Rattle.tables.proofs.Sizes.{long}
 use Rattle.verdict.proofs.Answers.{verdict-short, verdict-long, answered}
+use Rattle.tables.specs.Layout.{cellCount, valueCount}
 use borrow.Author.Needs.{needs}
 use Rattle.verdict.proofs.verdict.Statement.{statement}
 use Rattle.verdict.proofs.verdict.Tie as tie
@@ -27,19 +28,19 @@ slice-aggregate-answer-on : tie.Need-slice-aggregate-answer-on
 slice-aggregate-answer-on c =
     let a = c .before .before .before .before .before .args in
     let e : longEnough (now (a .names)) (now (a .cells)) (now (a .values)) ≡ true = sym (c .before .before .enough .ensures) ∙ not-false (c .before .before .enough .result) (c .before .if1 .left) in
-    sym (length-take-le 16602 (now (a .cells)) (long (now (a .names)) (now (a .cells)) (now (a .values)) e .cells))
+    sym (length-take-le cellCount (now (a .cells)) (long (now (a .names)) (now (a .cells)) (now (a .values)) e .cells))
 
 slice-aggregate-answer-on-2 : tie.Need-slice-aggregate-answer-on-2
 slice-aggregate-answer-on-2 c =
     let a = c .before .before .before .before .before .before .args in
     let e : longEnough (now (a .names)) (now (a .cells)) (now (a .values)) ≡ true = sym (c .before .before .before .enough .ensures) ∙ not-false (c .before .before .before .enough .result) (c .before .before .if1 .left) in
-    sym (length-take-le 1136 (now (a .values)) (long (now (a .names)) (now (a .cells)) (now (a .values)) e .values))
+    sym (length-take-le valueCount (now (a .values)) (long (now (a .names)) (now (a .cells)) (now (a .values)) e .values))
 
 answer-on-requires : tie.Need-answer-on-requires
 answer-on-requires c κs =
     let a = c .before .before .before .before .before .before .args in
     let e : longEnough (now (a .names)) (now (a .cells)) (now (a .values)) ≡ true = sym (c .before .before .before .enough .ensures) ∙ not-false (c .before .before .before .enough .result) (c .before .before .if1 .left) in
-    omega (arith, length-take-le 16602 (now (a .cells)) (long (now (a .names)) (now (a .cells)) (now (a .values)) e .cells))
+    omega (arith, length-take-le cellCount (now (a .cells)) (long (now (a .names)) (now (a .cells)) (now (a .values)) e .cells))
 
 told-requires-2 : tie.Need-told-requires-2
 told-requires-2 c κs = search needs

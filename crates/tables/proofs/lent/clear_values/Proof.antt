@@ -2,7 +2,6 @@ use Prim.Native.Nat.{_-_}
 use native.Mathlib.Omega.{arith}
 use lib.IntN.{pos}
 use denote.Ref.{now}
-use borrow.Author.Needs.{needs}
 use Rattle.tables.specs.Layout.{valueCount}
 use Rattle.tables.proofs.Cleared.{Filled, filled-none, filled-more, filled-all}
 use Rattle.tables.proofs.lent.clear_values.Statement.{statement}
