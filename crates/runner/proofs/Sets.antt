@@ -16,7 +16,7 @@ use Rattle.nodeset.proofs.Sets.{zeros}
 use Rattle.model.specs.Limits.{maxCount, maxNodes, maxSteps}
 use Rattle.model.specs.Paths as model
 use Rattle.model.specs.Paths.{self, along, endsOf}
-use Rattle.model.specs.Shapes.{within, subset, from, objects, starts}
+use Rattle.model.specs.Shapes.{within, subset, from, objects, starts, conforms}
 use Rattle.tables.specs.Layout.{nodeCount, linkCount, pathCount, noNumber}
 use Rattle.tables.specs.Decode.{graphAt, termAt, pathAt, endAt, upperOf}
 use Rattle.tables.specs.WellFormed.{upperOk, endOk}

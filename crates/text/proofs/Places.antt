@@ -19,7 +19,7 @@ use Rattle.text.specs.declared.Found.the-variants.{At, Nothing}
 use Rattle.text.proofs.Items.{name-short, name-bytes}
 use Rattle.text.proofs.Pool.{padded-length}
 use Rattle.text.specs.Spans.{Span}
-use Rattle.text.proofs.Spans.{span-split, Span}
+use Rattle.text.proofs.Spans.{span-split}
 use Rattle.model.specs.Limits.{nameBytes}
 
 -- ---- the first number that passes
