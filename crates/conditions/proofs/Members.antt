@@ -1,6 +1,6 @@
 -- A search that goes from member to member of a set, and what it has seen.
 use Prim.Native.Nat.{ℕ, _+_, _≤_, _<_, zero-le}
-use mathlib.Core.Bool.{Bool, true, false, not, _&&_, _||_, and-true, and-false, or-false, Bool·not-not}
+use mathlib.Core.Bool.{Bool, true, false, not, _&&_, _||_, and-true, and-false, or-false}
 use mathlib.Core.List.{List}
 use mathlib.Core.Path.{_≡_, refl, sym, ap, ap₂, _∙_, subst}
 use native.Mathlib.Omega.{arith}
@@ -8,13 +8,12 @@ use lib.Dec.{eqb, ltb}
 use lib.ListN.{length, replicate}
 use borrow.Author.Tests.{eq-eqb, eqb-true, eqb-false, ltb-true, ltb-false, lt-ltb, le-ltb}
 use Rattle.base.specs.Bounded.{_⇒_, every}
-use Rattle.base.proofs.Bools.{bool-cases, same-test, not-and}
-use Rattle.base.proofs.Bounded.{every-at, every-all, every-fails, every-more, every-ext}
+use Rattle.base.proofs.Bools.{bool-cases, same-test}
+use Rattle.base.proofs.Bounded.{every-at, every-all, every-more}
 use Rattle.nodeset.specs.Words.{has, wordsOf}
 use Rattle.nodeset.specs.Members.{nextFrom}
 use Rattle.nodeset.proofs.Members.{Next, next-found, next-none}
 use Rattle.nodeset.proofs.Sets.{wordsOf-ext, has-of, length-of, zeros}
-use Rattle.model.specs.Shapes.{subset, noneShared}
 
 -- the search stands at i, which is a member or n, and q holds of all members before it
 pub record Passed (p q : ℕ → Bool) (n i : ℕ) : Type 0 where
@@ -40,9 +39,6 @@ module _ (p q : ℕ → Bool) (n : ℕ) where
 
   pub passed-all : {i : ℕ} → Passed p q n i → n ≤ i → every (λ x. p x ⇒ q x) n ≡ true
   passed-all {i} s l = subst (λ (k : ℕ). every (λ x. p x ⇒ q x) k ≡ true) (let e : i ≡ n = omega (arith, s .within) in e) (s .all)
-
-  pub passed-fails : {i : ℕ} → Passed p q n i → i < n → q i ≡ false → every (λ x. p x ⇒ q x) n ≡ false
-  passed-fails {i} s l h = every-fails (λ x. p x ⇒ q x) n i l (ap₂ (λ (a b : Bool). a ⇒ b) (s .hit l) h)
 
 -- the search goes on
 pub next-after : (p : ℕ → Bool) {n x r : ℕ} → x < n → r ≡ nextFrom p (x + 1) n → x < r
@@ -103,15 +99,3 @@ module _ (p t : ℕ → Bool) (n : ℕ) where
 
   pub gathered-all : {ws : List ℕ} {x : ℕ} → Gathered ws x → n ≤ x → ws ≡ wordsOf (upTo n) 16
   gathered-all {ws} {x} s l = s .words ∙ ap (λ (k : ℕ). wordsOf (upTo k) 16) (let e : x ≡ n = omega (arith, s .within) in e)
-
--- ---- one set in another, and two sets apart
-pub subset-next : (a b : List ℕ) (n : ℕ) {k : ℕ} → k ≡ nextFrom (λ m. has a m && not (has b m)) 0 n → eqb k n ≡ subset n (has a) (has b)
-unfolding subset
-subset-next a b n g =
-    ap (λ (k : ℕ). eqb k n) g
-    ∙ empty-below (λ m. has a m && not (has b m)) n
-    ∙ every-ext (λ x. not (has a x && not (has b x))) (λ x. has a x ⇒ has b x) n (λ x l. not-and (has a x) (not (has b x)) ∙ ap (λ (t : Bool). not (has a x) || t) (Bool·not-not (has b x)))
-
-pub apart-next : (a b : List ℕ) (n : ℕ) {k : ℕ} → k ≡ nextFrom (λ m. has a m && has b m) 0 n → eqb k n ≡ noneShared n (has a) (has b)
-unfolding noneShared
-apart-next a b n g = ap (λ (k : ℕ). eqb k n) g ∙ empty-below (λ m. has a m && has b m) n

@@ -1,24 +1,29 @@
 -- What is asked of a node's term, by the code of its kind; and the test that a form entry is, by its code.
 use Prim.Native.Nat.{ℕ, zero, suc, _+_, _≤_, _<_}
 use mathlib.Core.List.{List, [], _∷_}
-use mathlib.Core.Bool.{Bool, true, false, cond, _&&_, _||_, and-false, or-false}
+use mathlib.Core.Bool.{Bool, true, false, not, cond, _&&_, _||_, and-false, or-false, or-true, Bool·not-not}
+use mathlib.Core.Option.{Option}
 use mathlib.Core.Path.{_≡_, refl, sym, ap, ap₂, _∙_}
 use native.Mathlib.Omega.{arith}
 use lib.Dec.{eqb, ltb}
 use lib.IntN.{ℤ}
-use lib.Signed.{mag, ltZ, leZ}
+use lib.Signed.{mag}
 use mir.Syntax.{w64}
 use mir.Val.{toZ, ofZ}
 use mir.Facts.{toZ-ofZ}
 use lib.ListN.{getD, List·getD-map, List·getD-eq-default}
 use borrow.Author.Tests.{ne-eqb, lt-ltb, le-ltb}
 use Rattle.base.specs.Numbered.{below}
+use Rattle.base.proofs.Bools.{not-and, not-or}
 use Rattle.model.specs.Graph.{Term, iri, blankNode, numeric, plain, tagged, valueOf, datatypeOf, languageOf, holds}
-use Rattle.model.specs.Shapes.{Shape, anIri, aBlank, aLiteral, isKind, nodeKind, datatype, satisfies, conforms, less, lessEq, sameLang}
+use Rattle.model.specs.Shapes.{Shape, anIri, aBlank, aLiteral, isKind, nodeKind, datatype, satisfies, conforms, sameLang}
 use Rattle.tables.specs.Layout.{nodeCount, kindAt, typeAt, langAt, numberAt, limitAt, formCodeAt, formFirstAt, formSecondAt, formThirdAt, formFourthAt}
 use Rattle.tables.specs.Entries.{entryOf}
 use Rattle.tables.specs.Decode.{termOf, termAt, graphAt, kindOf, shapeOf, entryAt, shapeAt}
 use Rattle.tables.proofs.Decode.{shape-number}
+use Rattle.plan.specs.Conditions.{lacks, otherKind, failsTest}
+use Rattle.plan.specs.Sets.{testOf}
+use Rattle.plan.proofs.Complements.{not-satisfies}
 
 -- ---- what stands in a list of five by a kind's code
 other : (k j : ℕ) → j < 5 → eqb (suc (suc (suc (suc (suc k))))) j ≡ false
@@ -72,6 +77,37 @@ at-literal (suc (suc (suc zero))) = refl
 at-literal (suc (suc (suc (suc zero)))) = refl
 at-literal (suc (suc (suc (suc (suc k))))) = sym (ap (λ (t : Bool). ltb 1 (suc (suc (suc (suc (suc k))))) && t) (le-ltb (suc (suc (suc (suc (suc k))))) 5 (omega arith)) ∙ and-false (ltb 1 (suc (suc (suc (suc (suc k)))))))
 
+-- the contraries
+at-not-iri : (k : ℕ) → getD (false ∷ true ∷ true ∷ true ∷ true ∷ []) k false ≡ (ltb 0 k && ltb k 5)
+at-not-iri zero = refl
+at-not-iri (suc zero) = refl
+at-not-iri (suc (suc zero)) = refl
+at-not-iri (suc (suc (suc zero))) = refl
+at-not-iri (suc (suc (suc (suc zero)))) = refl
+at-not-iri (suc (suc (suc (suc (suc k))))) = sym (ap (λ (t : Bool). ltb 0 (suc (suc (suc (suc (suc k))))) && t) (le-ltb (suc (suc (suc (suc (suc k))))) 5 (omega arith)) ∙ and-false (ltb 0 (suc (suc (suc (suc (suc k)))))))
+
+at-not-blank : (k : ℕ) → getD (true ∷ false ∷ true ∷ true ∷ true ∷ []) k true ≡ not (eqb k 1)
+at-not-blank zero = refl
+at-not-blank (suc zero) = refl
+at-not-blank (suc (suc zero)) = refl
+at-not-blank (suc (suc (suc zero))) = refl
+at-not-blank (suc (suc (suc (suc zero)))) = refl
+at-not-blank (suc (suc (suc (suc (suc k))))) = sym (ap not (other k 1 (omega arith)))
+
+at-not-literal : (k : ℕ) → getD (true ∷ true ∷ false ∷ false ∷ false ∷ []) k true ≡ (ltb k 2 || ltb 4 k)
+at-not-literal zero = refl
+at-not-literal (suc zero) = refl
+at-not-literal (suc (suc zero)) = refl
+at-not-literal (suc (suc (suc zero))) = refl
+at-not-literal (suc (suc (suc (suc zero)))) = refl
+at-not-literal (suc (suc (suc (suc (suc k))))) = sym (ap (λ (t : Bool). ltb (suc (suc (suc (suc (suc k))))) 2 || t) (lt-ltb 4 (suc (suc (suc (suc (suc k))))) (omega arith)) ∙ or-true (ltb (suc (suc (suc (suc (suc k))))) 2))
+
+-- a term lacks an attribute, or f holds of it
+lacks-not : {A : Type 0} (f : A → Bool) (o : Option A) → lacks f o ≡ not (holds (λ x. not (f x)) o)
+unfolding lacks holds
+lacks-not f Option.none = refl
+lacks-not f (Option.some x) = sym (Bool·not-not (f x))
+
 -- ---- the term of a node that is there
 module _ (cs : List ℕ) (vs : List ℤ) (v : ℕ) (l : v < nodeCount cs) where
   abbrev terms : List Term
@@ -90,9 +126,25 @@ module _ (cs : List ℕ) (vs : List ℤ) (v : ℕ) (l : v < nodeCount cs) where
   unfolding holds languageOf
   language-test f = term-by (λ a. holds f (languageOf a)) ∙ at-words (f (langAt cs v)) (kindAt cs v)
 
+  -- it has no number, no language, or f holds of it
+  pub value-lacks : (f : ℤ → Bool) → lacks f (valueOf (termAt cs vs v)) ≡ (not (eqb (kindAt cs v) 2) || f (numberAt vs v))
+  value-lacks f =
+      lacks-not f (valueOf (termAt cs vs v)) ∙ ap not (value-test (λ x. not (f x)))
+      ∙ not-and (eqb (kindAt cs v) 2) (not (f (numberAt vs v))) ∙ ap (λ (b : Bool). not (eqb (kindAt cs v) 2) || b) (Bool·not-not (f (numberAt vs v)))
+
+  pub language-lacks : (f : ℕ → Bool) → lacks f (languageOf (termAt cs vs v)) ≡ (not (eqb (kindAt cs v) 4) || f (langAt cs v))
+  language-lacks f =
+      lacks-not f (languageOf (termAt cs vs v)) ∙ ap not (language-test (λ x. not (f x)))
+      ∙ not-and (eqb (kindAt cs v) 4) (not (f (langAt cs v))) ∙ ap (λ (b : Bool). not (eqb (kindAt cs v) 4) || b) (Bool·not-not (f (langAt cs v)))
+
   pub datatype-test : (t k d : ℕ) → k ≡ kindAt cs v → d ≡ typeAt cs v → (((eqb k 2 || eqb k 3) && eqb t d) || (eqb k 4 && eqb t 0)) ≡ satisfies (datatype t) (termAt cs vs v)
   unfolding satisfies holds datatypeOf
   datatype-test t k d e f = sym (term-by (λ a. holds (eqb t) (datatypeOf a)) ∙ at-literals (eqb t (typeAt cs v)) (eqb t 0) (kindAt cs v) ∙ ap₂ (λ (k d : ℕ). ((eqb k 2 || eqb k 3) && eqb t d) || (eqb k 4 && eqb t 0)) (sym e) (sym f))
+
+  pub datatype-fails : (t k d : ℕ) → k ≡ kindAt cs v → d ≡ typeAt cs v → (((not (eqb k 2) && not (eqb k 3)) || not (eqb t d)) && (not (eqb k 4) || not (eqb t 0))) ≡ failsTest (datatype t) (termAt cs vs v)
+  datatype-fails t k d e f =
+      sym (not-or ((eqb k 2 || eqb k 3) && eqb t d) (eqb k 4 && eqb t 0) ∙ ap₂ (λ (x y : Bool). x && y) (not-and (eqb k 2 || eqb k 3) (eqb t d) ∙ ap (λ (x : Bool). x || not (eqb t d)) (not-or (eqb k 2) (eqb k 3))) (not-and (eqb k 4) (eqb t 0)))
+      ∙ ap not (datatype-test t k d e f) ∙ not-satisfies (datatype t) (termAt cs vs v)
 
   -- its kind; k is the code that was read
   module _ (k : ℕ) (e : k ≡ kindAt cs v) {j : ℕ} where
@@ -108,16 +160,20 @@ module _ (cs : List ℕ) (vs : List ℤ) (v : ℕ) (l : v < nodeCount cs) where
     unfolding satisfies isKind kindOf
     kind-literal q = sym (ap (λ (x : Rattle.model.specs.Shapes.Kind). isKind x (termAt cs vs v)) (List·getD-eq-default (anIri ∷ aBlank ∷ []) aLiteral q) ∙ term-by (isKind aLiteral) ∙ at-literal (kindAt cs v) ∙ ap (λ (k : ℕ). ltb 1 k && ltb k 5) (sym e))
 
+    pub kind-not-iri : j ≡ 0 → (ltb 0 k && ltb k 5) ≡ failsTest (nodeKind (kindOf j)) (termAt cs vs v)
+    unfolding failsTest otherKind isKind kindOf
+    kind-not-iri q = sym (ap (λ (j : ℕ). failsTest (nodeKind (kindOf j)) (termAt cs vs v)) q ∙ term-by (otherKind anIri) ∙ at-not-iri (kindAt cs v) ∙ ap (λ (k : ℕ). ltb 0 k && ltb k 5) (sym e))
+
+    pub kind-not-blank : j ≡ 1 → not (eqb k 1) ≡ failsTest (nodeKind (kindOf j)) (termAt cs vs v)
+    unfolding failsTest otherKind isKind kindOf
+    kind-not-blank q = sym (ap (λ (j : ℕ). failsTest (nodeKind (kindOf j)) (termAt cs vs v)) q ∙ term-by (otherKind aBlank) ∙ at-not-blank (kindAt cs v) ∙ ap (λ (k : ℕ). not (eqb k 1)) (sym e))
+
+    pub kind-not-literal : 1 < j → (ltb k 2 || ltb 4 k) ≡ failsTest (nodeKind (kindOf j)) (termAt cs vs v)
+    unfolding failsTest otherKind isKind kindOf
+    kind-not-literal q = sym (ap (λ (x : Rattle.model.specs.Shapes.Kind). otherKind x (termAt cs vs v)) (List·getD-eq-default (anIri ∷ aBlank ∷ []) aLiteral q) ∙ term-by (otherKind aLiteral) ∙ at-not-literal (kindAt cs v) ∙ ap (λ (k : ℕ). ltb k 2 || ltb 4 k) (sym e))
+
 -- ---- the terms of two nodes
 module _ (cs : List ℕ) (vs : List ℤ) (x y : ℕ) (l : x < nodeCount cs) (m : y < nodeCount cs) where
-  pub less-test : (eqb (kindAt cs x) 2 && (eqb (kindAt cs y) 2 && ltZ (numberAt vs x) (numberAt vs y))) ≡ less (termAt cs vs x) (termAt cs vs y)
-  unfolding less
-  less-test = sym (value-test cs vs x l (λ p. holds (ltZ p) (valueOf (termAt cs vs y))) ∙ ap (λ (b : Bool). eqb (kindAt cs x) 2 && b) (value-test cs vs y m (ltZ (numberAt vs x))))
-
-  pub lesseq-test : (eqb (kindAt cs x) 2 && (eqb (kindAt cs y) 2 && leZ (numberAt vs x) (numberAt vs y))) ≡ lessEq (termAt cs vs x) (termAt cs vs y)
-  unfolding lessEq
-  lesseq-test = sym (value-test cs vs x l (λ p. holds (leZ p) (valueOf (termAt cs vs y))) ∙ ap (λ (b : Bool). eqb (kindAt cs x) 2 && b) (value-test cs vs y m (leZ (numberAt vs x))))
-
   pub lang-test : (eqb (kindAt cs x) 4 && (eqb (kindAt cs y) 4 && eqb (langAt cs x) (langAt cs y))) ≡ sameLang (termAt cs vs x) (termAt cs vs y)
   unfolding sameLang
   lang-test = sym (language-test cs vs x l (λ p. holds (eqb p) (languageOf (termAt cs vs y))) ∙ ap (λ (b : Bool). eqb (kindAt cs x) 4 && b) (language-test cs vs y m (eqb (langAt cs x))))
@@ -142,3 +198,8 @@ module _ (cs : List ℕ) (vs : List ℤ) (e v : ℕ) where
   entry-by n q =
       ap (λ (k : ℕ). conforms (graphAt cs vs) (shapeOf cs (entryOf k (formFirstAt cs e) (formSecondAt cs e) (formThirdAt cs e) (formFourthAt cs e) (limitAt vs e)) (below Shape.top (λ k at. shapeOf cs (entryAt cs vs k) at) e)) v) (sym q)
       ∙ ap (λ (s : Shape). conforms (graphAt cs vs) s v) (sym (shape-number cs e vs))
+
+  -- the same of the test that the entry is, and of what fails it
+  pub fails-by : (n : ℕ) → formCodeAt cs e ≡ n → holds (λ t. failsTest t (termAt cs vs v)) (testOf cs (entryOf n (formFirstAt cs e) (formSecondAt cs e) (formThirdAt cs e) (formFourthAt cs e) (limitAt vs e))) ≡ holds (λ t. failsTest t (termAt cs vs v)) (testOf cs (entryAt cs vs e))
+  unfolding entryAt
+  fails-by n q = ap (λ (k : ℕ). holds (λ t. failsTest t (termAt cs vs v)) (testOf cs (entryOf k (formFirstAt cs e) (formSecondAt cs e) (formThirdAt cs e) (formFourthAt cs e) (limitAt vs e)))) (sym q)

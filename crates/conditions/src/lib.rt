@@ -1,14 +1,24 @@
 // Conditions on a node and on two sets of nodes, over the tables. The verdict and the runner share them.
 //
-// For the crates above, which show what a function asks for:
-//   test_holds                  the test that a form entry is, of a node
-//   closed_holds                every fact out of a node has a listed link
-//   less_holds, lesseq_holds    each member of one set has a number less than, or at most, that of each member of another
-//   onelang_holds               no two members of a set have the same language
-//   langs_differ, languages     .. no two of those that have one; the set of the nodes that have one
-//   subset_holds, equal_holds, apart_holds
-//                               one set in another; two sets with the same members, with none in common
-//   insert_if                   a number joins a set, or not
+// Searches, each ended by the first that decides. Nothing found is the condition kept, something found is the condition broken:
+//   first_not_less, first_not_lesseq   a member of one set and one of another that are not so ordered
+//   first_clash                        two members of a set that have the same language
+//   first_in_one, first_shared, first_outside
+//                                      a node in exactly one of two sets, in both, in the first alone
+//   first_unlisted                     a fact out of a node with an unlisted link
+//
+// For the crates above, which show what a function asks for; _holds where the condition is kept, _fails where it is broken:
+//   test_holds, test_fails             the test that a form entry is, of a node
+//   closed_holds, closed_fails         every fact out of a node has a listed link
+//   less_holds, less_fails, lesseq_holds, lesseq_fails
+//                                      each member of one set has a number less than, or at most, that of each member of another
+//   onelang_holds, onelang_fails       no two members of a set have the same language
+//   subset_holds                       one set in another
+//   equal_holds, equal_fails, apart_holds, apart_fails
+//                                      two sets with the same members, with none in common
+//   languages                          the nodes that have a language
+//   insert_if                          a number joins a set, or not
+use model::NodeNo;
 use nodeset::NodeSet;
 use nodeset::insert;
 use nodeset::next_member;
@@ -29,19 +39,119 @@ use tables::reads::predicate;
 use tables::reads::subject;
 use tables::reads::wide;
 ghost use mathlib.Core.Path.{_≡_};
-ghost use mathlib.Core.Bool.{cond, _&&_, _||_};
+ghost use mathlib.Core.Bool.{cond, not, _&&_, _||_};
 ghost use mathlib.Core.List.{List};
+ghost use mathlib.Core.Option.{Option};
 ghost use Prim.Native.Nat.{_+_, _<_, _≤_};
 ghost use lib.Dec.{eqb, ltb};
 ghost use lib.ListN.{length};
 ghost use lib.IntN.{ℤ};
-ghost use Rattle.base.specs.Bounded.{_⇒_};
 ghost use Rattle.base.specs.Lists.{member};
 ghost use Rattle.nodeset.specs.Words.{has, wordsOf};
+ghost use Rattle.model.specs.Graph.{holds};
 ghost use Rattle.model.specs.Shapes.{nodeKind, datatype, satisfies, conforms, subset, noneShared, allPairs, less, lessEq};
-ghost use Rattle.tables.specs.Layout.{nodeCount, kindAt, subjectAt, predicateAt, formCodeAt, formFirstAt, formSecondAt};
-ghost use Rattle.tables.specs.Decode.{termAt, triplesAt, graphAt, kindOf, itemsAt, shapeAt};
-ghost use Rattle.conditions.specs.Pairs.{onlyListed, pairOk, eachPair, langsDiffer, unlikeLangs, covers, Lowest};
+ghost use Rattle.tables.specs.Layout.{nodeCount, factCount, kindAt, langAt, numberAt, formCodeAt, formFirstAt, formSecondAt};
+ghost use Rattle.tables.specs.Decode.{termAt, triplesAt, graphAt, kindOf, itemsAt, entryAt, shapeAt};
+ghost use Rattle.plan.specs.Sets.{testOf};
+ghost use Rattle.plan.specs.Conditions.{failsTest, notLess, notLessEq, someInOne, someShared, somePair, clash, someUnlisted};
+ghost use Rattle.conditions.specs.Pairs.{onlyListed, unlisted, unordered, comesBack, unlikeLangs};
+ghost use Rattle.conditions.specs.Searches.{first, firstPair, among, firstInOne, found, nothing, nodeFound, pairFound, sideFound, factFound, Listed};
+
+// What a search found: a node; a pair of nodes; a node in exactly one of two sets, by the set that lacks it; a fact.
+pub enum Found {
+    Node(NodeNo),
+    NoNode,
+}
+
+pub enum FoundPair {
+    Pair(NodeNo, NodeNo),
+    NoPair,
+}
+
+pub enum FoundSide {
+    SecondLacks(NodeNo),
+    FirstLacks(NodeNo),
+    NoSide,
+}
+
+pub enum FoundFact {
+    Fact(usize),
+    NoFact,
+}
+
+// Nothing was found; something was.
+fn no_node(answer: Found) -> bool
+    ensures { λ r. ⌜ r ≡ nothing (nodeFound answer) ⌝ }
+{
+    match answer {
+        Found::Node(_) => false,
+        Found::NoNode => true,
+    }
+}
+
+fn some_node(answer: Found) -> bool
+    ensures { λ r. ⌜ r ≡ found (nodeFound answer) ⌝ }
+{
+    match answer {
+        Found::Node(_) => true,
+        Found::NoNode => false,
+    }
+}
+
+fn no_pair(answer: FoundPair) -> bool
+    ensures { λ r. ⌜ r ≡ nothing (pairFound answer) ⌝ }
+{
+    match answer {
+        FoundPair::Pair(_, _) => false,
+        FoundPair::NoPair => true,
+    }
+}
+
+fn some_pair(answer: FoundPair) -> bool
+    ensures { λ r. ⌜ r ≡ found (pairFound answer) ⌝ }
+{
+    match answer {
+        FoundPair::Pair(_, _) => true,
+        FoundPair::NoPair => false,
+    }
+}
+
+fn no_side(answer: FoundSide) -> bool
+    ensures { λ r. ⌜ r ≡ nothing (sideFound answer) ⌝ }
+{
+    match answer {
+        FoundSide::SecondLacks(_) => false,
+        FoundSide::FirstLacks(_) => false,
+        FoundSide::NoSide => true,
+    }
+}
+
+fn some_side(answer: FoundSide) -> bool
+    ensures { λ r. ⌜ r ≡ found (sideFound answer) ⌝ }
+{
+    match answer {
+        FoundSide::SecondLacks(_) => true,
+        FoundSide::FirstLacks(_) => true,
+        FoundSide::NoSide => false,
+    }
+}
+
+fn no_fact(answer: FoundFact) -> bool
+    ensures { λ r. ⌜ r ≡ nothing (factFound answer) ⌝ }
+{
+    match answer {
+        FoundFact::Fact(_) => false,
+        FoundFact::NoFact => true,
+    }
+}
+
+// x as the number of a node.
+fn node(x: usize) -> NodeNo
+    requires { ⌜ x < 65536 ⌝ }
+    ensures { λ r. ⌜ r .0 ≡ x ⌝ }
+{
+    NodeNo(x as u16)
+}
 
 // x is one of n items from number i on.
 fn listed(cells: &[u16], i: u16, n: u16, x: u16) -> bool
@@ -57,29 +167,36 @@ fn listed(cells: &[u16], i: u16, n: u16, x: u16) -> bool
     false
 }
 
-// Fact i does not go out of v, or has a listed link.
-fn fact_listed(cells: &[u16], e: usize, v: usize, i: usize) -> bool
-    ensures { λ r. ⌜ r ≡ (eqb (subjectAt (now (cells .entry)) i) v ⇒ member (predicateAt (now (cells .entry)) i) (itemsAt (now (cells .entry)) (formFirstAt (now (cells .entry)) e) (formSecondAt (now (cells .entry)) e))) ⌝ }
+// Fact i goes out of v and has a link that form entry e does not list.
+fn fact_unlisted(cells: &[u16], e: usize, v: usize, i: usize) -> bool
+    ensures { λ r. ⌜ r ≡ unlisted (now (cells .entry)) (itemsAt (now (cells .entry)) (formFirstAt (now (cells .entry)) e) (formSecondAt (now (cells .entry)) e)) v i ⌝ }
 {
     let s = subject(cells, i);
     if wide(s.0) == v {
         let p = predicate(cells, i);
-        return listed(cells, form_first(cells, e), form_second(cells, e), p.0);
+        return !listed(cells, form_first(cells, e), form_second(cells, e), p.0);
     }
-    true
+    false
 }
 
-// Every fact out of v has one of the links that form entry e lists.
-pub fn closed_holds(cells: &[u16], e: usize, v: usize) -> bool
-    ensures { λ r. ⌜ r ≡ onlyListed (triplesAt (now (cells .entry))) (itemsAt (now (cells .entry)) (formFirstAt (now (cells .entry)) e) (formSecondAt (now (cells .entry)) e)) v ⌝ }
+// The first fact out of v that has a link that form entry e does not list.
+pub fn first_unlisted(cells: &[u16], e: usize, v: usize) -> FoundFact
+    ensures { λ r. ⌜ factFound r ≡ first (unlisted (now (cells .entry)) (itemsAt (now (cells .entry)) (formFirstAt (now (cells .entry)) e) (formSecondAt (now (cells .entry)) e)) v) (factCount (now (cells .entry))) ⌝ }
 {
     let n = fact_count(cells);
     for i in 0..n {
-        if !fact_listed(cells, e, v, i) {
-            return false;
+        if fact_unlisted(cells, e, v, i) {
+            return FoundFact::Fact(i);
         }
     }
-    true
+    FoundFact::NoFact
+}
+
+// Every fact out of v has one of the links that form entry e lists; some has not.
+pub fn closed_holds(cells: &[u16], e: usize, v: usize) -> bool
+    ensures { λ r. ⌜ r ≡ onlyListed (triplesAt (now (cells .entry))) (itemsAt (now (cells .entry)) (formFirstAt (now (cells .entry)) e) (formSecondAt (now (cells .entry)) e)) v ⌝ }
+{
+    no_fact(first_unlisted(cells, e, v))
 }
 
 // Node v is of kind k. The codes of kinds in the tables: 0 thing, 1 blank, 2 number, 3 text, 4 words; another counts as 0.
@@ -102,6 +219,28 @@ fn datatype_holds(cells: &[u16], t: u16, v: usize) -> bool
 {
     let kind = node_kind(cells, v);
     (((kind == 2) | (kind == 3)) & (t == node_type(cells, v))) | ((kind == 4) & (t == 0))
+}
+
+// Node v is of another kind than k.
+fn kind_fails(cells: &[u16], k: u16, v: usize) -> bool
+    requires { ⌜ v < nodeCount (now cells) ⌝ }
+    ensures { λ r. ⌜ ((vs : List ℤ) → r ≡ failsTest (nodeKind (kindOf k)) (termAt (now (cells .entry)) vs v)) ⌝ }
+{
+    let kind = node_kind(cells, v);
+    match k {
+        0 => (0 < kind) & (kind < 5),
+        1 => kind != 1,
+        2..=65535 => (kind < 2) | (4 < kind),
+    }
+}
+
+// Node v is no literal of datatype t.
+fn datatype_fails(cells: &[u16], t: u16, v: usize) -> bool
+    requires { ⌜ v < nodeCount (now cells) ⌝ }
+    ensures { λ r. ⌜ ((vs : List ℤ) → r ≡ failsTest (datatype t) (termAt (now (cells .entry)) vs v)) ⌝ }
+{
+    let kind = node_kind(cells, v);
+    (((kind != 2) & (kind != 3)) | (t != node_type(cells, v))) & ((kind != 4) | (t != 0))
 }
 
 // Node v has a language; a number.
@@ -134,83 +273,124 @@ pub fn test_holds(cells: &[u16], values: &[i64], e: usize, v: usize) -> bool
     }
 }
 
-// What is asked of a pair of nodes.
-enum Pair {
+// Node v fails the test that form entry e is.
+pub fn test_fails(cells: &[u16], values: &[i64], e: usize, v: usize) -> bool
+    requires { ⌜ (v < nodeCount (now cells)) × (6 ≤ formCodeAt (now cells) e) × (formCodeAt (now cells) e ≤ 12) ⌝ }
+    ensures { λ r. ⌜ r ≡ holds (λ t. failsTest t (termAt (now (cells .entry)) (now (values .entry)) v)) (testOf (now (cells .entry)) (entryAt (now (cells .entry)) (now (values .entry)) e)) ⌝ }
+{
+    let a = form_first(cells, e);
+    match form_code(cells, e) {
+        6 => kind_fails(cells, a, v),
+        7 => datatype_fails(cells, a, v),
+        8 => !has_language(cells, v)
+            | !listed(cells, a, form_second(cells, e), node_lang(cells, v)),
+        9 => !has_number(cells, v) | (number(values, v) < limit(values, e)),
+        10 => !has_number(cells, v) | (number(values, v) <= limit(values, e)),
+        11 => !has_number(cells, v) | (limit(values, e) < number(values, v)),
+        _ => !has_number(cells, v) | (limit(values, e) <= number(values, v)),
+    }
+}
+
+// How the members of a pair are to be ordered.
+enum Order {
     Less,
     LessEq,
 }
 
-fn pair_holds(pair: Pair, cells: &[u16], values: &[i64], x: usize, y: usize) -> bool
-    requires { ⌜ (x < nodeCount (now cells)) × (y < nodeCount (now cells)) ⌝ }
-    ensures { λ r. ⌜ r ≡ pairOk pair (termAt (now (cells .entry)) (now (values .entry)) x) (termAt (now (cells .entry)) (now (values .entry)) y) ⌝ }
+// A pair is not so ordered: the first has no number, where not known, or the second has none, or its number does not come after
+// the first's, which is value.
+fn breaks_order(
+    order: Order,
+    known: bool,
+    value: i64,
+    cells: &[u16],
+    values: &[i64],
+    y: NodeNo,
+) -> bool
+    ensures { λ r. ⌜ r ≡ (not known || (not (eqb (kindAt (now (cells .entry)) (y .0)) 2) || comesBack order value (numberAt (now (values .entry)) (y .0)))) ⌝ }
 {
-    match pair {
-        Pair::Less => {
-            has_number(cells, x) & (has_number(cells, y) & (number(values, x) < number(values, y)))
-        }
-        Pair::LessEq => {
-            has_number(cells, x) & (has_number(cells, y) & (number(values, x) <= number(values, y)))
-        }
+    let w = wide(y.0);
+    match order {
+        Order::Less => !known | (!has_number(cells, w) | (number(values, w) <= value)),
+        Order::LessEq => !known | (!has_number(cells, w) | (number(values, w) < value)),
     }
 }
 
-// Each pair holds. The first that does not ends the search; only members cost anything.
-fn pairs_hold(pair: Pair, cells: &[u16], values: &[i64], a: &[u64], b: &[u64]) -> bool
-    ensures { λ r. ⌜ r ≡ eachPair (nodeCount (now (cells .entry))) (λ y. nodeCount (now (cells .entry))) (has (now (a .entry))) (has (now (b .entry))) (λ x y. pairOk pair (termAt (now (cells .entry)) (now (values .entry)) x) (termAt (now (cells .entry)) (now (values .entry)) y)) ⌝ }
+// The numbers below n in both sets, lowest first, at the beginning of a list; how many there are.
+fn gather(into: &mut [u16], a: &[u64], b: &[u64], n: usize) -> usize
+    requires { ⌜ (n ≤ 1024) × (1024 ≤ length (now into)) ⌝ }
+    ensures { λ r. ⌜ Listed (λ m. has (now (a .entry)) m && has (now (b .entry)) m) n (now (into .exit)) r ⌝ }
+{
+    let mut count = 0;
+    let mut x = next_shared(a, b, 0, n);
+    while x < n {
+        into[count] = x as u16;
+        count += 1;
+        x = next_shared(a, b, x + 1, n);
+    }
+    count
+}
+
+// The first pair of a member of a and one of b that are not so ordered. The members of b are gathered once, so that going from
+// one to the next costs nothing; what is asked of the first of a pair is asked once for all its seconds.
+fn first_unordered(order: Order, cells: &[u16], values: &[i64], a: &[u64], b: &[u64]) -> FoundPair
+    requires { ⌜ nodeCount (now cells) ≤ 1024 ⌝ }
+    ensures { λ r. ⌜ pairFound r ≡ firstPair (among (has (now (a .entry))) (has (now (b .entry))) (λ x y. unordered order (termAt (now (cells .entry)) (now (values .entry)) x) (termAt (now (cells .entry)) (now (values .entry)) y))) (nodeCount (now (cells .entry))) ⌝ }
 {
     let n = node_count(cells);
-    let mut ok = true;
-    let mut y = next_member(b, 0, n);
-    'search: while y < n {
-        let mut x = next_member(a, 0, n);
-        while x < n {
-            if !pair_holds(pair, cells, values, x, y) {
-                ok = false;
+    let mut answer = FoundPair::NoPair;
+    let mut x = next_member(a, 0, n);
+    if n <= x {
+        return answer;
+    }
+    let mut seconds = [0u16; 1024];
+    let count = gather(&mut seconds, b, b, n);
+    'search: while x < n {
+        let known = has_number(cells, x);
+        let value = number(values, x);
+        let mut k = 0;
+        while k < count {
+            let second = NodeNo(seconds[k]);
+            if breaks_order(order, known, value, cells, values, second) {
+                answer = FoundPair::Pair(node(x), second);
                 break 'search;
             }
-            x = next_member(a, x + 1, n);
+            k += 1;
         }
-        y = next_member(b, y + 1, n);
+        x = next_member(a, x + 1, n);
     }
-    ok
+    answer
 }
 
-// Of two nodes one such that whatever is less than it is less than the other: one without a number, else one with the least.
-fn lower(cells: &[u16], values: &[i64], x: usize, y: usize) -> usize
-    requires { ⌜ (x < nodeCount (now cells)) × (y < nodeCount (now cells)) ⌝ }
-    ensures { λ r. ⌜ r ≡ cond (covers (termAt (now (cells .entry)) (now (values .entry)) x) (termAt (now (cells .entry)) (now (values .entry)) y)) x y ⌝ }
+// The first pair of a member of a and one of b where not both have a number, the first less than the second.
+pub fn first_not_less(cells: &[u16], values: &[i64], a: &[u64], b: &[u64]) -> FoundPair
+    requires { ⌜ nodeCount (now cells) ≤ 1024 ⌝ }
+    ensures { λ r. ⌜ pairFound r ≡ firstPair (among (has (now (a .entry))) (has (now (b .entry))) (λ x y. notLess (termAt (now (cells .entry)) (now (values .entry)) x) (termAt (now (cells .entry)) (now (values .entry)) y))) (nodeCount (now (cells .entry))) ⌝ }
 {
-    if !has_number(cells, x) {
-        return x;
-    }
-    if pair_holds(Pair::LessEq, cells, values, x, y) {
-        return x;
-    }
-    y
+    first_unordered(Order::Less, cells, values, a, b)
 }
 
-// The lowest of all members of b: with it the others need not be looked at.
-fn lowest(cells: &[u16], values: &[i64], b: &[u64]) -> usize
-    ensures { λ r. ⌜ Lowest (now (cells .entry)) (now (values .entry)) (has (now (b .entry))) r ⌝ }
+// The same with at most.
+pub fn first_not_lesseq(cells: &[u16], values: &[i64], a: &[u64], b: &[u64]) -> FoundPair
+    requires { ⌜ nodeCount (now cells) ≤ 1024 ⌝ }
+    ensures { λ r. ⌜ pairFound r ≡ firstPair (among (has (now (a .entry))) (has (now (b .entry))) (λ x y. notLessEq (termAt (now (cells .entry)) (now (values .entry)) x) (termAt (now (cells .entry)) (now (values .entry)) y))) (nodeCount (now (cells .entry))) ⌝ }
 {
-    let n = node_count(cells);
-    let mut r = next_member(b, 0, n);
-    let mut y = r;
-    while y < n {
-        r = lower(cells, values, r, y);
-        y = next_member(b, y + 1, n);
-    }
-    r
+    first_unordered(Order::LessEq, cells, values, a, b)
 }
 
-// Each member of a has a number, and each of b, and the first is less than the second.
+// Each member of a has a number, and each of b, and the first is less than the second; some pair is not so.
 pub fn less_holds(cells: &[u16], values: &[i64], a: &[u64], b: &[u64]) -> bool
     requires { ⌜ nodeCount (now cells) ≤ 1024 ⌝ }
     ensures { λ r. ⌜ r ≡ allPairs (nodeCount (now (cells .entry))) (has (now (a .entry))) (has (now (b .entry))) (λ x y. less (termAt (now (cells .entry)) (now (values .entry)) x) (termAt (now (cells .entry)) (now (values .entry)) y)) ⌝ }
 {
-    let s = NodeSet::EMPTY.with(lowest(cells, values, b));
-    let words = s.words;
-    pairs_hold(Pair::Less, cells, values, a, &words)
+    no_pair(first_not_less(cells, values, a, b))
+}
+
+pub fn less_fails(cells: &[u16], values: &[i64], a: &[u64], b: &[u64]) -> bool
+    requires { ⌜ nodeCount (now cells) ≤ 1024 ⌝ }
+    ensures { λ r. ⌜ r ≡ somePair (nodeCount (now (cells .entry))) (has (now (a .entry))) (has (now (b .entry))) (λ x y. notLess (termAt (now (cells .entry)) (now (values .entry)) x) (termAt (now (cells .entry)) (now (values .entry)) y)) ⌝ }
+{
+    some_pair(first_not_less(cells, values, a, b))
 }
 
 // The same with at most.
@@ -218,9 +398,14 @@ pub fn lesseq_holds(cells: &[u16], values: &[i64], a: &[u64], b: &[u64]) -> bool
     requires { ⌜ nodeCount (now cells) ≤ 1024 ⌝ }
     ensures { λ r. ⌜ r ≡ allPairs (nodeCount (now (cells .entry))) (has (now (a .entry))) (has (now (b .entry))) (λ x y. lessEq (termAt (now (cells .entry)) (now (values .entry)) x) (termAt (now (cells .entry)) (now (values .entry)) y)) ⌝ }
 {
-    let s = NodeSet::EMPTY.with(lowest(cells, values, b));
-    let words = s.words;
-    pairs_hold(Pair::LessEq, cells, values, a, &words)
+    no_pair(first_not_lesseq(cells, values, a, b))
+}
+
+pub fn lesseq_fails(cells: &[u16], values: &[i64], a: &[u64], b: &[u64]) -> bool
+    requires { ⌜ nodeCount (now cells) ≤ 1024 ⌝ }
+    ensures { λ r. ⌜ r ≡ somePair (nodeCount (now (cells .entry))) (has (now (a .entry))) (has (now (b .entry))) (λ x y. notLessEq (termAt (now (cells .entry)) (now (values .entry)) x) (termAt (now (cells .entry)) (now (values .entry)) y)) ⌝ }
+{
+    some_pair(first_not_lesseq(cells, values, a, b))
 }
 
 // x joins the set, where yes.
@@ -238,50 +423,12 @@ fn with_language(cells: &[u16], a: &[u64]) -> NodeSet
 {
     let n = node_count(cells);
     let mut words = [0u64; 16];
-    let mut x = next_member(a, 0, n);
-    while x < n {
-        insert_if(&mut words, x, has_language(cells, x));
-        x = next_member(a, x + 1, n);
+    let mut v = next_member(a, 0, n);
+    while v < n {
+        insert_if(&mut words, v, has_language(cells, v));
+        v = next_member(a, v + 1, n);
     }
     NodeSet { words }
-}
-
-// No two numbers in both sets have the same language, where both have only nodes that have one. The first pair that has ends the
-// search; before has the languages of those before y. With 32 languages, two of the first 33 have the same.
-pub fn langs_differ(cells: &[u16], a: &[u64], b: &[u64]) -> bool
-    requires { ⌜ nodeCount (now cells) ≤ 1024 ⌝ }
-    ensures { λ r. ⌜ r ≡ langsDiffer (now (cells .entry)) (λ w. has (now (a .entry)) w && has (now (b .entry)) w) ⌝ }
-{
-    let n = node_count(cells);
-    let mut before = [0u16; 1024];
-    let mut count = 0;
-    let mut differ = true;
-    let mut y = next_shared(a, b, 0, n);
-    'search: while y < n {
-        let lang = node_lang(cells, y);
-        let mut k = 0;
-        while k < count {
-            if before[k] == lang {
-                differ = false;
-                break 'search;
-            }
-            k += 1;
-        }
-        before[count] = lang;
-        count += 1;
-        y = next_shared(a, b, y + 1, n);
-    }
-    differ
-}
-
-// No two members of a have the same language.
-pub fn onelang_holds(cells: &[u16], a: &[u64]) -> bool
-    requires { ⌜ nodeCount (now cells) ≤ 1024 ⌝ }
-    ensures { λ r. ⌜ ((vs : List ℤ) → r ≡ unlikeLangs (now (cells .entry)) vs (has (now (a .entry)))) ⌝ }
-{
-    let s = with_language(cells, a);
-    let words = s.words;
-    langs_differ(cells, &words, &words)
 }
 
 // The nodes that have a language.
@@ -293,23 +440,136 @@ pub fn languages(cells: &[u16]) -> NodeSet
     with_language(cells, &words)
 }
 
+// Node y has a language, and it is the first's, which is lang where the first is known to have one.
+fn same_language(known: bool, lang: u16, cells: &[u16], y: NodeNo) -> bool
+    ensures { λ r. ⌜ r ≡ (known && (eqb (kindAt (now (cells .entry)) (y .0)) 4 && eqb lang (langAt (now (cells .entry)) (y .0)))) ⌝ }
+{
+    let w = wide(y.0);
+    known & (has_language(cells, w) & (lang == node_lang(cells, w)))
+}
+
+// The first two numbers in both sets that have the same language. The second set is that of the nodes that have one, since
+// others never clash; or any other. The inner loop starts after the outer.
+pub fn first_clash(cells: &[u16], a: &[u64], b: &[u64]) -> FoundPair
+    requires { ⌜ nodeCount (now cells) ≤ 1024 ⌝ }
+    ensures { λ r. ⌜ ((vs : List ℤ) → pairFound r ≡ firstPair (among (λ w. has (now (a .entry)) w && has (now (b .entry)) w) (λ w. has (now (a .entry)) w && has (now (b .entry)) w) (clash (termAt (now (cells .entry)) vs))) (nodeCount (now (cells .entry)))) ⌝ }
+{
+    let n = node_count(cells);
+    let mut answer = FoundPair::NoPair;
+    let mut ends = [0u16; 1024];
+    let count = gather(&mut ends, a, b, n);
+    let mut i = 0;
+    'search: while i < count {
+        let first = NodeNo(ends[i]);
+        let x = wide(first.0);
+        let known = has_language(cells, x);
+        let lang = node_lang(cells, x);
+        let mut k = i + 1;
+        while k < count {
+            let second = NodeNo(ends[k]);
+            if same_language(known, lang, cells, second) {
+                answer = FoundPair::Pair(first, second);
+                break 'search;
+            }
+            k += 1;
+        }
+        i += 1;
+    }
+    answer
+}
+
+// No two numbers in both sets have the same language; two have.
+pub fn onelang_holds(cells: &[u16], a: &[u64], b: &[u64]) -> bool
+    requires { ⌜ nodeCount (now cells) ≤ 1024 ⌝ }
+    ensures { λ r. ⌜ ((vs : List ℤ) → r ≡ unlikeLangs (now (cells .entry)) vs (λ w. has (now (a .entry)) w && has (now (b .entry)) w)) ⌝ }
+{
+    no_pair(first_clash(cells, a, b))
+}
+
+pub fn onelang_fails(cells: &[u16], a: &[u64], b: &[u64]) -> bool
+    requires { ⌜ nodeCount (now cells) ≤ 1024 ⌝ }
+    ensures { λ r. ⌜ ((vs : List ℤ) → r ≡ somePair (nodeCount (now (cells .entry))) (λ w. has (now (a .entry)) w && has (now (b .entry)) w) (λ w. has (now (a .entry)) w && has (now (b .entry)) w) (clash (termAt (now (cells .entry)) vs))) ⌝ }
+{
+    some_pair(first_clash(cells, a, b))
+}
+
+// x where it is below n, as what a search found.
+fn found_below(x: usize, n: usize) -> Found
+    requires { ⌜ n ≤ 1024 ⌝ }
+    ensures { λ r. ⌜ nodeFound r ≡ cond (ltb x n) (Option.some x) Option.none ⌝ }
+{
+    if x < n {
+        return Found::Node(node(x));
+    }
+    Found::NoNode
+}
+
+// The first number of a below n that is not in b.
+pub fn first_outside(a: &[u64], b: &[u64], n: usize) -> Found
+    requires { ⌜ n ≤ 1024 ⌝ }
+    ensures { λ r. ⌜ nodeFound r ≡ first (λ x. has (now (a .entry)) x && not (has (now (b .entry)) x)) n ⌝ }
+{
+    found_below(next_outside(a, b, 0, n), n)
+}
+
+// The first number below n that is in both sets.
+pub fn first_shared(a: &[u64], b: &[u64], n: usize) -> Found
+    requires { ⌜ n ≤ 1024 ⌝ }
+    ensures { λ r. ⌜ nodeFound r ≡ first (λ x. has (now (a .entry)) x && has (now (b .entry)) x) n ⌝ }
+{
+    found_below(next_shared(a, b, 0, n), n)
+}
+
+// The first number below n that is in exactly one of two sets, by the set that lacks it.
+pub fn first_in_one(a: &[u64], b: &[u64], n: usize) -> FoundSide
+    requires { ⌜ n ≤ 1024 ⌝ }
+    ensures { λ r. ⌜ sideFound r ≡ firstInOne n (has (now (a .entry))) (has (now (b .entry))) ⌝ }
+{
+    let x = next_outside(a, b, 0, n);
+    let y = next_outside(b, a, 0, n);
+    if x < y {
+        return FoundSide::SecondLacks(node(x));
+    }
+    if y < x {
+        return FoundSide::FirstLacks(node(y));
+    }
+    FoundSide::NoSide
+}
+
 // Each number of a below n is in b.
 pub fn subset_holds(a: &[u64], b: &[u64], n: usize) -> bool
+    requires { ⌜ n ≤ 1024 ⌝ }
     ensures { λ r. ⌜ r ≡ subset n (has (now (a .entry))) (has (now (b .entry))) ⌝ }
 {
-    next_outside(a, b, 0, n) == n
+    no_node(first_outside(a, b, n))
 }
 
-// The two sets have the same numbers below n.
+// The two sets have the same numbers below n; they have not.
 pub fn equal_holds(a: &[u64], b: &[u64], n: usize) -> bool
+    requires { ⌜ n ≤ 1024 ⌝ }
     ensures { λ r. ⌜ r ≡ (subset n (has (now (a .entry))) (has (now (b .entry))) && subset n (has (now (b .entry))) (has (now (a .entry)))) ⌝ }
 {
-    subset_holds(a, b, n) & subset_holds(b, a, n)
+    no_side(first_in_one(a, b, n))
 }
 
-// No number below n is in both sets.
+pub fn equal_fails(a: &[u64], b: &[u64], n: usize) -> bool
+    requires { ⌜ n ≤ 1024 ⌝ }
+    ensures { λ r. ⌜ r ≡ someInOne n (has (now (a .entry))) (has (now (b .entry))) ⌝ }
+{
+    some_side(first_in_one(a, b, n))
+}
+
+// No number below n is in both sets; some is.
 pub fn apart_holds(a: &[u64], b: &[u64], n: usize) -> bool
+    requires { ⌜ n ≤ 1024 ⌝ }
     ensures { λ r. ⌜ r ≡ noneShared n (has (now (a .entry))) (has (now (b .entry))) ⌝ }
 {
-    next_shared(a, b, 0, n) == n
+    no_node(first_shared(a, b, n))
+}
+
+pub fn apart_fails(a: &[u64], b: &[u64], n: usize) -> bool
+    requires { ⌜ n ≤ 1024 ⌝ }
+    ensures { λ r. ⌜ r ≡ someShared n (has (now (a .entry))) (has (now (b .entry))) ⌝ }
+{
+    some_node(first_shared(a, b, n))
 }

@@ -8,6 +8,7 @@
 //   lang_holds     `onelang`
 use conditions::apart_holds;
 use conditions::equal_holds;
+use conditions::languages;
 use conditions::less_holds;
 use conditions::lesseq_holds;
 use conditions::onelang_holds;
@@ -122,5 +123,7 @@ pub fn lang_holds(cells: &[u16], index: &[u16], values: &[i64], e: usize, v: usi
 {
     let set = ends_of(cells, index, End::Path(wide(form_first(cells, e))), v);
     let words = set.words;
-    onelang_holds(cells, &words)
+    let langs = languages(cells);
+    let tagged = langs.words;
+    onelang_holds(cells, &words, &tagged)
 }

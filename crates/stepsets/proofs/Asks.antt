@@ -6,17 +6,16 @@ use mathlib.Core.Path.{_≡_, refl, sym, ap, ap₂, _∙_}
 use native.Mathlib.Omega.{arith}
 use lib.Dec.{eqb, ltb, leb}
 use lib.IntN.{ℤ}
-use borrow.Author.Tests.{leb-true, lt-ltb}
+use borrow.Author.Tests.{leb-true}
 use Rattle.base.specs.Bounded.{_⇒_, every}
 use Rattle.base.proofs.Bools.{and-left, and-right}
 use Rattle.base.proofs.Bounded.{every-ext, size-ext}
 use Rattle.model.specs.Shapes.{atMost, unbounded, within, subset, noneShared, allPairs}
 use Rattle.nodeset.specs.Words.{has, wordsOf}
-use Rattle.nodeset.proofs.Sets.{has-of}
 use Rattle.tables.specs.Layout.{nodeCount, kindAt, formCodeAt, noNumber}
 use Rattle.tables.specs.Decode.{upperOf}
 use Rattle.conditions.specs.Pairs.{unlikeLangs}
-use Rattle.conditions.proofs.Langs.{langs-ext, langs-unlike}
+use Rattle.conditions.proofs.Langs.{unlike-tagged, has-tagged}
 use Rattle.stepsets.specs.Asks.{nodesOf, orNot, asked, askOk}
 use Rattle.stepsets.proofs.Nodes.{nodes-ext}
 use Rattle.stepsets.specs.declared.Ask.{Ask}
@@ -56,7 +55,7 @@ module _ (cs : List ℕ) (vs : List ℤ) (few : nodeCount cs ≤ 1024) {a a′ b
   asked-ext Apart = apart-ext (nodeCount cs) ea′ eb′
   asked-ext Less = pairs-ext (nodeCount cs) ea′ eb′ _
   asked-ext LessEq = pairs-ext (nodeCount cs) ea′ eb′ _
-  asked-ext OneLang = langs-ext cs (λ w. a w && b w) (λ w. a′ w && b′ w) both′
+  asked-ext OneLang = pairs-ext (nodeCount cs) both′ both′ _
 
 -- of each node, its own two sets
 pub where-ext : (cs : List ℕ) (vs : List ℤ) → nodeCount cs ≤ 1024 → (ask : Ask) (breaks : Bool) (a a′ b b′ : ℕ → ℕ → Bool) → ((v : ℕ) → v < nodeCount cs → (w : ℕ) → w < 1024 → a v w ≡ a′ v w) → ((v : ℕ) → v < nodeCount cs → (w : ℕ) → w < 1024 → b v w ≡ b′ v w)
@@ -67,8 +66,7 @@ where-ext cs vs few ask breaks a a′ b b′ ea eb = nodes-ext (λ v. orNot brea
 pub where-langs : (cs : List ℕ) (vs : List ℤ) → nodeCount cs ≤ 1024 → (breaks : Bool) (a : ℕ → ℕ → Bool) {ws : List ℕ} → ws ≡ wordsOf (λ m. ltb m (nodeCount cs) && eqb (kindAt cs m) 4) 16
     → nodesOf (λ v. orNot breaks (asked cs vs OneLang (a v) (has ws) v)) (nodeCount cs) ≡ nodesOf (λ v. orNot breaks (unlikeLangs cs vs (a v))) (nodeCount cs)
 unfolding asked
-where-langs cs vs few breaks a {ws} e = nodes-ext _ _ (nodeCount cs) (λ v _. ap (orNot breaks) (langs-unlike cs vs (a v) (λ x. a v x && has ws x) (λ x l.
-    ap (λ (t : Bool). a v x && t) (has-of (λ m. ltb m (nodeCount cs) && eqb (kindAt cs m) 4) 16 e x (omega arith) ∙ ap (λ (t : Bool). t && eqb (kindAt cs x) 4) (lt-ltb x (nodeCount cs) l)))))
+where-langs cs vs few breaks a {ws} e = nodes-ext _ _ (nodeCount cs) (λ v _. ap (orNot breaks) (unlike-tagged cs vs (a v) (λ x. a v x && has ws x) (has-tagged cs few e (a v))))
 
 -- ---- LO and HI as the code tests them
 pub within-code : (lo hi k : ℕ) → (leb lo k && (leb k hi || eqb hi noNumber)) ≡ within lo (upperOf hi) k

@@ -10,7 +10,7 @@ use Rattle.nodeset.specs.Words.{wordsOf}
 use Rattle.model.specs.Shapes.{conforms, within, subset, noneShared, allPairs, less, lessEq}
 use Rattle.tables.specs.Layout.{nodeCount, formCodeAt}
 use Rattle.tables.specs.Decode.{graphAt, termAt, shapeAt, upperOf}
-use Rattle.conditions.specs.Pairs.{langsDiffer}
+use Rattle.conditions.specs.Pairs.{unlikeLangs}
 use Rattle.stepsets.specs.declared.Ask.{Ask}
 use Rattle.stepsets.specs.declared.Ask.the-variants.{Is, Test, Count, Every, Equal, Apart, Less, LessEq, OneLang}
 
@@ -32,7 +32,7 @@ asked cs vs Equal a b v = subset (nodeCount cs) a b && subset (nodeCount cs) b a
 asked cs vs Apart a b v = noneShared (nodeCount cs) a b
 asked cs vs Less a b v = allPairs (nodeCount cs) a b (λ x y. less (termAt cs vs x) (termAt cs vs y))
 asked cs vs LessEq a b v = allPairs (nodeCount cs) a b (λ x y. lessEq (termAt cs vs x) (termAt cs vs y))
-asked cs vs OneLang a b v = langsDiffer cs (λ w. a w && b w)
+asked cs vs OneLang a b v = unlikeLangs cs vs (λ w. a w && b w)
 
 -- a test names a form entry that is one
 unfoldable pub askOk : List ℕ → Ask → Bool

@@ -14,10 +14,10 @@
 use conditions::apart_holds;
 use conditions::equal_holds;
 use conditions::insert_if;
-use conditions::langs_differ;
 use conditions::languages;
 use conditions::less_holds;
 use conditions::lesseq_holds;
+use conditions::onelang_holds;
 use conditions::subset_holds;
 use conditions::test_holds;
 use model::LinkNo;
@@ -104,7 +104,7 @@ fn ask_holds(ask: Ask, cells: &[u16], values: &[i64], a: &[u64], b: &[u64], v: u
         Ask::Apart => apart_holds(a, b, node_count(cells)),
         Ask::Less => less_holds(cells, values, a, b),
         Ask::LessEq => lesseq_holds(cells, values, a, b),
-        Ask::OneLang => langs_differ(cells, a, b),
+        Ask::OneLang => onelang_holds(cells, a, b),
     }
 }
 

@@ -1,18 +1,20 @@
--- `equal_holds` meets its contract: each set is in the other.
-use mathlib.Core.Path.{ap₂}
-use mathlib.Core.Bool.{Bool, _&&_}
+-- `equal_holds` meets its contract: nothing is in exactly one.
+use mathlib.Core.Path.{ap, _∙_}
+use Rattle.nodeset.specs.Words.{has}
+use Rattle.conditions.specs.Searches.{nothing}
+use Rattle.conditions.proofs.Searches.{one-keeps}
 use borrow.Author.Needs.{needs}
 use Rattle.conditions.proofs.equal_holds.Statement.{statement}
 use Rattle.conditions.proofs.equal_holds.Tie as tie
 
-subset-holds-requires : tie.Need-subset-holds-requires
-subset-holds-requires c κs = search needs
+first-in-one-requires : tie.Need-first-in-one-requires
+first-in-one-requires c κs = search needs
 
-subset-holds-requires-2 : tie.Need-subset-holds-requires-2
-subset-holds-requires-2 c κs = search needs
+no-side-requires : tie.Need-no-side-requires
+no-side-requires c κs = search needs
 
 returns : tie.Need-returns
-returns c = ap₂ (λ (s t : Bool). s && t) (c .before .subset-holds .ensures) (c .subset-holds2 .ensures)
+returns c = let a = c .before .before .before .before .args in c .no-side .ensures ∙ ap nothing (c .before .first-in-one .ensures) ∙ one-keeps (a .n) (has (a .a .now)) (has (a .b .now))
 
 pub equal-holds-spec : {M : Type 1} → statement M
-equal-holds-spec = tie.close (tie.spec subset-holds-requires subset-holds-requires-2 returns)
+equal-holds-spec = tie.close (tie.spec first-in-one-requires no-side-requires returns)

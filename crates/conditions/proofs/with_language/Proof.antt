@@ -45,7 +45,7 @@ next-member-requires-2 : tie.Need-next-member-requires-2 Inv-loop μ-loop
 next-member-requires-2 c κs = search needs
 
 loop-less : tie.Need-loop-less Inv-loop μ-loop
-loop-less c = let a = c .before .before .before .before .before .before .before .before .before .before .before .args in omega (arith, next-after (has (a .a .now)) {x = c .before .before .before .before .before .before .loop .x} (omega (arith, c .before .before .before .before .before .loop-test)) (c .next-member2 .ensures), c .before .before .before .before .before .loop-test)
+loop-less c = let a = c .before .before .before .before .before .before .before .before .before .before .before .args in omega (arith, next-after (has (a .a .now)) {x = c .before .before .before .before .before .before .loop .v} (omega (arith, c .before .before .before .before .before .loop-test)) (c .next-member2 .ensures), c .before .before .before .before .before .loop-test)
 
 loop-again : tie.Need-loop-again Inv-loop μ-loop
 loop-again c =

@@ -68,8 +68,8 @@ lesseq-holds-requires c κs = search needs
 enum-told-6 : tie.Need-enum-told-6
 enum-told-6 c = search needs
 
-langs-differ-requires : tie.Need-langs-differ-requires
-langs-differ-requires c κs = search needs
+onelang-holds-requires : tie.Need-onelang-holds-requires
+onelang-holds-requires c κs = search needs
 
 returns : tie.Need-returns
 unfolding asked
@@ -105,7 +105,7 @@ returns-8 c = rw (c .before .enum-told5 .given .1) (c .lesseq-holds .ensures)
 
 returns-9 : tie.Need-returns-9
 unfolding asked
-returns-9 c = rw (c .before .enum-told6 .given .1) (c .langs-differ .ensures)
+returns-9 c = rw (c .before .enum-told6 .given .1) (c .onelang-holds .ensures (now (c .before .before .before .before .before .before .args .values)))
 
 pub ask-holds-spec : {M : Type 1} → statement M
 ask-holds-spec =
@@ -132,7 +132,7 @@ ask-holds-spec =
     enum-told-5
     lesseq-holds-requires
     enum-told-6
-    langs-differ-requires
+    onelang-holds-requires
     returns
     returns-2
     returns-3
