@@ -313,14 +313,15 @@ fn target_step(plan: &mut [u16], cells: &[u16], r: usize, n: usize)
 }
 
 // The two steps of rule r, and its step's number.
-fn rule_steps(plan: &mut [u16], cells: &[u16], breaks: &[u16], r: usize, n: usize)
+fn rule_steps(plan: &mut [u16], cells: &[u16], breaks: &[u16], r: u16, n: usize)
     requires { ⌜ (planCount ≤ length (now plan)) × (r < maxRules) × (n + 2 ≤ maxSteps) ⌝ }
     ensures { λ _. ⌜ now (plan .exit) ≡ ruleStored (now (cells .entry)) (now (plan .entry)) r n (getD (now (breaks .entry)) (rootAt (now (cells .entry)) (ruleShapeAt (now (cells .entry)) r)) 0) ⌝ }
 {
-    let b = cell(breaks, root(cells, rule_shape(cells, r)));
-    target_step(plan, cells, r, n);
+    let k = wide(r);
+    let b = cell(breaks, root(cells, rule_shape(cells, k)));
+    target_step(plan, cells, k, n);
     put_step(plan, n + 1, steps::BOTH, narrow(n), b, 0, 0);
-    plan[RULE_STEPS + r] = narrow(n + 1);
+    plan[RULE_STEPS + k] = narrow(n + 1);
 }
 
 // The steps of all rules, from step `first` on.
@@ -331,7 +332,7 @@ fn fill_rules(plan: &mut [u16], cells: &[u16], breaks: &[u16], first: usize) -> 
     let rules = rule_count(cells);
     let mut n = first;
     for r in 0..rules {
-        rule_steps(plan, cells, breaks, r, n);
+        rule_steps(plan, cells, breaks, narrow(r), n);
         n += 2;
     }
     n

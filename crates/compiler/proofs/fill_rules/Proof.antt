@@ -8,6 +8,7 @@ use Rattle.base.specs.Lists.{values, valuesFrom}
 use Rattle.tables.specs.Layout.{ruleCount, rootAt, ruleShapeAt}
 use Rattle.plan.specs.Layout.{laid}
 use Rattle.translation.specs.Compile.{stepsTo, ruleStep}
+use Rattle.compiler.specs.Stores.{ruleStored}
 use Rattle.compiler.proofs.Loops.{rule-next, rule-more}
 use Rattle.translation.proofs.WellMade.{steps-few}
 use borrow.Author.Needs.{needs}
@@ -27,11 +28,14 @@ loop-holds : tie.Need-loop-holds Inv-loop μ-loop
 unfolding stepsTo valuesFrom
 loop-holds c = (search needs, c .rule-count .ensures, refl, c .before .before .before .before .pre .1, λ t e. e)
 
+narrow-requires : tie.Need-narrow-requires Inv-loop μ-loop
+narrow-requires c κs = omega (arith, c .before .before .before .before .before .before .before .pre .0 .rules)
+
 rule-steps-requires : tie.Need-rule-steps-requires Inv-loop μ-loop
-rule-steps-requires c κs = (omega (arith, c .before .before .before .before .before .before .before .pre .0 .plan), omega (arith, c .before .before .before .before .before .before .before .pre .0 .rules), omega (arith, c .before .before .before .before .before .before .before .pre .0 .rules, c .before .before .before .before .before .before .before .pre .0 .forms, c .before .before .loop .inv .3, steps-few (now (c .before .before .before .before .before .before .before .args .cells)) (c .before .before .loop .r)))
+rule-steps-requires c κs = (omega (arith, c .before .before .before .before .before .before .before .before .pre .0 .plan), omega (arith, c .before .before .before .before .before .before .before .before .pre .0 .rules, c .narrow .ensures), omega (arith, c .before .before .before .before .before .before .before .before .pre .0 .rules, c .before .before .before .before .before .before .before .before .pre .0 .forms, c .before .before .before .loop .inv .3, steps-few (now (c .before .before .before .before .before .before .before .before .args .cells)) (c .before .before .before .loop .r)))
 
 add-n : tie.Need-add-n Inv-loop μ-loop
-add-n c = omega (arith, c .before .before .before .before .before .before .before .before .before .before .pre .0 .rules, c .before .before .before .before .before .before .before .before .before .before .pre .0 .forms, c .before .before .before .before .before .loop .inv .3, steps-few (now (c .before .before .before .before .before .before .before .before .before .before .args .cells)) (c .before .before .before .before .before .loop .r))
+add-n c = omega (arith, c .before .before .before .before .before .before .before .before .before .before .before .pre .0 .rules, c .before .before .before .before .before .before .before .before .before .before .before .pre .0 .forms, c .before .before .before .before .before .before .loop .inv .3, steps-few (now (c .before .before .before .before .before .before .before .before .before .before .before .args .cells)) (c .before .before .before .before .before .before .loop .r))
 
 add-r : tie.Need-add-r Inv-loop μ-loop
 add-r c = search needs
@@ -40,7 +44,7 @@ loop-less : tie.Need-loop-less Inv-loop μ-loop
 loop-less c = search needs
 
 loop-again : tie.Need-loop-again Inv-loop μ-loop
-loop-again c = let a = c .before .before .before .before .before .before .before .before .before .before .args in let l = c .before .before .before .before .before .loop in (omega arith, l .inv .1, c .before .before .rule-steps .kept .0 ∙ l .inv .2, rule-next (now (a .cells)) (l .r) (l .n) (l .inv .3), λ t e. rule-more (now (a .cells)) t (l .plan) (c .before .before .rule-steps .last .0) (l .r) (l .n) (getD (now (a .breaks)) (rootAt (now (a .cells)) (ruleShapeAt (now (a .cells)) (l .r))) 0) (omega (arith, c .before .before .before .before .before .before .before .before .before .before .pre .0 .rules)) (omega (arith, c .before .before .before .before .before .before .before .before .before .before .pre .0 .rules, c .before .before .before .before .before .before .before .before .before .before .pre .0 .forms, c .before .before .before .before .before .loop .inv .3, steps-few (now (c .before .before .before .before .before .before .before .before .before .before .args .cells)) (c .before .before .before .before .before .loop .r))) (l .inv .3) (c .before .before .before .before .before .before .before .before .before .before .pre .2 (rootAt (now (a .cells)) (ruleShapeAt (now (a .cells)) (l .r)))) (c .before .before .rule-steps .ensures) (l .inv .4 t e))
+loop-again c = let a = c .before .before .before .before .before .before .before .before .before .before .before .args in let l = c .before .before .before .before .before .before .loop in (omega arith, l .inv .1, c .before .before .rule-steps .kept .0 ∙ l .inv .2, rule-next (now (a .cells)) (l .r) (l .n) (l .inv .3), λ t e. rule-more (now (a .cells)) t (l .plan) (c .before .before .rule-steps .last .0) (l .r) (l .n) (getD (now (a .breaks)) (rootAt (now (a .cells)) (ruleShapeAt (now (a .cells)) (l .r))) 0) (omega (arith, c .before .before .before .before .before .before .before .before .before .before .before .pre .0 .rules)) (omega (arith, c .before .before .before .before .before .before .before .before .before .before .before .pre .0 .rules, c .before .before .before .before .before .before .before .before .before .before .before .pre .0 .forms, c .before .before .before .before .before .before .loop .inv .3, steps-few (now (c .before .before .before .before .before .before .before .before .before .before .before .args .cells)) (c .before .before .before .before .before .before .loop .r))) (l .inv .3) (c .before .before .before .before .before .before .before .before .before .before .before .pre .2 (rootAt (now (a .cells)) (ruleShapeAt (now (a .cells)) (l .r)))) (c .before .before .rule-steps .ensures ∙ ap (λ (i : ℕ). ruleStored (now (a .cells)) (l .plan) i (l .n) (getD (now (a .breaks)) (rootAt (now (a .cells)) (ruleShapeAt (now (a .cells)) i)) 0)) (c .before .before .before .narrow .ensures)) (l .inv .4 t e))
 
 same-length : tie.Need-same-length Inv-loop μ-loop
 same-length c = search needs
@@ -56,6 +60,7 @@ fill-rules-spec =
     μ-loop
     rule-count-requires
     loop-holds
+    narrow-requires
     rule-steps-requires
     add-n
     add-r
