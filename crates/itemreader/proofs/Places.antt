@@ -16,7 +16,7 @@ use Rattle.model.specs.Limits.{maxNodes, maxLinks, maxTypes, maxLangs, nameByte
 use Rattle.encoding.specs.Encode.{poolBase}
 use Rattle.model.specs.declared.Counts.{Counts}
 use Rattle.itemreader.specs.Held.{countOf, Limits, namePlaces}
-use Rattle.itemreader.specs.declared.Counts.{Counts}
+use Rattle.model.specs.declared.Counts.{Counts}
 
 -- where each pool begins, and where the last ends
 abbrev starts : List ℕ

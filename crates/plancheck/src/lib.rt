@@ -11,6 +11,7 @@ use crate::reads::step_fourth;
 use crate::reads::step_second;
 use crate::reads::step_third;
 use plan::steps;
+use tablecheck::end_ok;
 use tablecheck::well_formed;
 use tables::codes;
 use tables::layout::NO_NUMBER;
@@ -23,7 +24,6 @@ use tables::reads::rule_count;
 use tables::reads::wide;
 ghost use mathlib.Core.Path.{_≡_};
 ghost use Rattle.base.specs.Bounded.{every};
-ghost use Rattle.tables.specs.WellFormed.{endOk};
 ghost use Rattle.plan.specs.Steps.{Step};
 ghost use Rattle.plan.specs.Layout.{stepAt};
 ghost use Rattle.plan.specs.WellFormed.{testOk, closedOk, stepOk, planWellFormed};
@@ -44,12 +44,6 @@ fn closed_ok(cells: &[u16], e: usize) -> bool
 {
     let code = form_code(cells, e);
     (e < form_count(cells)) & (code == codes::FORM_CLOSED)
-}
-
-fn end_ok(cells: &[u16], p: usize) -> bool
-    ensures { λ r. ⌜ r ≡ endOk (now (cells .entry)) p ⌝ }
-{
-    (p < path_count(cells)) | (p == wide(NO_NUMBER))
 }
 
 // A Count step: a path entry, a step before step k, LO and HI. LO may be one past the limit.

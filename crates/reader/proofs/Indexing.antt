@@ -23,7 +23,7 @@ use Rattle.stores.proofs.Prefixes.{Prefix}
 use Rattle.stores.proofs.Lookups.{pool-held}
 use Rattle.model.specs.declared.Counts.{Counts}
 use Rattle.itemreader.specs.Held.{countOf, Limits, Indexed, namePlaces, nameIndexCount}
-use Rattle.itemreader.specs.declared.Counts.{Counts}
+use Rattle.model.specs.declared.Counts.{Counts}
 use Rattle.itemreader.proofs.Places.{pool-inside, pools-apart, count-within}
 use Rattle.linereader.specs.Storing.{counted}
 use Rattle.reader.specs.Answers.{noCounts}

@@ -35,7 +35,7 @@ use Rattle.stores.proofs.Lookups.{find-name, resource-held}
 use Rattle.stores.proofs.Books.{lines-names, lines-cells, lines-values, cells-cleared, values-cleared}
 use Rattle.model.specs.declared.Counts.{Counts}
 use Rattle.itemreader.specs.Held.{countOf, Limits, Held, Kinds, Indexed, nameIndexCount}
-use Rattle.itemreader.specs.declared.Counts.{Counts}
+use Rattle.model.specs.declared.Counts.{Counts}
 use Rattle.linereader.specs.declared.LineAnswer.{LineAnswer}
 use Rattle.linereader.specs.Storing.{counted, Fits, Done}
 use Rattle.reader.specs.declared.LinesAnswer.{LinesAnswer}

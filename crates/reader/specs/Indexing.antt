@@ -11,7 +11,7 @@ use Rattle.model.specs.Limits.{nameBytes}
 use Rattle.encoding.specs.Encode.{poolBase}
 use Rattle.model.specs.declared.Counts.{Counts}
 use Rattle.itemreader.specs.Held.{countOf, namePlaces}
-use Rattle.itemreader.specs.declared.Counts.{Counts}
+use Rattle.model.specs.declared.Counts.{Counts}
 
 -- ns: the names; n and m: the counts before and after
 module _ (ns : List ℕ) (n m : Counts) where

@@ -145,10 +145,11 @@ fn shape_before(cells: &[u16], s: u16, e: usize) -> bool
     below(s, reads::shape_count(cells)) & (reads::root(cells, reads::wide(s)) < e)
 }
 
-fn end_ok(cells: &[u16], p: u16) -> bool
+// The operand END of a form or of a step: a path entry that is there, or `id`.
+pub fn end_ok(cells: &[u16], p: usize) -> bool
     ensures { λ r. ⌜ r ≡ endOk (now (cells .entry)) p ⌝ }
 {
-    below(p, reads::path_count(cells)) | (p == NO_NUMBER)
+    (p < reads::path_count(cells)) | (p == reads::wide(NO_NUMBER))
 }
 
 // The operands of `count`: a path entry, a form entry, LO and HI.
@@ -184,7 +185,7 @@ fn entry_ok(cells: &[u16], e: usize) -> bool
             reads::form_fourth(cells, e),
         ),
         codes::FORM_ALL => below(a, reads::path_count(cells)) & below(b, e),
-        codes::FORM_EQUAL | codes::FORM_APART => end_ok(cells, a)
+        codes::FORM_EQUAL | codes::FORM_APART => end_ok(cells, reads::wide(a))
             & below(b, reads::link_count(cells)),
         codes::FORM_CLOSED => items_ok(cells, reads::link_count(cells), a, b),
         codes::FORM_LESS | codes::FORM_LESSEQ => below(a, reads::path_count(cells))

@@ -1,6 +1,6 @@
 use mathlib.Core.Path.{sym, ap, _∙_}
 use Rattle.model.specs.Answers.{Answer, refusalNumber, refusalLine, valueOr}
-use Rattle.itemreader.specs.declared.Counts.{Counts}
+use Rattle.model.specs.declared.Counts.{Counts}
 use Rattle.reader.specs.Answers.{noCounts, answerOf}
 use borrow.Author.Needs.{needs}
 use Rattle.melivanoup.proofs.melivanoup_read.Statement.{statement}

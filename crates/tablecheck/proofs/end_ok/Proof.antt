@@ -6,12 +6,12 @@ use Rattle.tablecheck.proofs.end_ok.Tie as tie
 path-count-requires : tie.Need-path-count-requires
 path-count-requires c κs = search needs
 
-below-requires : tie.Need-below-requires
-below-requires c κs = search needs
+wide-requires : tie.Need-wide-requires
+wide-requires c κs = search needs
 
 returns : tie.Need-returns
 unfolding endOk
 returns c = cc
 
 pub end-ok-spec : {M : Type 1} → statement M
-end-ok-spec = tie.close (tie.spec path-count-requires below-requires returns)
+end-ok-spec = tie.close (tie.spec path-count-requires wide-requires returns)

@@ -4,7 +4,7 @@ use mathlib.Core.Bool.{_&&_}
 use lib.Dec.{ltb}
 use denote.Ref.{now}
 use Rattle.tables.specs.Entries.{entryOf}
-use Rattle.tables.specs.WellFormed.{entryOk, itemsOk}
+use Rattle.tables.specs.WellFormed.{entryOk, itemsOk, endOk}
 use Rattle.tablecheck.proofs.Codes.{next, case-is, case-in, case-past, entryBy, entry-by, entry-unknown}
 use borrow.Author.Needs.{needs}
 use Rattle.tablecheck.proofs.entry_ok.Statement.{statement}
@@ -78,6 +78,9 @@ below-requires-7 c κs = search needs
 
 below-requires-8 : tie.Need-below-requires-8
 below-requires-8 c κs = search needs
+
+wide-requires : tie.Need-wide-requires
+wide-requires c κs = search needs
 
 end-ok-requires : tie.Need-end-ok-requires
 end-ok-requires c κs = search needs
@@ -154,7 +157,7 @@ returns-13 c = case-in (entryBy (now (c .before .before .before .before .before 
 
 returns-14 : tie.Need-returns-14
 unfolding entryOf entryOk
-returns-14 c = case-in (entryBy (now (c .before .before .before .before .before .before .before .before .before .before .before .args .cells)) (c .before .before .before .before .before .before .before .before .before .before .before .args .e) (c .before .before .before .before .before .before .before .before .before .form-first .result) (c .before .before .before .before .before .before .before .before .form-second .result)) (c .before .before .before .before .before .before .before .form-code .result) (entry-by (now (c .before .before .before .before .before .before .before .before .before .before .before .args .cells)) (c .before .before .before .before .before .before .before .before .before .before .before .args .e) (c .before .before .before .before .before .before .before .before .before .form-first .result) (c .before .before .before .before .before .before .before .before .form-second .result) (c .before .before .before .before .before .before .before .form-code .result) (c .before .before .before .before .before .before .before .before .before .form-first .ensures) (c .before .before .before .before .before .before .before .before .form-second .ensures) (c .before .before .before .before .before .before .before .form-code .ensures)) 15 2 (next 14 (c .before .before .before .before .before .before .before .form-code .result) (next 13 (c .before .before .before .before .before .before .before .form-code .result) (c .before .before .before .before .if2 .left) (c .before .before .before .before .before .before .match .rest .0 .0 .0 .1)) (c .before .before .before .before .before .before .match .rest .0 .0 .1)) (c .before .before .before .if3 .taken) (ap₂ _&&_ (c .before .before .end-ok .ensures) (c .below9 .ensures ∙ ap (ltb _) (c .before .link-count2 .ensures)), (ap₂ _&&_ (c .before .before .end-ok .ensures) (c .below9 .ensures ∙ ap (ltb _) (c .before .link-count2 .ensures)), tt))
+returns-14 c = case-in (entryBy (now (c .before .before .before .before .before .before .before .before .before .before .before .before .args .cells)) (c .before .before .before .before .before .before .before .before .before .before .before .before .args .e) (c .before .before .before .before .before .before .before .before .before .before .form-first .result) (c .before .before .before .before .before .before .before .before .before .form-second .result)) (c .before .before .before .before .before .before .before .before .form-code .result) (entry-by (now (c .before .before .before .before .before .before .before .before .before .before .before .before .args .cells)) (c .before .before .before .before .before .before .before .before .before .before .before .before .args .e) (c .before .before .before .before .before .before .before .before .before .before .form-first .result) (c .before .before .before .before .before .before .before .before .before .form-second .result) (c .before .before .before .before .before .before .before .before .form-code .result) (c .before .before .before .before .before .before .before .before .before .before .form-first .ensures) (c .before .before .before .before .before .before .before .before .before .form-second .ensures) (c .before .before .before .before .before .before .before .before .form-code .ensures)) 15 2 (next 14 (c .before .before .before .before .before .before .before .before .form-code .result) (next 13 (c .before .before .before .before .before .before .before .before .form-code .result) (c .before .before .before .before .before .if2 .left) (c .before .before .before .before .before .before .before .match .rest .0 .0 .0 .1)) (c .before .before .before .before .before .before .before .match .rest .0 .0 .1)) (c .before .before .before .before .if3 .taken) (ap₂ _&&_ (c .before .before .end-ok .ensures ∙ ap (endOk _) (c .before .before .before .wide .ensures)) (c .below9 .ensures ∙ ap (ltb _) (c .before .link-count2 .ensures)), (ap₂ _&&_ (c .before .before .end-ok .ensures ∙ ap (endOk _) (c .before .before .before .wide .ensures)) (c .below9 .ensures ∙ ap (ltb _) (c .before .link-count2 .ensures)), tt))
 
 returns-15 : tie.Need-returns-15
 unfolding entryOf entryOk
@@ -191,6 +194,7 @@ entry-ok-spec =
     below-requires-6
     below-requires-7
     below-requires-8
+    wide-requires
     end-ok-requires
     link-count-requires-2
     below-requires-9
