@@ -133,7 +133,7 @@ const DEPENDED: [&str; 21] = [
     "pub const NAMES:", "pub const CELLS:", "pub const VALUES:", "pub const PLAN_CELLS:", "pub const WORK_WORDS:",
     "pub const MAX_NODES:", "pub const LIST_PLACES:", "pub const LENGTH_PLACES:", "pub const PAGE_BYTES:",
     "pub const MAX_BYTES:", "pub const SHAPE_NAMES:", "pub const RULE_SHAPES:", "nodeCount cs =", "shapeCount cs =",
-    "factCount cs =", "ruleCount cs =", "stepCount ps =", "padded w =", "runNumber Option.none =", "verdictConforms (given b) =",
+    "factCount cs =", "ruleCount cs =", "stepCount ps =", "padded w =", "  refusalNumber (value a) =", "oneIf b =",
     "        Refusal::",
 ];
 
