@@ -1,6 +1,6 @@
 // Refusal 9 on plans: whether a lent plan is well formed, for the tables that it is to be run on. Typed reads of a plan (reads).
-// Operations: plan_well_formed; it takes any content of any length, and looks at 512 steps and 65,535 rules at the most;
-// both_well_formed, with the tables as well.
+// Operations: plan_well_formed; it takes any content of any length, and looks at 512 steps and 65,535 rules at the most.
+// For the crates above: both_well_formed, the plan and the tables that it is for.
 pub mod reads;
 
 use crate::reads::rule_step;

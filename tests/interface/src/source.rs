@@ -52,8 +52,8 @@ pub fn read(texts: &Sources, faults: &mut Vec<String>) -> Source {
 const DEFINED: [(&str, &str, &str); 4] = [
     ("NAME", "nameBytes = ", ""),
     ("PLAN_STEPS", "stepCount ps = getD ps ", " 0"),
-    ("CONFORMS", "verdictConforms (given b) = cond b ", " 0"),
-    ("NONE", "runNumber Option.none = ", ""),
+    ("CONFORMS", "oneIf b = cond b ", " 0"),
+    ("NONE", "  refusalNumber (value a) = ", ""),
 ];
 
 /// `pub const NODE_KINDS: usize = 10;`, `pub const NODE_TYPES: usize = NODE_KINDS + MAX_NODES;`

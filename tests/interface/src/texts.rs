@@ -25,9 +25,9 @@ pub struct Sources {
 }
 
 const EXPORTED: &str = "crates/melivanoup/src/lib.rt";
-const DEFINITIONS: [&str; 4] = [
+const DEFINITIONS: [&str; 5] = [
     "crates/tables/specs/Layout.antt", "crates/plan/specs/Layout.antt", "crates/model/specs/Limits.antt",
-    "crates/melivanoup/specs/Numbers.antt",
+    "crates/model/specs/Answers.antt", "crates/melivanoup/specs/Numbers.antt",
 ];
 
 impl Sources {

@@ -136,7 +136,7 @@ const DEPENDED: [&str; 36] = [
     "pub const BREAK_BYTES:", "pub const MAX_BYTES:", "pub const MAX_NODES:", "pub const MAX_LINKS:", "pub const MAX_TYPES:",
     "pub const MAX_LANGS:", "pub const MAX_SHAPES:", "pub const MAX_RULES:", "pub const MAX_FACTS:", "pub const MAX_FORMS:",
     "pub const MAX_PATHS:", "pub const MAX_ITEMS:", "pub const MAX_NAME:", "pub const MAX_STEPS:", "nodeCount cs =", "shapeCount cs =",
-    "factCount cs =", "ruleCount cs =", "stepCount ps =", "nameBytes =", "runNumber Option.none =", "verdictConforms (given b) =",
+    "factCount cs =", "ruleCount cs =", "stepCount ps =", "nameBytes =", "  refusalNumber (value a) =", "oneIf b =",
     "        Refusal::",
 ];
 
