@@ -20,7 +20,7 @@ use plancheck::reads::step_node;
 use plancheck::reads::step_second;
 use plancheck::reads::step_second_link;
 use plancheck::reads::step_third;
-use stepsets::Ask;
+use stepsets::Condition;
 use stepsets::NO_END;
 use stepsets::Pick;
 use stepsets::both_set;
@@ -59,16 +59,16 @@ pub enum Ran {
     Refused(Refusal),
 }
 
-// What a step asks for, with its operands. The bool: it is the breaking one of two.
+// What a step asks for, with its operands.
 enum Kind {
     Whole,
     Empty,
-    Node(Ask, bool),
+    Node(Condition),
     Both(usize, usize),
     Either(usize, usize),
-    Path(Ask, usize, usize),
-    Ends(Ask, bool, usize, LinkNo),
-    Lang(bool, usize),
+    Path(Condition, usize, usize),
+    Ends(Condition, usize, LinkNo),
+    Lang(Condition, usize),
     Closed(usize),
     Facts(Pick),
 }
@@ -87,26 +87,26 @@ fn step_kind(plan: &[u16], k: usize) -> Kind
     match step_code(plan, k) {
         0 => Kind::Whole, // All
         1 => Kind::Empty, // None
-        2 => Kind::Node(Ask::Is(c), false), // Is
-        3 => Kind::Node(Ask::Is(c), true), // Isnot
-        4 => Kind::Node(Ask::Test(a), false), // Test
-        5 => Kind::Node(Ask::Test(a), true), // Untest
+        2 => Kind::Node(Condition::Is(c)), // Is
+        3 => Kind::Node(Condition::IsNot(c)), // Isnot
+        4 => Kind::Node(Condition::Test(a)), // Test
+        5 => Kind::Node(Condition::Untest(a)), // Untest
         6 => Kind::Both(a, b), // Both
         7 => Kind::Either(a, b), // Either
-        8 => Kind::Path(Ask::Count(lo, hi), a, b), // Count
-        9 => Kind::Path(Ask::Every, a, b), // Every
-        10 => Kind::Ends(Ask::Equal, false, a, l), // Equal
-        11 => Kind::Ends(Ask::Equal, true, a, l), // Unequal
-        12 => Kind::Ends(Ask::Apart, false, a, l), // Apart
-        13 => Kind::Ends(Ask::Apart, true, a, l), // Meet
+        8 => Kind::Path(Condition::Count(lo, hi), a, b), // Count
+        9 => Kind::Path(Condition::Every, a, b), // Every
+        10 => Kind::Ends(Condition::Equal, a, l), // Equal
+        11 => Kind::Ends(Condition::Unequal, a, l), // Unequal
+        12 => Kind::Ends(Condition::Apart, a, l), // Apart
+        13 => Kind::Ends(Condition::Meet, a, l), // Meet
         14 => Kind::Closed(a), // Closed
         15 => Kind::Facts(Pick::Open(a)), // Open
-        16 => Kind::Ends(Ask::Less, false, a, l), // Less
-        17 => Kind::Ends(Ask::Less, true, a, l), // Notless
-        18 => Kind::Ends(Ask::LessEq, false, a, l), // Lesseq
-        19 => Kind::Ends(Ask::LessEq, true, a, l), // Notlesseq
-        20 => Kind::Lang(false, a), // Onelang
-        21 => Kind::Lang(true, a), // Manylang
+        16 => Kind::Ends(Condition::Less, a, l), // Less
+        17 => Kind::Ends(Condition::NotLess, a, l), // Notless
+        18 => Kind::Ends(Condition::LessEq, a, l), // Lesseq
+        19 => Kind::Ends(Condition::NotLessEq, a, l), // Notlesseq
+        20 => Kind::Lang(Condition::OneLang, a), // Onelang
+        21 => Kind::Lang(Condition::ManyLang, a), // Manylang
         22 => Kind::Facts(Pick::From(p)), // From
         23 => Kind::Facts(Pick::Into(p)), // Into
         24 => Kind::Facts(Pick::Typed(c)), // Typed
@@ -137,14 +137,27 @@ fn step_set(
     match step_kind(plan, k) {
         Kind::Whole => NodeSet::whole(n),
         Kind::Empty => NodeSet::EMPTY,
-        Kind::Node(ask, b) => plain_set(ask, b, cells, values),
+        Kind::Node(condition) => plain_set(condition, cells, values),
         Kind::Both(i, j) => both_set(work, i, j, n),
         Kind::Either(i, j) => either_set(work, i, j, n),
-        Kind::Path(ask, p, j) => path_set(first, end, ask, false, cells, index, values, p, work, j),
-        Kind::Ends(ask, b, f, l) => {
-            ends_set(first, end, second, link, ask, b, cells, index, values, f, l)
+        Kind::Path(condition, p, j) => {
+            path_set(first, end, condition, cells, index, values, p, work, j)
+        },
+        Kind::Ends(condition, f, l) => {
+            ends_set(
+                first,
+                end,
+                second,
+                link,
+                condition,
+                cells,
+                index,
+                values,
+                f,
+                l,
+            )
         }
-        Kind::Lang(b, p) => lang_set(first, end, b, cells, index, values, p),
+        Kind::Lang(condition, p) => lang_set(first, end, condition, cells, index, values, p),
         Kind::Closed(e) => closed_set(cells, e),
         Kind::Facts(pick) => facts_set(pick, cells, index),
     }

@@ -23,7 +23,7 @@ use paths::End;
 use paths::INDEX_CELLS;
 use paths::index_table;
 use paths::pick;
-use stepsets::Ask;
+use stepsets::Condition;
 use stepsets::NO_END;
 use stepsets::ends_set;
 use stepsets::lang_set;
@@ -198,16 +198,16 @@ fn set_of_rows(
 {
     let p = wide(form_first(cells, e));
     let l = form_link(cells, e);
-    let count = Ask::Count(wide(form_third(cells, e)), wide(form_fourth(cells, e)));
+    let count = Condition::Count(wide(form_third(cells, e)), wide(form_fourth(cells, e)));
     let j = 2 * wide(form_second(cells, e));
     match form_code(cells, e) {
-        13 => path_set(f, x, count, false, cells, index, values, p, memo, j),
-        14 => path_set(f, x, Ask::Every, false, cells, index, values, p, memo, j),
-        15 => ends_set(f, x, s, y, Ask::Equal, false, cells, index, values, p, l),
-        16 => ends_set(f, x, s, y, Ask::Apart, false, cells, index, values, p, l),
-        18 => ends_set(f, x, s, y, Ask::Less, false, cells, index, values, p, l),
-        19 => ends_set(f, x, s, y, Ask::LessEq, false, cells, index, values, p, l),
-        _ => lang_set(f, x, false, cells, index, values, p),
+        13 => path_set(f, x, count, cells, index, values, p, memo, j),
+        14 => path_set(f, x, Condition::Every, cells, index, values, p, memo, j),
+        15 => ends_set(f, x, s, y, Condition::Equal, cells, index, values, p, l),
+        16 => ends_set(f, x, s, y, Condition::Apart, cells, index, values, p, l),
+        18 => ends_set(f, x, s, y, Condition::Less, cells, index, values, p, l),
+        19 => ends_set(f, x, s, y, Condition::LessEq, cells, index, values, p, l),
+        _ => lang_set(f, x, Condition::OneLang, cells, index, values, p),
     }
 }
 
