@@ -18,22 +18,21 @@ use Rattle.model.specs.Paths as model
 use Rattle.model.specs.Paths.{self, along, endsOf}
 use Rattle.model.specs.Shapes.{within, subset, from, objects, starts, conforms}
 use Rattle.tables.specs.Layout.{nodeCount, linkCount, pathCount, noNumber}
-use Rattle.tables.specs.Decode.{graphAt, termAt, pathAt, endAt, upperOf}
+use Rattle.tables.specs.Decode.{graphAt, pathAt, endAt, upperOf}
 use Rattle.tables.specs.WellFormed.{upperOk, endOk}
 use Rattle.tables.proofs.WellFormed.{sound}
 use Rattle.plan.specs.Steps.{Step}
 use Rattle.plan.specs.Layout.{stepAt}
 use Rattle.plan.specs.Sets.{inStep}
 use Rattle.plan.specs.WellFormed.{stepOk}
-use Rattle.plan.proofs.Complements.{not-equal, not-apart, not-pairs, not-less, not-lessEq, not-clash}
 use Rattle.plancheck.proofs.Codes.{test-codes}
 use Rattle.paths.specs.Facts.{Tables}
-use Rattle.conditions.specs.Pairs.{unlikeLangs}
-use Rattle.stepsets.specs.Asks.{nodesOf, orNot, asked, askOk}
+use Rattle.stepsets.specs.Conditions.{nodesOf, holdsOf, tagged, conditionOk}
 use Rattle.stepsets.specs.Picks.{picked}
-use Rattle.stepsets.specs.declared.Ask.{Ask}
-use Rattle.stepsets.specs.declared.Ask.the-variants.{Less, LessEq}
+use Rattle.stepsets.specs.declared.Condition.{Condition}
+use Rattle.stepsets.specs.declared.Condition.the-variants.{Less, NotLess, LessEq, NotLessEq}
 use Rattle.stepsets.specs.declared.Pick.the-variants.{Open}
+use Rattle.stepsets.proofs.Conditions.{one-tagged, many-tagged}
 use Rattle.stepsets.proofs.Nodes.{nodes-ext, nodes-all, nodes-never}
 use Rattle.stepsets.proofs.Rows.{ends-low}
 use Rattle.stepsets.proofs.Picks.{picked-from, picked-into, picked-typed, picked-open}
@@ -42,19 +41,19 @@ use Rattle.runner.specs.declared.Kind.the-variants.{Whole, Empty, Node, 
 use Rattle.runner.specs.Kinds.{kindOf}
 use Rattle.runner.specs.Steps.{stepFrom}
 use Rattle.runner.proofs.Steps.{two-low}
-use Rattle.runner.proofs.Tests.{test-meets, test-fails, opened-by, closed-by}
+use Rattle.runner.proofs.Tests.{test-meets, opened-by, closed-by}
 
 -- the words, as the calls promise them
 module _ (cs : List ℕ) (vs : List ℤ) (ws : List ℕ) where
   unfoldable pub kindSet : Kind → List ℕ
   kindSet Whole = wordsOf (λ v. ltb v (nodeCount cs)) 16
   kindSet Empty = replicate 16 0
-  kindSet (Node ask breaks) = nodesOf (λ v. orNot breaks (asked cs vs ask (λ w. false) (λ w. false) v)) (nodeCount cs)
+  kindSet (Node condition) = nodesOf (λ v. holdsOf cs vs condition (λ w. false) (λ w. false) v) (nodeCount cs)
   kindSet (Both i j) = nodesOf (λ v. has (drop (16 * i) ws) v && has (drop (16 * j) ws) v) (nodeCount cs)
   kindSet (Either i j) = nodesOf (λ v. has (drop (16 * i) ws) v || has (drop (16 * j) ws) v) (nodeCount cs)
-  kindSet (Path ask p j) = nodesOf (λ v. orNot false (asked cs vs ask (from (graphAt cs vs) (pathAt cs p) v) (has (drop (16 * j) ws)) v)) (nodeCount cs)
-  kindSet (Ends ask breaks f l) = nodesOf (λ v. orNot breaks (asked cs vs ask (starts (graphAt cs vs) (endAt cs f) v) (objects (graphAt cs vs) (l .0) v) v)) (nodeCount cs)
-  kindSet (Lang breaks p) = nodesOf (λ v. orNot breaks (unlikeLangs cs vs (from (graphAt cs vs) (pathAt cs p) v))) (nodeCount cs)
+  kindSet (Path condition p j) = nodesOf (λ v. holdsOf cs vs condition (from (graphAt cs vs) (pathAt cs p) v) (has (drop (16 * j) ws)) v) (nodeCount cs)
+  kindSet (Ends condition f l) = nodesOf (λ v. holdsOf cs vs condition (starts (graphAt cs vs) (endAt cs f) v) (objects (graphAt cs vs) (l .0) v) v) (nodeCount cs)
+  kindSet (Lang condition p) = nodesOf (λ v. holdsOf cs vs condition (from (graphAt cs vs) (pathAt cs p) v) (tagged cs) v) (nodeCount cs)
   kindSet (Closed e) = nodesOf (λ v. not (picked cs (Open e) v)) (nodeCount cs)
   kindSet (Facts pick) = nodesOf (picked cs pick) (nodeCount cs)
 
@@ -62,12 +61,12 @@ module _ (cs : List ℕ) (vs : List ℤ) (ws : List ℕ) where
 abbrev pub KindOk : List ℕ → Kind → Type 0
 KindOk cs Whole = Unit {0}
 KindOk cs Empty = Unit {0}
-KindOk cs (Node ask breaks) = askOk cs ask ≡ true
+KindOk cs (Node condition) = conditionOk cs condition ≡ true
 KindOk cs (Both i j) = (i < 65536) × (j < 65536)
 KindOk cs (Either i j) = (i < 65536) × (j < 65536)
-KindOk cs (Path ask p j) = (p < pathCount cs) × (j < 65536) × (askOk cs ask ≡ true)
-KindOk cs (Ends ask breaks f l) = (endOk cs f ≡ true) × (askOk cs ask ≡ true)
-KindOk cs (Lang breaks p) = p < pathCount cs
+KindOk cs (Path condition p j) = (p < pathCount cs) × (j < 65536) × (conditionOk cs condition ≡ true)
+KindOk cs (Ends condition f l) = (endOk cs f ≡ true) × (conditionOk cs condition ≡ true)
+KindOk cs (Lang condition p) = (p < pathCount cs) × (conditionOk cs condition ≡ true)
 KindOk cs (Closed e) = Unit {0}
 KindOk cs (Facts pick) = Unit {0}
 
@@ -85,7 +84,7 @@ module _ (cs : List ℕ) (k : ℕ) (low : k < maxSteps) where
   an-end p l w = ap (λ (x : Bool). x || eqb p noNumber) (and-left (ltb p (pathCount cs)) (ltb l (linkCount cs)) w)
 
   pub kind-ok : (s : Step) → stepOk cs k s ≡ true → KindOk cs (kindOf s)
-  unfolding kindOf stepOk askOk
+  unfolding kindOf stepOk conditionOk
   kind-ok Step.all w = tt
   kind-ok Step.none w = tt
   kind-ok (Step.is c) w = refl
@@ -106,8 +105,8 @@ module _ (cs : List ℕ) (k : ℕ) (low : k < maxSteps) where
   kind-ok (Step.notless p l) w = (an-end p l w, refl)
   kind-ok (Step.lesseq p l) w = (an-end p l w, refl)
   kind-ok (Step.notlesseq p l) w = (an-end p l w, refl)
-  kind-ok (Step.onelang p) w = ltb-true p (pathCount cs) w
-  kind-ok (Step.manylang p) w = ltb-true p (pathCount cs) w
+  kind-ok (Step.onelang p) w = (ltb-true p (pathCount cs) w, refl)
+  kind-ok (Step.manylang p) w = (ltb-true p (pathCount cs) w, refl)
   kind-ok (Step.from l) w = tt
   kind-ok (Step.into l) w = tt
   kind-ok (Step.typed c) w = tt
@@ -120,7 +119,7 @@ module _ (cs index : List ℕ) (tables : Tables cs index) (vs : List ℤ) (ws : 
 
   -- the ends are nodes: there is nothing to count past the last
   counted : (p j lo hi : ℕ) → kindSet cs vs ws (kindOf (Step.count p j lo hi)) ≡ nodesOf (inStep cs vs (Step.count p j lo hi) (λ j. has (drop (16 * j) ws))) n
-  unfolding kindSet kindOf inStep asked graphAt endsOf
+  unfolding kindSet kindOf inStep holdsOf graphAt endsOf
   counted p j lo hi = nodes-ext _ _ n (λ v l.
       let q : ℕ → Bool = λ w. from (graphAt cs vs) (pathAt cs p) v w && has (drop (16 * j) ws) w in
       ap (within lo (upperOf hi)) (ap (size q) (let z : maxNodes ≡ n + (maxNodes - n) = omega (arith, sound cs (tables .ok) .nodes) in z) ∙ size-beyond q n (maxNodes - n) (λ w m. past v l w m)))
@@ -135,34 +134,34 @@ module _ (cs index : List ℕ) (tables : Tables cs index) (vs : List ℤ) (ws : 
       let low : p < pathCount cs = ltb-true p (pathCount cs) (and-left (ltb p (pathCount cs)) (ltb l (linkCount cs)) w) in
       ap (λ (t : Bool). cond t self (along (pathAt cs p))) (ne-eqb p noNumber (λ q. let z : ⊥ = omega (arith, sound cs (tables .ok) .paths) in z))
 
-  by-path : (ask : Ask) (breaks : Bool) (p l : ℕ) → (ltb p (pathCount cs) && ltb l (linkCount cs)) ≡ true → nodesOf (λ v. orNot breaks (asked cs vs ask (starts (graphAt cs vs) (endAt cs p) v) (objects (graphAt cs vs) l v) v)) n ≡ nodesOf (λ v. orNot breaks (asked cs vs ask (from (graphAt cs vs) (pathAt cs p) v) (objects (graphAt cs vs) l v) v)) n
+  by-path : (condition : Condition) (p l : ℕ) → (ltb p (pathCount cs) && ltb l (linkCount cs)) ≡ true → nodesOf (λ v. holdsOf cs vs condition (starts (graphAt cs vs) (endAt cs p) v) (objects (graphAt cs vs) l v) v) n ≡ nodesOf (λ v. holdsOf cs vs condition (from (graphAt cs vs) (pathAt cs p) v) (objects (graphAt cs vs) l v) v) n
   unfolding endsOf
-  by-path ask breaks p l w = ap (λ (f : model.End). nodesOf (λ v. orNot breaks (asked cs vs ask (starts (graphAt cs vs) f v) (objects (graphAt cs vs) l v) v)) n) (no-id p l w)
+  by-path condition p l w = ap (λ (f : model.End). nodesOf (λ v. holdsOf cs vs condition (starts (graphAt cs vs) f v) (objects (graphAt cs vs) l v) v) n) (no-id p l w)
 
   kind-set : (s : Step) → stepOk cs k s ≡ true → kindSet cs vs ws (kindOf s) ≡ nodesOf (inStep cs vs s (λ j. has (drop (16 * j) ws))) n
-  unfolding kindSet kindOf stepOk inStep conforms asked graphAt subset
+  unfolding kindSet kindOf stepOk inStep conforms holdsOf graphAt subset
   kind-set Step.all w = nodes-all n
   kind-set Step.none w = zeros 16 ∙ nodes-never n
   kind-set (Step.is c) w = refl
   kind-set (Step.isnot c) w = refl
   kind-set (Step.test e) w = nodes-ext _ _ n (λ v l. test-meets cs vs e w v)
-  kind-set (Step.untest e) w = nodes-ext _ _ n (λ v l. test-fails cs vs e w v)
+  kind-set (Step.untest e) w = refl
   kind-set (Step.both i j) w = refl
   kind-set (Step.either i j) w = refl
   kind-set (Step.count p j lo hi) w = counted p j lo hi
   kind-set (Step.every p j) w = refl
   kind-set (Step.equal f l) w = refl
-  kind-set (Step.unequal f l) w = nodes-ext _ _ n (λ v m. not-equal n (starts (graphAt cs vs) (endAt cs f) v) (objects (graphAt cs vs) l v))
+  kind-set (Step.unequal f l) w = refl
   kind-set (Step.apart f l) w = refl
-  kind-set (Step.meet f l) w = nodes-ext _ _ n (λ v m. not-apart n (starts (graphAt cs vs) (endAt cs f) v) (objects (graphAt cs vs) l v))
+  kind-set (Step.meet f l) w = refl
   kind-set (Step.closed e) w = nodes-ext _ _ n (λ v l. ap not (picked-open cs vs v e) ∙ closed-by cs vs e w v)
   kind-set (Step.opened e) w = nodes-ext _ _ n (λ v l. picked-open cs vs v e ∙ opened-by cs vs e w v)
-  kind-set (Step.less p l) w = by-path Less false p l w
-  kind-set (Step.notless p l) w = by-path Less true p l w ∙ nodes-ext _ _ n (λ v m. not-pairs n (from (graphAt cs vs) (pathAt cs p) v) (objects (graphAt cs vs) l v) _ _ (λ x y. not-less (termAt cs vs x) (termAt cs vs y)))
-  kind-set (Step.lesseq p l) w = by-path LessEq false p l w
-  kind-set (Step.notlesseq p l) w = by-path LessEq true p l w ∙ nodes-ext _ _ n (λ v m. not-pairs n (from (graphAt cs vs) (pathAt cs p) v) (objects (graphAt cs vs) l v) _ _ (λ x y. not-lessEq (termAt cs vs x) (termAt cs vs y)))
-  kind-set (Step.onelang p) w = refl
-  kind-set (Step.manylang p) w = nodes-ext _ _ n (λ v l. not-pairs n (from (graphAt cs vs) (pathAt cs p) v) (from (graphAt cs vs) (pathAt cs p) v) _ _ (not-clash (termAt cs vs)))
+  kind-set (Step.less p l) w = by-path Less p l w
+  kind-set (Step.notless p l) w = by-path NotLess p l w
+  kind-set (Step.lesseq p l) w = by-path LessEq p l w
+  kind-set (Step.notlesseq p l) w = by-path NotLessEq p l w
+  kind-set (Step.onelang p) w = nodes-ext _ _ n (λ v l. one-tagged cs vs (from (graphAt cs vs) (pathAt cs p) v) v)
+  kind-set (Step.manylang p) w = nodes-ext _ _ n (λ v l. many-tagged cs vs (from (graphAt cs vs) (pathAt cs p) v) v)
   kind-set (Step.from l) w = nodes-ext _ _ n (λ v m. picked-from cs vs v (record { 0 = l }))
   kind-set (Step.into l) w = nodes-ext _ _ n (λ v m. picked-into cs vs v (record { 0 = l }))
   kind-set (Step.typed c) w = nodes-ext _ _ n (λ v m. picked-typed cs vs v (record { 0 = c }))

@@ -9,15 +9,15 @@ use lib.IntN.{ℤ}
 use Rattle.base.specs.Bounded.{_⇒_}
 use Rattle.base.specs.Lists.{member, allb}
 use Rattle.model.specs.Graph.{holds}
-use Rattle.model.specs.Shapes.{Shape, Test, satisfies, conforms}
+use Rattle.model.specs.Shapes.{Shape, satisfies, conforms}
 use Rattle.tables.specs.Layout.{formCodeAt, formFirstAt, formSecondAt, formThirdAt, formFourthAt, limitAt}
 use Rattle.tables.specs.Entries.{Entry, entryOf}
 use Rattle.tables.specs.Decode.{graphAt, triplesAt, itemsAt, entryAt, shapeOf, shapeAt}
 use Rattle.tables.proofs.Decode.{shape-number}
-use Rattle.plan.specs.Conditions.{failsTest, someUnlisted}
+use Rattle.plan.specs.Conditions.{someUnlisted}
 use Rattle.plan.specs.Sets.{testOf, linksOf}
 use Rattle.plan.specs.WellFormed.{testOk, closedOk}
-use Rattle.plan.proofs.Complements.{not-satisfies, not-closed}
+use Rattle.plan.proofs.Complements.{not-closed}
 use Rattle.plancheck.proofs.Codes.{test-code, test-codes, closed-codes}
 
 module _ (cs : List ℕ) (vs : List ℤ) where
@@ -47,12 +47,6 @@ module _ (cs : List ℕ) (vs : List ℤ) where
   as-test (Entry.onelang p) at v w = absurd (true≢false (sym w))
   as-test Entry.bad at v w = absurd (true≢false (sym w))
 
-  -- what a step's test says, and that the contrary is what an Untest says
-  not-holds : (o : Option Test) (p q : Test → Bool) → holds (λ t. true) o ≡ true → ((t : Test) → not (p t) ≡ q t) → not (holds p o) ≡ holds q o
-  unfolding holds
-  not-holds Option.none p q w h = absurd (true≢false (sym w))
-  not-holds (Option.some t) p q w h = h t
-
   module _ (e : ℕ) (ok : testOk cs e ≡ true) where
     is-test : holds (λ t. true) (testOf cs (entryAt cs vs e)) ≡ true
     unfolding entryAt
@@ -60,9 +54,6 @@ module _ (cs : List ℕ) (vs : List ℤ) where
 
     pub test-meets : (v : ℕ) → conforms (graphAt cs vs) (shapeAt cs vs e) v ≡ holds (λ t. satisfies t (graphAt cs vs .term v)) (testOf cs (entryAt cs vs e))
     test-meets v = ap (λ (s : Shape). conforms (graphAt cs vs) s v) (shape-number cs e vs) ∙ as-test (entryAt cs vs e) _ v is-test
-
-    pub test-fails : (v : ℕ) → not (conforms (graphAt cs vs) (shapeAt cs vs e) v) ≡ holds (λ t. failsTest t (graphAt cs vs .term v)) (testOf cs (entryAt cs vs e))
-    test-fails v = ap not (test-meets v) ∙ not-holds (testOf cs (entryAt cs vs e)) (λ t. satisfies t (graphAt cs vs .term v)) (λ t. failsTest t (graphAt cs vs .term v)) is-test (λ t. not-satisfies t (graphAt cs vs .term v))
 
   -- a `closed` entry's links
   module _ (e : ℕ) (ok : closedOk cs e ≡ true) where

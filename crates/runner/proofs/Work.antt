@@ -22,7 +22,7 @@ use Rattle.tables.specs.Layout.{nodeCount}
 use Rattle.plan.specs.Layout.{stepAt, stepCount}
 use Rattle.plan.specs.Sets.{inStep, setBy, setAt}
 use Rattle.plan.specs.WellFormed.{stepOk}
-use Rattle.stepsets.specs.Asks.{nodesOf}
+use Rattle.stepsets.specs.Conditions.{nodesOf}
 use Rattle.stepsets.proofs.Nodes.{nodes-ext}
 use Rattle.runner.specs.Run.{setWords, stepWords, filled}
 use Rattle.runner.specs.Steps.{stepFrom, put}

@@ -1,10 +1,9 @@
 -- What each step asks for: a line for each step of document 01.
 use Prim.Native.Nat.{ℕ}
-use mathlib.Core.Bool.{true, false}
 use Rattle.model.specs.declared.NodeNo.{NodeNo}
 use Rattle.model.specs.declared.LinkNo.{LinkNo}
 use Rattle.plan.specs.Steps.{Step}
-use Rattle.stepsets.specs.declared.Ask.the-variants.{Is, Test, Count, Every, Equal, Apart, Less, LessEq}
+use Rattle.stepsets.specs.declared.Condition.the-variants.{Is, IsNot, Test, Untest, Count, Every, Equal, Unequal, Apart, Meet, Less, NotLess, LessEq, NotLessEq, OneLang, ManyLang}
 use Rattle.stepsets.specs.declared.Pick.the-variants.{From, Into, Typed, Open}
 use Rattle.runner.specs.declared.Kind.{Kind}
 use Rattle.runner.specs.declared.Kind.the-variants.{Whole, Empty, Node, Both, Either, Path, Ends, Lang, Closed, Facts}
@@ -19,26 +18,26 @@ link l = record { 0 = l }
 unfoldable pub kindOf : Step → Kind
 kindOf Step.all = Whole
 kindOf Step.none = Empty
-kindOf (Step.is c) = Node (Is (node c)) false
-kindOf (Step.isnot c) = Node (Is (node c)) true
-kindOf (Step.test e) = Node (Test e) false
-kindOf (Step.untest e) = Node (Test e) true
+kindOf (Step.is c) = Node (Is (node c))
+kindOf (Step.isnot c) = Node (IsNot (node c))
+kindOf (Step.test e) = Node (Test e)
+kindOf (Step.untest e) = Node (Untest e)
 kindOf (Step.both i j) = Both i j
 kindOf (Step.either i j) = Either i j
 kindOf (Step.count p j lo hi) = Path (Count lo hi) p j
 kindOf (Step.every p j) = Path Every p j
-kindOf (Step.equal f l) = Ends Equal false f (link l)
-kindOf (Step.unequal f l) = Ends Equal true f (link l)
-kindOf (Step.apart f l) = Ends Apart false f (link l)
-kindOf (Step.meet f l) = Ends Apart true f (link l)
+kindOf (Step.equal f l) = Ends Equal f (link l)
+kindOf (Step.unequal f l) = Ends Unequal f (link l)
+kindOf (Step.apart f l) = Ends Apart f (link l)
+kindOf (Step.meet f l) = Ends Meet f (link l)
 kindOf (Step.closed e) = Closed e
 kindOf (Step.opened e) = Facts (Open e)
-kindOf (Step.less p l) = Ends Less false p (link l)
-kindOf (Step.notless p l) = Ends Less true p (link l)
-kindOf (Step.lesseq p l) = Ends LessEq false p (link l)
-kindOf (Step.notlesseq p l) = Ends LessEq true p (link l)
-kindOf (Step.onelang p) = Lang false p
-kindOf (Step.manylang p) = Lang true p
+kindOf (Step.less p l) = Ends Less p (link l)
+kindOf (Step.notless p l) = Ends NotLess p (link l)
+kindOf (Step.lesseq p l) = Ends LessEq p (link l)
+kindOf (Step.notlesseq p l) = Ends NotLessEq p (link l)
+kindOf (Step.onelang p) = Lang OneLang p
+kindOf (Step.manylang p) = Lang ManyLang p
 kindOf (Step.from l) = Facts (From (link l))
 kindOf (Step.into l) = Facts (Into (link l))
 kindOf (Step.typed c) = Facts (Typed (node c))

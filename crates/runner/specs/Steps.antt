@@ -7,7 +7,7 @@ use Rattle.nodeset.specs.Words.{has}
 use Rattle.tables.specs.Layout.{nodeCount}
 use Rattle.plan.specs.Layout.{stepAt}
 use Rattle.plan.specs.Sets.{inStep}
-use Rattle.stepsets.specs.Asks.{nodesOf}
+use Rattle.stepsets.specs.Conditions.{nodesOf}
 
 -- step k's set, where the set of step j stands in the work space from word 16 * j on
 unfoldable pub stepFrom : List ℕ → List ℤ → List ℕ → List ℕ → ℕ → List ℕ

@@ -23,7 +23,7 @@ use plancheck::reads::step_node;
 use plancheck::reads::step_second;
 use plancheck::reads::step_second_link;
 use plancheck::reads::step_third;
-use stepsets::Ask;
+use stepsets::Condition;
 use stepsets::NO_END;
 use stepsets::Pick;
 use stepsets::both_set;
@@ -69,16 +69,16 @@ pub enum Ran {
     Refused(Refusal),
 }
 
-// What a step asks for, with its operands. The bool: it is the breaking one of two.
+// What a step asks for, with its operands.
 enum Kind {
     Whole,
     Empty,
-    Node(Ask, bool),
+    Node(Condition),
     Both(usize, usize),
     Either(usize, usize),
-    Path(Ask, usize, usize),
-    Ends(Ask, bool, usize, LinkNo),
-    Lang(bool, usize),
+    Path(Condition, usize, usize),
+    Ends(Condition, usize, LinkNo),
+    Lang(Condition, usize),
     Closed(usize),
     Facts(Pick),
 }
@@ -97,26 +97,26 @@ fn step_kind(plan: &[u16], k: usize) -> Kind
     match step_code(plan, k) {
         steps::ALL => Kind::Whole,
         steps::NONE => Kind::Empty,
-        steps::IS => Kind::Node(Ask::Is(c), false),
-        steps::ISNOT => Kind::Node(Ask::Is(c), true),
-        steps::TEST => Kind::Node(Ask::Test(a), false),
-        steps::UNTEST => Kind::Node(Ask::Test(a), true),
+        steps::IS => Kind::Node(Condition::Is(c)),
+        steps::ISNOT => Kind::Node(Condition::IsNot(c)),
+        steps::TEST => Kind::Node(Condition::Test(a)),
+        steps::UNTEST => Kind::Node(Condition::Untest(a)),
         steps::BOTH => Kind::Both(a, b),
         steps::EITHER => Kind::Either(a, b),
-        steps::COUNT => Kind::Path(Ask::Count(lo, hi), a, b),
-        steps::EVERY => Kind::Path(Ask::Every, a, b),
-        steps::EQUAL => Kind::Ends(Ask::Equal, false, a, l),
-        steps::UNEQUAL => Kind::Ends(Ask::Equal, true, a, l),
-        steps::APART => Kind::Ends(Ask::Apart, false, a, l),
-        steps::MEET => Kind::Ends(Ask::Apart, true, a, l),
+        steps::COUNT => Kind::Path(Condition::Count(lo, hi), a, b),
+        steps::EVERY => Kind::Path(Condition::Every, a, b),
+        steps::EQUAL => Kind::Ends(Condition::Equal, a, l),
+        steps::UNEQUAL => Kind::Ends(Condition::Unequal, a, l),
+        steps::APART => Kind::Ends(Condition::Apart, a, l),
+        steps::MEET => Kind::Ends(Condition::Meet, a, l),
         steps::CLOSED => Kind::Closed(a),
         steps::OPEN => Kind::Facts(Pick::Open(a)),
-        steps::LESS => Kind::Ends(Ask::Less, false, a, l),
-        steps::NOTLESS => Kind::Ends(Ask::Less, true, a, l),
-        steps::LESSEQ => Kind::Ends(Ask::LessEq, false, a, l),
-        steps::NOTLESSEQ => Kind::Ends(Ask::LessEq, true, a, l),
-        steps::ONELANG => Kind::Lang(false, a),
-        steps::MANYLANG => Kind::Lang(true, a),
+        steps::LESS => Kind::Ends(Condition::Less, a, l),
+        steps::NOTLESS => Kind::Ends(Condition::NotLess, a, l),
+        steps::LESSEQ => Kind::Ends(Condition::LessEq, a, l),
+        steps::NOTLESSEQ => Kind::Ends(Condition::NotLessEq, a, l),
+        steps::ONELANG => Kind::Lang(Condition::OneLang, a),
+        steps::MANYLANG => Kind::Lang(Condition::ManyLang, a),
         steps::FROM => Kind::Facts(Pick::From(p)),
         steps::INTO => Kind::Facts(Pick::Into(p)),
         steps::TYPED => Kind::Facts(Pick::Typed(c)),
@@ -147,14 +147,27 @@ fn step_set(
     match step_kind(plan, k) {
         Kind::Whole => NodeSet::whole(n),
         Kind::Empty => NodeSet::EMPTY,
-        Kind::Node(ask, b) => plain_set(ask, b, cells, values),
+        Kind::Node(condition) => plain_set(condition, cells, values),
         Kind::Both(i, j) => both_set(work, i, j, n),
         Kind::Either(i, j) => either_set(work, i, j, n),
-        Kind::Path(ask, p, j) => path_set(first, end, ask, false, cells, index, values, p, work, j),
-        Kind::Ends(ask, b, f, l) => {
-            ends_set(first, end, second, link, ask, b, cells, index, values, f, l)
+        Kind::Path(condition, p, j) => {
+            path_set(first, end, condition, cells, index, values, p, work, j)
+        },
+        Kind::Ends(condition, f, l) => {
+            ends_set(
+                first,
+                end,
+                second,
+                link,
+                condition,
+                cells,
+                index,
+                values,
+                f,
+                l,
+            )
         }
-        Kind::Lang(b, p) => lang_set(first, end, b, cells, index, values, p),
+        Kind::Lang(condition, p) => lang_set(first, end, condition, cells, index, values, p),
         Kind::Closed(e) => closed_set(cells, e),
         Kind::Facts(pick) => facts_set(pick, cells, index),
     }

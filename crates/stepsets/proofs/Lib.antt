@@ -1,4 +1,4 @@
 pub mod Nodes
-pub mod Asks
+pub mod Conditions
 pub mod Rows
 pub mod Picks

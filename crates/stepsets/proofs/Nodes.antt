@@ -11,7 +11,7 @@ use borrow.Author.Tests.{eqb-true, le-ltb, ltb-true}
 use Rattle.base.proofs.Bools.{bool-cases}
 use Rattle.nodeset.specs.Words.{has, wordsOf, intersection, difference}
 use Rattle.nodeset.proofs.Sets.{wordsOf-ext, has-of, length-of, zeros, ltb-more, intersection-of, difference-of}
-use Rattle.stepsets.specs.Asks.{nodesOf}
+use Rattle.stepsets.specs.Conditions.{nodesOf}
 
 pub nodes-ext : (p q : ℕ → Bool) (n : ℕ) → ((v : ℕ) → v < n → p v ≡ q v) → nodesOf p n ≡ nodesOf q n
 unfolding nodesOf

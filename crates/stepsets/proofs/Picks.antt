@@ -30,7 +30,7 @@ use Rattle.conditions.proofs.Items.{listed-some}
 use Rattle.plan.specs.Conditions.{someUnlisted}
 use Rattle.paths.specs.Facts.{Tables}
 use Rattle.paths.proofs.Joins.{eqb-comm}
-use Rattle.stepsets.specs.Asks.{nodesOf}
+use Rattle.stepsets.specs.Conditions.{nodesOf}
 use Rattle.stepsets.specs.Picks.{nodeOf, picks, picked, chosen, ByLink, listedBy}
 use Rattle.stepsets.specs.declared.Pick.{Pick}
 use Rattle.stepsets.specs.declared.Pick.the-variants.{From, Into, Typed, Open}

@@ -1,3 +1,3 @@
-pub mod Asks
+pub mod Conditions
 pub mod Ends
 pub mod Picks

@@ -2,23 +2,29 @@
 // many nodes are open.
 //
 // For the crate above, which shows that the tables and the step are well formed:
-//   nodes_where   the nodes of which a condition holds, or the contrary: one loop for all conditions
+//   nodes_where   the nodes of which a condition holds: one loop for all conditions
 //   plain_set     .. that looks at the node alone
 //   path_set      .. on the ends of a path and the set of a step
-//   lang_set      .. that no two ends of a path have the same language
+//   lang_set      .. on the ends of a path that have a language
 //   ends_set      .. on two end sets
 // (the ends of all nodes stand in lent rows, which are kept for the next step)
 //   facts_set     the nodes that the facts pick, in one pass over them, or over those of one link
 //   closed_set    the nodes of which every fact has a listed link
 //   both_set, either_set   the nodes in both of two sets, in one of them
+use conditions::apart_fails;
 use conditions::apart_holds;
+use conditions::equal_fails;
 use conditions::equal_holds;
 use conditions::insert_if;
 use conditions::languages;
+use conditions::less_fails;
 use conditions::less_holds;
+use conditions::lesseq_fails;
 use conditions::lesseq_holds;
+use conditions::onelang_fails;
 use conditions::onelang_holds;
 use conditions::subset_holds;
+use conditions::test_fails;
 use conditions::test_holds;
 use model::LinkNo;
 use model::NodeNo;
@@ -50,8 +56,7 @@ ghost use Rattle.tables.specs.Layout.{nodeCount, pathCount};
 ghost use Rattle.tables.specs.Decode.{graphAt, pathAt, endAt, upperOf};
 ghost use Rattle.tables.specs.WellFormed.{wellFormed, endOk};
 ghost use Rattle.paths.specs.Facts.{Tables};
-ghost use Rattle.conditions.specs.Pairs.{unlikeLangs};
-ghost use Rattle.stepsets.specs.Asks.{nodesOf, orNot, asked, askOk};
+ghost use Rattle.stepsets.specs.Conditions.{nodesOf, holdsOf, tagged, conditionOk};
 ghost use Rattle.stepsets.specs.Ends.{EndOf, numberOk, Held};
 ghost use Rattle.stepsets.specs.Picks.{nodeOf, picked, chosen, ByLink, listedBy};
 
@@ -61,18 +66,26 @@ const FIRST_LINK: usize = 65536;
 // A number that no end has, for rows that were not filled yet.
 pub const NO_END: usize = 65534;
 
-// What is asked of each node: that it is a node; that it meets the test of a form entry; how many of its ends are in a set,
-// that all are; that two end sets are equal, are apart, that each pair is less, or at most; that no two ends in a set share a language.
-pub enum Ask {
+// What is asked of each node, a case for each keeping and each breaking step: whether it is a node; whether it meets the test of a
+// form entry; how many of its ends are in a set, and that all are; whether two end sets are equal, are apart, whether each pair is
+// less, or at most; whether no two ends in a set have the same language.
+pub enum Condition {
     Is(NodeNo),
+    IsNot(NodeNo),
     Test(usize),
+    Untest(usize),
     Count(usize, usize),
     Every,
     Equal,
+    Unequal,
     Apart,
+    Meet,
     Less,
+    NotLess,
     LessEq,
+    NotLessEq,
     OneLang,
+    ManyLang,
 }
 
 // Which nodes the facts pick: subjects, objects of a link; subjects that the link `a` leads to a node; subjects of an unlisted link.
@@ -90,21 +103,36 @@ fn is_within(lo: usize, hi: usize, count: usize) -> bool
     (lo <= count) & ((count <= hi) | (hi == wide(NO_NUMBER)))
 }
 
-// The answer for node v, with its two sets.
-fn ask_holds(ask: Ask, cells: &[u16], values: &[i64], a: &[u64], b: &[u64], v: usize) -> bool
-    requires { ⌜ (nodeCount (now cells) ≤ 1024) × (v < nodeCount (now cells)) × (askOk (now cells) ask ≡ true) ⌝ }
-    ensures { λ r. ⌜ r ≡ asked (now (cells .entry)) (now (values .entry)) ask (has (now (a .entry))) (has (now (b .entry))) v ⌝ }
+// The condition holds of node v, with its two sets.
+fn condition_holds(
+    condition: Condition,
+    cells: &[u16],
+    values: &[i64],
+    a: &[u64],
+    b: &[u64],
+    v: usize,
+) -> bool
+    requires { ⌜ (nodeCount (now cells) ≤ 1024) × (v < nodeCount (now cells)) × (conditionOk (now cells) condition ≡ true) ⌝ }
+    ensures { λ r. ⌜ r ≡ holdsOf (now (cells .entry)) (now (values .entry)) condition (has (now (a .entry))) (has (now (b .entry))) v ⌝ }
 {
-    match ask {
-        Ask::Is(c) => v == wide(c.0),
-        Ask::Test(e) => test_holds(cells, values, e, v),
-        Ask::Count(lo, hi) => is_within(lo, hi, count_both(a, b)),
-        Ask::Every => subset_holds(a, b, node_count(cells)),
-        Ask::Equal => equal_holds(a, b, node_count(cells)),
-        Ask::Apart => apart_holds(a, b, node_count(cells)),
-        Ask::Less => less_holds(cells, values, a, b),
-        Ask::LessEq => lesseq_holds(cells, values, a, b),
-        Ask::OneLang => onelang_holds(cells, a, b),
+    let n = node_count(cells);
+    match condition {
+        Condition::Is(c) => v == wide(c.0),
+        Condition::IsNot(c) => v != wide(c.0),
+        Condition::Test(e) => test_holds(cells, values, e, v),
+        Condition::Untest(e) => test_fails(cells, values, e, v),
+        Condition::Count(lo, hi) => is_within(lo, hi, count_both(a, b)),
+        Condition::Every => subset_holds(a, b, n),
+        Condition::Equal => equal_holds(a, b, n),
+        Condition::Unequal => equal_fails(a, b, n),
+        Condition::Apart => apart_holds(a, b, n),
+        Condition::Meet => apart_fails(a, b, n),
+        Condition::Less => less_holds(cells, values, a, b),
+        Condition::NotLess => less_fails(cells, values, a, b),
+        Condition::LessEq => lesseq_holds(cells, values, a, b),
+        Condition::NotLessEq => lesseq_fails(cells, values, a, b),
+        Condition::OneLang => onelang_holds(cells, a, b),
+        Condition::ManyLang => onelang_fails(cells, a, b),
     }
 }
 
@@ -127,43 +155,36 @@ fn place(each: bool, v: usize) -> usize
     if each { 16 * v } else { 0 }
 }
 
-fn or_not(breaks: bool, b: bool) -> bool
-    ensures { λ r. ⌜ r ≡ orNot breaks b ⌝ }
-{
-    if breaks { !b } else { b }
-}
-
-// The nodes of which the condition holds, or where breaks does not hold. first has a row for each node, second one where each.
+// The nodes of which the condition holds. first has a row for each node, second one where each.
 fn nodes_where(
-    ask: Ask,
-    breaks: bool,
+    condition: Condition,
     cells: &[u16],
     values: &[i64],
     first: &[u64],
     second: &[u64],
     each: bool,
 ) -> NodeSet
-    requires { ⌜ (nodeCount (now cells) ≤ 1024) × (askOk (now cells) ask ≡ true) ⌝ }
-    ensures { λ r. ⌜ r .words ≡ nodesOf (λ v. orNot breaks (asked (now (cells .entry)) (now (values .entry)) ask (has (drop (16 * v) (now (first .entry)))) (has (drop (cond each (16 * v) 0) (now (second .entry)))) v)) (nodeCount (now (cells .entry))) ⌝ }
+    requires { ⌜ (nodeCount (now cells) ≤ 1024) × (conditionOk (now cells) condition ≡ true) ⌝ }
+    ensures { λ r. ⌜ r .words ≡ nodesOf (λ v. holdsOf (now (cells .entry)) (now (values .entry)) condition (has (drop (16 * v) (now (first .entry)))) (has (drop (cond each (16 * v) 0) (now (second .entry)))) v) (nodeCount (now (cells .entry))) ⌝ }
 {
     let n = node_count(cells);
     let mut words = [0u64; 16];
     for v in 0..n {
         let a = part(first, 16 * v);
         let b = part(second, place(each, v));
-        let yes = ask_holds(ask, cells, values, a, b, v);
-        insert_if(&mut words, v, or_not(breaks, yes));
+        let yes = condition_holds(condition, cells, values, a, b, v);
+        insert_if(&mut words, v, yes);
     }
     NodeSet { words }
 }
 
 // A condition on the node alone.
-pub fn plain_set(ask: Ask, breaks: bool, cells: &[u16], values: &[i64]) -> NodeSet
-    requires { ⌜ (nodeCount (now cells) ≤ 1024) × (askOk (now cells) ask ≡ true) ⌝ }
-    ensures { λ r. ⌜ r .words ≡ nodesOf (λ v. orNot breaks (asked (now (cells .entry)) (now (values .entry)) ask (λ w. false) (λ w. false) v)) (nodeCount (now (cells .entry))) ⌝ }
+pub fn plain_set(condition: Condition, cells: &[u16], values: &[i64]) -> NodeSet
+    requires { ⌜ (nodeCount (now cells) ≤ 1024) × (conditionOk (now cells) condition ≡ true) ⌝ }
+    ensures { λ r. ⌜ r .words ≡ nodesOf (λ v. holdsOf (now (cells .entry)) (now (values .entry)) condition (λ w. false) (λ w. false) v) (nodeCount (now (cells .entry))) ⌝ }
 {
     let none = [0u64; 16];
-    nodes_where(ask, breaks, cells, values, &none, &none, false)
+    nodes_where(condition, cells, values, &none, &none, false)
 }
 
 // The ends that number x names: below 65,536 `id` or a path entry, from there on a link.
@@ -202,8 +223,7 @@ fn keep_ends(rows: &mut [u64], held: &mut usize, x: usize, cells: &[u16], index:
 pub fn path_set(
     first: &mut [u64],
     end: &mut usize,
-    ask: Ask,
-    breaks: bool,
+    condition: Condition,
     cells: &[u16],
     index: &[u16],
     values: &[i64],
@@ -211,14 +231,13 @@ pub fn path_set(
     work: &[u64],
     j: usize,
 ) -> NodeSet
-    requires { ⌜ Tables (now cells) (now index) × (p < pathCount (now cells)) × (j < 65536) × (askOk (now cells) ask ≡ true) × Held (now cells) (now end) (now first) ⌝ }
-    ensures { λ r. ⌜ r .words ≡ nodesOf (λ v. orNot breaks (asked (now (cells .entry)) (now (values .entry)) ask (from (graphAt (now (cells .entry)) (now (values .entry))) (pathAt (now (cells .entry)) p) v) (has (drop (16 * j) (now (work .entry)))) v)) (nodeCount (now (cells .entry))) ⌝ }
+    requires { ⌜ Tables (now cells) (now index) × (p < pathCount (now cells)) × (j < 65536) × (conditionOk (now cells) condition ≡ true) × Held (now cells) (now end) (now first) ⌝ }
+    ensures { λ r. ⌜ r .words ≡ nodesOf (λ v. holdsOf (now (cells .entry)) (now (values .entry)) condition (from (graphAt (now (cells .entry)) (now (values .entry))) (pathAt (now (cells .entry)) p) v) (has (drop (16 * j) (now (work .entry)))) v) (nodeCount (now (cells .entry))) ⌝ }
     ensures { λ _. ⌜ Held (now (cells .entry)) (now (end .exit)) (now (first .exit)) ⌝ }
 {
     keep_ends(first, end, p, cells, index);
     nodes_where(
-        ask,
-        breaks,
+        condition,
         cells,
         values,
         &first[..],
@@ -227,32 +246,24 @@ pub fn path_set(
     )
 }
 
-// That no two ends of path entry p have the same language. Only ends that have one are looked at.
+// A condition on the ends of path entry p and the nodes that have a language.
 pub fn lang_set(
     first: &mut [u64],
     end: &mut usize,
-    breaks: bool,
+    condition: Condition,
     cells: &[u16],
     index: &[u16],
     values: &[i64],
     p: usize,
 ) -> NodeSet
-    requires { ⌜ Tables (now cells) (now index) × (p < pathCount (now cells)) × Held (now cells) (now end) (now first) ⌝ }
-    ensures { λ r. ⌜ r .words ≡ nodesOf (λ v. orNot breaks (unlikeLangs (now (cells .entry)) (now (values .entry)) (from (graphAt (now (cells .entry)) (now (values .entry))) (pathAt (now (cells .entry)) p) v))) (nodeCount (now (cells .entry))) ⌝ }
+    requires { ⌜ Tables (now cells) (now index) × (p < pathCount (now cells)) × (conditionOk (now cells) condition ≡ true) × Held (now cells) (now end) (now first) ⌝ }
+    ensures { λ r. ⌜ r .words ≡ nodesOf (λ v. holdsOf (now (cells .entry)) (now (values .entry)) condition (from (graphAt (now (cells .entry)) (now (values .entry))) (pathAt (now (cells .entry)) p) v) (tagged (now (cells .entry))) v) (nodeCount (now (cells .entry))) ⌝ }
     ensures { λ _. ⌜ Held (now (cells .entry)) (now (end .exit)) (now (first .exit)) ⌝ }
 {
     keep_ends(first, end, p, cells, index);
     let set = languages(cells);
     let words = set.words;
-    nodes_where(
-        Ask::OneLang,
-        breaks,
-        cells,
-        values,
-        &first[..],
-        &words,
-        false,
-    )
+    nodes_where(condition, cells, values, &first[..], &words, false)
 }
 
 // A condition on the ends of END f and those of link l.
@@ -261,22 +272,21 @@ pub fn ends_set(
     end: &mut usize,
     second: &mut [u64],
     link: &mut usize,
-    ask: Ask,
-    breaks: bool,
+    condition: Condition,
     cells: &[u16],
     index: &[u16],
     values: &[i64],
     f: usize,
     l: LinkNo,
 ) -> NodeSet
-    requires { ⌜ Tables (now cells) (now index) × (endOk (now cells) f ≡ true) × (askOk (now cells) ask ≡ true) × Held (now cells) (now end) (now first) × Held (now cells) (now link) (now second) ⌝ }
-    ensures { λ r. ⌜ r .words ≡ nodesOf (λ v. orNot breaks (asked (now (cells .entry)) (now (values .entry)) ask (starts (graphAt (now (cells .entry)) (now (values .entry))) (endAt (now (cells .entry)) f) v) (objects (graphAt (now (cells .entry)) (now (values .entry))) (l .0) v) v)) (nodeCount (now (cells .entry))) ⌝ }
+    requires { ⌜ Tables (now cells) (now index) × (endOk (now cells) f ≡ true) × (conditionOk (now cells) condition ≡ true) × Held (now cells) (now end) (now first) × Held (now cells) (now link) (now second) ⌝ }
+    ensures { λ r. ⌜ r .words ≡ nodesOf (λ v. holdsOf (now (cells .entry)) (now (values .entry)) condition (starts (graphAt (now (cells .entry)) (now (values .entry))) (endAt (now (cells .entry)) f) v) (objects (graphAt (now (cells .entry)) (now (values .entry))) (l .0) v) v) (nodeCount (now (cells .entry))) ⌝ }
     ensures { λ _. ⌜ Held (now (cells .entry)) (now (end .exit)) (now (first .exit)) ⌝ }
     ensures { λ _. ⌜ Held (now (cells .entry)) (now (link .exit)) (now (second .exit)) ⌝ }
 {
     keep_ends(first, end, f, cells, index);
     keep_ends(second, link, link_number(l.0), cells, index);
-    nodes_where(ask, breaks, cells, values, &first[..], &second[..], true)
+    nodes_where(condition, cells, values, &first[..], &second[..], true)
 }
 
 // The node that fact i picks, where it picks one.

@@ -21,9 +21,10 @@ use Rattle.tables.specs.Entries.{entryOf}
 use Rattle.tables.specs.Decode.{triplesAt, graphAt, pathAt, endAt, upperOf, shapeOf, shapeAt}
 use Rattle.conditions.specs.Pairs.{unlikeLangs}
 use Rattle.entries.proofs.Codes.{conforms-by, nodes-le, less-path, lesseq-path, path-along}
-use Rattle.stepsets.specs.Asks.{nodesOf, orNot, asked}
-use Rattle.stepsets.specs.declared.Ask.{Ask}
-use Rattle.stepsets.specs.declared.Ask.the-variants.{Count, Every, Equal, Apart, Less, LessEq}
+use Rattle.stepsets.specs.Conditions.{nodesOf, holdsOf, tagged}
+use Rattle.stepsets.specs.declared.Condition.{Condition}
+use Rattle.stepsets.specs.declared.Condition.the-variants.{Count, Every, Equal, Apart, Less, LessEq, OneLang}
+use Rattle.stepsets.proofs.Conditions.{one-tagged}
 use Rattle.stepsets.proofs.Rows.{ends-low}
 use Rattle.verdict.specs.Memo.{yesPlace, Ready}
 use Rattle.verdict.specs.Parts.{partsCode, firstPart, PartsKnown, Tells, Enough}
@@ -76,18 +77,18 @@ module _ {cs index : List ℕ} {vs : List ℤ} {memo : List ℕ} {e : ℕ} (r : 
   -- what the code asks of each node, where p, l, lo, hi and j are the operands as it reads them
   module _ {p : ℕ} (ep : p ≡ formFirstAt cs e) where
     module _ {j : ℕ} (ej : j ≡ 2 * formSecondAt cs e) where
-      abbrev onPath : Ask → ℕ → Bool
-      onPath ask v = orNot false (asked cs vs ask (from (graphAt cs vs) (pathAt cs p) v) (has (drop (16 * j) memo)) v)
+      abbrev onPath : Condition → ℕ → Bool
+      onPath condition v = holdsOf cs vs condition (from (graphAt cs vs) (pathAt cs p) v) (has (drop (16 * j) memo)) v
 
       pub count-tells : {lo hi : ℕ} → lo ≡ formThirdAt cs e → hi ≡ formFourthAt cs e → formCodeAt cs e ≡ 13 → {ws : List ℕ} → ws ≡ nodesOf (onPath (Count lo hi)) (nodeCount cs) → Tells cs vs memo e ws
-      unfolding asked graphAt
+      unfolding holdsOf graphAt
       count-tells {lo} {hi} el eh q ew = tells (onPath (Count lo hi)) ew λ v l k.
           (λ i. within (el i) (upperOf (eh i)) (size (λ w. ends (nodeCount cs) (triplesAt cs) (pathAt cs (ep i)) v w && has (drop (16 * j) memo) w) maxNodes))
           ∙ ap (within (formThirdAt cs e) (upperOf (formFourthAt cs e))) (part-size 13 q (first-by cs e 13 q) j ej v l)
           ∙ holds-count (enough v l k) (firstPart cs e) refl refl q
 
       pub all-tells : formCodeAt cs e ≡ 14 → {ws : List ℕ} → ws ≡ nodesOf (onPath Every) (nodeCount cs) → Tells cs vs memo e ws
-      unfolding asked graphAt subset
+      unfolding holdsOf graphAt subset
       all-tells q ew = tells (onPath Every) ew λ v l k.
           ap (λ (p : ℕ). every (λ w. ends (nodeCount cs) (triplesAt cs) (pathAt cs p) v w ⇒ has (drop (16 * j) memo) w) (nodeCount cs)) ep
           ∙ part-every 14 q (first-by cs e 14 q) j ej v l
@@ -95,36 +96,37 @@ module _ {cs index : List ℕ} {vs : List ℤ} {memo : List ℕ} {e : ℕ} (r : 
 
     -- ---- `equal`, `apart`, `less`, `lesseq`: the ends and the objects of link l
     module _ {l : ℕ} (el : l ≡ formSecondAt cs e) where
-      abbrev onEnds : Ask → ℕ → Bool
-      onEnds ask v = orNot false (asked cs vs ask (starts (graphAt cs vs) (endAt cs p) v) (objects (graphAt cs vs) l v) v)
+      abbrev onEnds : Condition → ℕ → Bool
+      onEnds condition v = holdsOf cs vs condition (starts (graphAt cs vs) (endAt cs p) v) (objects (graphAt cs vs) l v) v
 
       -- the same with the operands as the tables have them
-      by-operands : (ask : Ask) (v : ℕ) → onEnds ask v ≡ asked cs vs ask (endsOf (nodeCount cs) (triplesAt cs) (endAt cs (formFirstAt cs e)) v) (ends (nodeCount cs) (triplesAt cs) (predicate (formSecondAt cs e)) v) v
+      by-operands : (condition : Condition) (v : ℕ) → onEnds condition v ≡ holdsOf cs vs condition (endsOf (nodeCount cs) (triplesAt cs) (endAt cs (formFirstAt cs e)) v) (ends (nodeCount cs) (triplesAt cs) (predicate (formSecondAt cs e)) v) v
       unfolding graphAt
-      by-operands ask v = λ i. asked cs vs ask (endsOf (nodeCount cs) (triplesAt cs) (endAt cs (ep i)) v) (ends (nodeCount cs) (triplesAt cs) (predicate (el i)) v) v
+      by-operands condition v = λ i. holdsOf cs vs condition (endsOf (nodeCount cs) (triplesAt cs) (endAt cs (ep i)) v) (ends (nodeCount cs) (triplesAt cs) (predicate (el i)) v) v
 
       pub equal-tells : formCodeAt cs e ≡ 15 → {ws : List ℕ} → ws ≡ nodesOf (onEnds Equal) (nodeCount cs) → Tells cs vs memo e ws
-      unfolding asked entryOf shapeOf conforms graphAt
+      unfolding holdsOf entryOf shapeOf conforms graphAt
       equal-tells q ew = tells (onEnds Equal) ew (λ v m k. by-operands Equal v ∙ conforms-by cs (r .tables) vs e (r .entry) 15 q v)
 
       pub apart-tells : formCodeAt cs e ≡ 16 → {ws : List ℕ} → ws ≡ nodesOf (onEnds Apart) (nodeCount cs) → Tells cs vs memo e ws
-      unfolding asked entryOf shapeOf conforms graphAt
+      unfolding holdsOf entryOf shapeOf conforms graphAt
       apart-tells q ew = tells (onEnds Apart) ew (λ v m k. by-operands Apart v ∙ conforms-by cs (r .tables) vs e (r .entry) 16 q v)
 
       -- where the first operand is a path entry
-      on-path : (ask : Ask) (v : ℕ) → formFirstAt cs e < pathCount cs → onEnds ask v ≡ asked cs vs ask (ends (nodeCount cs) (triplesAt cs) (pathAt cs (formFirstAt cs e)) v) (ends (nodeCount cs) (triplesAt cs) (predicate (formSecondAt cs e)) v) v
+      on-path : (condition : Condition) (v : ℕ) → formFirstAt cs e < pathCount cs → onEnds condition v ≡ holdsOf cs vs condition (ends (nodeCount cs) (triplesAt cs) (pathAt cs (formFirstAt cs e)) v) (ends (nodeCount cs) (triplesAt cs) (predicate (formSecondAt cs e)) v) v
       unfolding endsOf
-      on-path ask v h = by-operands ask v ∙ ap (λ (x : End). asked cs vs ask (endsOf (nodeCount cs) (triplesAt cs) x v) (ends (nodeCount cs) (triplesAt cs) (predicate (formSecondAt cs e)) v) v) (path-along cs (r .tables) vs e (r .entry) h)
+      on-path condition v h = by-operands condition v ∙ ap (λ (x : End). holdsOf cs vs condition (endsOf (nodeCount cs) (triplesAt cs) x v) (ends (nodeCount cs) (triplesAt cs) (predicate (formSecondAt cs e)) v) v) (path-along cs (r .tables) vs e (r .entry) h)
 
       pub less-tells : formCodeAt cs e ≡ 18 → {ws : List ℕ} → ws ≡ nodesOf (onEnds Less) (nodeCount cs) → Tells cs vs memo e ws
-      unfolding asked entryOf shapeOf conforms graphAt
+      unfolding holdsOf entryOf shapeOf conforms graphAt
       less-tells q ew = tells (onEnds Less) ew (λ v m k. on-path Less v (less-path cs (r .tables) vs e (r .entry) q) ∙ conforms-by cs (r .tables) vs e (r .entry) 18 q v)
 
       pub lesseq-tells : formCodeAt cs e ≡ 19 → {ws : List ℕ} → ws ≡ nodesOf (onEnds LessEq) (nodeCount cs) → Tells cs vs memo e ws
-      unfolding asked entryOf shapeOf conforms graphAt
+      unfolding holdsOf entryOf shapeOf conforms graphAt
       lesseq-tells q ew = tells (onEnds LessEq) ew (λ v m k. on-path LessEq v (lesseq-path cs (r .tables) vs e (r .entry) q) ∙ conforms-by cs (r .tables) vs e (r .entry) 19 q v)
 
-    pub lang-tells : formCodeAt cs e ≡ 20 → {ws : List ℕ} → ws ≡ nodesOf (λ v. orNot false (unlikeLangs cs vs (from (graphAt cs vs) (pathAt cs p) v))) (nodeCount cs) → Tells cs vs memo e ws
+    pub lang-tells : formCodeAt cs e ≡ 20 → {ws : List ℕ} → ws ≡ nodesOf (λ v. holdsOf cs vs OneLang (from (graphAt cs vs) (pathAt cs p) v) (tagged cs) v) (nodeCount cs) → Tells cs vs memo e ws
     unfolding entryOf shapeOf conforms graphAt
-    lang-tells q ew = tells (λ v. unlikeLangs cs vs (ends (nodeCount cs) (triplesAt cs) (pathAt cs p) v)) ew (λ v m k.
-        ap (λ (p : ℕ). unlikeLangs cs vs (ends (nodeCount cs) (triplesAt cs) (pathAt cs p) v)) ep ∙ conforms-by cs (r .tables) vs e (r .entry) 20 q v)
+    lang-tells q ew = tells (λ v. holdsOf cs vs OneLang (ends (nodeCount cs) (triplesAt cs) (pathAt cs p) v) (tagged cs) v) ew (λ v m k.
+        one-tagged cs vs (ends (nodeCount cs) (triplesAt cs) (pathAt cs p) v) v
+        ∙ ap (λ (p : ℕ). unlikeLangs cs vs (ends (nodeCount cs) (triplesAt cs) (pathAt cs p) v)) ep ∙ conforms-by cs (r .tables) vs e (r .entry) 20 q v)

@@ -25,7 +25,7 @@ use nodeset::test;
 use paths::End;
 use paths::INDEX_CELLS;
 use paths::index_table;
-use stepsets::Ask;
+use stepsets::Condition;
 use stepsets::NO_END;
 use stepsets::ends_set;
 use stepsets::lang_set;
@@ -217,15 +217,14 @@ fn set_of_rows(
 {
     let p = wide(form_first(cells, e));
     let l = form_link(cells, e);
-    let count = Ask::Count(wide(form_third(cells, e)), wide(form_fourth(cells, e)));
+    let count = Condition::Count(wide(form_third(cells, e)), wide(form_fourth(cells, e)));
     let j = 2 * wide(form_second(cells, e));
     match form_code(cells, e) {
-        codes::FORM_COUNT => path_set(first, end, count, false, cells, index, values, p, memo, j),
+        codes::FORM_COUNT => path_set(first, end, count, cells, index, values, p, memo, j),
         codes::FORM_ALL => path_set(
             first,
             end,
-            Ask::Every,
-            false,
+            Condition::Every,
             cells,
             index,
             values,
@@ -238,8 +237,7 @@ fn set_of_rows(
             end,
             second,
             link,
-            Ask::Equal,
-            false,
+            Condition::Equal,
             cells,
             index,
             values,
@@ -251,8 +249,7 @@ fn set_of_rows(
             end,
             second,
             link,
-            Ask::Apart,
-            false,
+            Condition::Apart,
             cells,
             index,
             values,
@@ -264,8 +261,7 @@ fn set_of_rows(
             end,
             second,
             link,
-            Ask::Less,
-            false,
+            Condition::Less,
             cells,
             index,
             values,
@@ -277,15 +273,14 @@ fn set_of_rows(
             end,
             second,
             link,
-            Ask::LessEq,
-            false,
+            Condition::LessEq,
             cells,
             index,
             values,
             p,
             l,
         ),
-        _ => lang_set(first, end, false, cells, index, values, p),
+        _ => lang_set(first, end, Condition::OneLang, cells, index, values, p),
     }
 }
 

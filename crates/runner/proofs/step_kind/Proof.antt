@@ -1,9 +1,8 @@
 -- `step_kind` meets its contract, arm by arm.
-use mathlib.Core.Bool.{true, false}
 use mathlib.Core.Path.{refl}
 use denote.Ref.{now}
 use Rattle.plan.specs.Steps.{stepOf}
-use Rattle.stepsets.specs.declared.Ask.the-variants.{Is, Equal, Apart, Less, LessEq}
+use Rattle.stepsets.specs.declared.Condition.the-variants.{Is, IsNot, Equal, Unequal, Apart, Meet, Less, NotLess, LessEq, NotLessEq}
 use Rattle.stepsets.specs.declared.Pick.the-variants.{From, Into, Typed}
 use Rattle.runner.specs.declared.Kind.the-variants.{Node, Ends, Facts}
 use Rattle.runner.specs.Kinds.{kindOf}
@@ -87,11 +86,11 @@ returns-2 c = arm (read (c .before)) 1 (c .match .keys2) refl
 
 returns-3 : tie.Need-returns-3
 unfolding stepOf kindOf
-returns-3 c = arm (read (c .before)) 2 (c .match .keys3) (by-node (read (c .before)) (λ x. Node (Is x) false))
+returns-3 c = arm (read (c .before)) 2 (c .match .keys3) (by-node (read (c .before)) (λ x. Node (Is x)))
 
 returns-4 : tie.Need-returns-4
 unfolding stepOf kindOf
-returns-4 c = arm (read (c .before)) 3 (c .match .keys4) (by-node (read (c .before)) (λ x. Node (Is x) true))
+returns-4 c = arm (read (c .before)) 3 (c .match .keys4) (by-node (read (c .before)) (λ x. Node (IsNot x)))
 
 returns-5 : tie.Need-returns-5
 unfolding stepOf kindOf
@@ -119,19 +118,19 @@ returns-10 c = arm (read (c .before)) 9 (c .match .keys10) refl
 
 returns-11 : tie.Need-returns-11
 unfolding stepOf kindOf
-returns-11 c = arm (read (c .before)) 10 (c .match .keys11) (by-second (read (c .before)) (λ x. Ends Equal false (c .before .before .before .before .before .before .before .before .step-first .result) x))
+returns-11 c = arm (read (c .before)) 10 (c .match .keys11) (by-second (read (c .before)) (λ x. Ends Equal (c .before .before .before .before .before .before .before .before .step-first .result) x))
 
 returns-12 : tie.Need-returns-12
 unfolding stepOf kindOf
-returns-12 c = arm (read (c .before)) 11 (c .match .keys12) (by-second (read (c .before)) (λ x. Ends Equal true (c .before .before .before .before .before .before .before .before .step-first .result) x))
+returns-12 c = arm (read (c .before)) 11 (c .match .keys12) (by-second (read (c .before)) (λ x. Ends Unequal (c .before .before .before .before .before .before .before .before .step-first .result) x))
 
 returns-13 : tie.Need-returns-13
 unfolding stepOf kindOf
-returns-13 c = arm (read (c .before)) 12 (c .match .keys13) (by-second (read (c .before)) (λ x. Ends Apart false (c .before .before .before .before .before .before .before .before .step-first .result) x))
+returns-13 c = arm (read (c .before)) 12 (c .match .keys13) (by-second (read (c .before)) (λ x. Ends Apart (c .before .before .before .before .before .before .before .before .step-first .result) x))
 
 returns-14 : tie.Need-returns-14
 unfolding stepOf kindOf
-returns-14 c = arm (read (c .before)) 13 (c .match .keys14) (by-second (read (c .before)) (λ x. Ends Apart true (c .before .before .before .before .before .before .before .before .step-first .result) x))
+returns-14 c = arm (read (c .before)) 13 (c .match .keys14) (by-second (read (c .before)) (λ x. Ends Meet (c .before .before .before .before .before .before .before .before .step-first .result) x))
 
 returns-15 : tie.Need-returns-15
 unfolding stepOf kindOf
@@ -143,19 +142,19 @@ returns-16 c = arm (read (c .before)) 15 (c .match .keys16) refl
 
 returns-17 : tie.Need-returns-17
 unfolding stepOf kindOf
-returns-17 c = arm (read (c .before)) 16 (c .match .keys17) (by-second (read (c .before)) (λ x. Ends Less false (c .before .before .before .before .before .before .before .before .step-first .result) x))
+returns-17 c = arm (read (c .before)) 16 (c .match .keys17) (by-second (read (c .before)) (λ x. Ends Less (c .before .before .before .before .before .before .before .before .step-first .result) x))
 
 returns-18 : tie.Need-returns-18
 unfolding stepOf kindOf
-returns-18 c = arm (read (c .before)) 17 (c .match .keys18) (by-second (read (c .before)) (λ x. Ends Less true (c .before .before .before .before .before .before .before .before .step-first .result) x))
+returns-18 c = arm (read (c .before)) 17 (c .match .keys18) (by-second (read (c .before)) (λ x. Ends NotLess (c .before .before .before .before .before .before .before .before .step-first .result) x))
 
 returns-19 : tie.Need-returns-19
 unfolding stepOf kindOf
-returns-19 c = arm (read (c .before)) 18 (c .match .keys19) (by-second (read (c .before)) (λ x. Ends LessEq false (c .before .before .before .before .before .before .before .before .step-first .result) x))
+returns-19 c = arm (read (c .before)) 18 (c .match .keys19) (by-second (read (c .before)) (λ x. Ends LessEq (c .before .before .before .before .before .before .before .before .step-first .result) x))
 
 returns-20 : tie.Need-returns-20
 unfolding stepOf kindOf
-returns-20 c = arm (read (c .before)) 19 (c .match .keys20) (by-second (read (c .before)) (λ x. Ends LessEq true (c .before .before .before .before .before .before .before .before .step-first .result) x))
+returns-20 c = arm (read (c .before)) 19 (c .match .keys20) (by-second (read (c .before)) (λ x. Ends NotLessEq (c .before .before .before .before .before .before .before .before .step-first .result) x))
 
 returns-21 : tie.Need-returns-21
 unfolding stepOf kindOf

@@ -10,7 +10,7 @@ use Rattle.model.specs.Limits.{maxNodes}
 use Rattle.tables.specs.Layout.{nodeCount}
 use Rattle.tables.proofs.WellFormed.{sound}
 use Rattle.plan.specs.Layout.{stepAt}
-use Rattle.stepsets.specs.Asks.{nodesOf}
+use Rattle.stepsets.specs.Conditions.{nodesOf}
 use Rattle.stepsets.specs.Ends.{Held}
 use Rattle.runner.specs.declared.Kind.{Kind}
 use Rattle.runner.specs.Steps.{stepFrom}
@@ -72,11 +72,11 @@ whole-requires c κs = search needs
 enum-told-2 : tie.Need-enum-told-2
 enum-told-2 c = search needs
 
-enum-known-ask : tie.Need-enum-known-ask
-enum-known-ask c = search needs
+enum-known-condition : tie.Need-enum-known-condition
+enum-known-condition c = search needs
 
 plain-set-requires : tie.Need-plain-set-requires
-plain-set-requires c κs = (few (c .before .before .before), right (c .before .before .before) (c .before .ask .given .1))
+plain-set-requires c κs = (few (c .before .before .before), right (c .before .before .before) (c .before .condition .given .1))
 
 enum-known-i : tie.Need-enum-known-i
 enum-known-i c = search needs
@@ -90,23 +90,23 @@ enum-known-i-2 c = search needs
 either-set-requires : tie.Need-either-set-requires
 either-set-requires c κs = right (c .before .before .before) (c .before .i2 .given .1)
 
-enum-known-ask-2 : tie.Need-enum-known-ask-2
-enum-known-ask-2 c = search needs
+enum-known-condition-2 : tie.Need-enum-known-condition-2
+enum-known-condition-2 c = search needs
 
 path-set-requires : tie.Need-path-set-requires
-path-set-requires c κs = let r = right (c .before .before .before .before .before) (c .before .before .before .ask2 .given .1) in (c .before .before .before .before .before .before .before .before .before .before .before .before .before .pre .0, r .0, r .1, r .2, first-kept (c .before .before .before .before .before))
+path-set-requires c κs = let r = right (c .before .before .before .before .before) (c .before .before .before .condition2 .given .1) in (c .before .before .before .before .before .before .before .before .before .before .before .before .before .pre .0, r .0, r .1, r .2, first-kept (c .before .before .before .before .before))
 
-enum-known-ask-3 : tie.Need-enum-known-ask-3
-enum-known-ask-3 c = search needs
+enum-known-condition-3 : tie.Need-enum-known-condition-3
+enum-known-condition-3 c = search needs
 
 ends-set-requires : tie.Need-ends-set-requires
-ends-set-requires c κs = let r = right (c .before .before .before .before .before .before .before) (c .before .before .before .before .before .ask3 .given .1) in (c .before .before .before .before .before .before .before .before .before .before .before .before .before .before .before .pre .0, r .0, r .1, first-kept (c .before .before .before .before .before .before .before), second-kept (c .before .before .before .before .before .before .before))
+ends-set-requires c κs = let r = right (c .before .before .before .before .before .before .before) (c .before .before .before .before .before .condition3 .given .1) in (c .before .before .before .before .before .before .before .before .before .before .before .before .before .before .before .pre .0, r .0, r .1, first-kept (c .before .before .before .before .before .before .before), second-kept (c .before .before .before .before .before .before .before))
 
-enum-known-b : tie.Need-enum-known-b
-enum-known-b c = search needs
+enum-known-condition-4 : tie.Need-enum-known-condition-4
+enum-known-condition-4 c = search needs
 
 lang-set-requires : tie.Need-lang-set-requires
-lang-set-requires c κs = (c .before .before .before .before .before .before .before .before .before .before .before .before .before .pre .0, right (c .before .before .before .before .before) (c .before .before .before .b .given .1), first-kept (c .before .before .before .before .before))
+lang-set-requires c κs = let r = right (c .before .before .before .before .before) (c .before .before .before .condition4 .given .1) in (c .before .before .before .before .before .before .before .before .before .before .before .before .before .pre .0, r .0, r .1, first-kept (c .before .before .before .before .before))
 
 enum-known-e : tie.Need-enum-known-e
 enum-known-e c = search needs
@@ -130,7 +130,7 @@ returns-2 c = (words (c .before .before) (c .enum-told2 .given .1), (first-kept 
 
 returns-3 : tie.Need-returns-3
 unfolding kindSet
-returns-3 c = (c .plain-set .ensures ∙ words (c .before .before .before .before) (c .before .before .ask .given .1), (first-kept (c .before .before .before .before), second-kept (c .before .before .before .before)))
+returns-3 c = (c .plain-set .ensures ∙ words (c .before .before .before .before) (c .before .before .condition .given .1), (first-kept (c .before .before .before .before), second-kept (c .before .before .before .before)))
 
 returns-4 : tie.Need-returns-4
 unfolding kindSet
@@ -145,7 +145,7 @@ same-length c = search needs
 
 returns-6 : tie.Need-returns-6
 unfolding kindSet
-returns-6 c = (c .before .before .path-set .ensures .0 ∙ words (c .before .before .before .before .before .before .before .before) (c .before .before .before .before .before .before .ask2 .given .1), (c .before .before .path-set .ensures .1, second-kept (c .before .before .before .before .before .before .before .before)))
+returns-6 c = (c .before .before .path-set .ensures .0 ∙ words (c .before .before .before .before .before .before .before .before) (c .before .before .before .before .before .before .condition2 .given .1), (c .before .before .path-set .ensures .1, second-kept (c .before .before .before .before .before .before .before .before)))
 
 same-length-2 : tie.Need-same-length-2
 same-length-2 c = search needs
@@ -155,14 +155,14 @@ same-length-3 c = search needs
 
 returns-7 : tie.Need-returns-7
 unfolding kindSet
-returns-7 c = (c .before .before .before .before .ends-set .ensures .0 ∙ words (c .before .before .before .before .before .before .before .before .before .before .before .before) (c .before .before .before .before .before .before .before .before .before .before .ask3 .given .1), (c .before .before .before .before .ends-set .ensures .1 .0, c .before .before .before .before .ends-set .ensures .1 .1))
+returns-7 c = (c .before .before .before .before .ends-set .ensures .0 ∙ words (c .before .before .before .before .before .before .before .before .before .before .before .before) (c .before .before .before .before .before .before .before .before .before .before .condition3 .given .1), (c .before .before .before .before .ends-set .ensures .1 .0, c .before .before .before .before .ends-set .ensures .1 .1))
 
 same-length-4 : tie.Need-same-length-4
 same-length-4 c = search needs
 
 returns-8 : tie.Need-returns-8
 unfolding kindSet
-returns-8 c = (c .before .before .lang-set .ensures .0 ∙ words (c .before .before .before .before .before .before .before .before) (c .before .before .before .before .before .before .b .given .1), (c .before .before .lang-set .ensures .1, second-kept (c .before .before .before .before .before .before .before .before)))
+returns-8 c = (c .before .before .lang-set .ensures .0 ∙ words (c .before .before .before .before .before .before .before .before) (c .before .before .before .before .before .before .condition4 .given .1), (c .before .before .lang-set .ensures .1, second-kept (c .before .before .before .before .before .before .before .before)))
 
 returns-9 : tie.Need-returns-9
 unfolding kindSet
@@ -181,17 +181,17 @@ step-set-spec =
     enum-told
     whole-requires
     enum-told-2
-    enum-known-ask
+    enum-known-condition
     plain-set-requires
     enum-known-i
     both-set-requires
     enum-known-i-2
     either-set-requires
-    enum-known-ask-2
+    enum-known-condition-2
     path-set-requires
-    enum-known-ask-3
+    enum-known-condition-3
     ends-set-requires
-    enum-known-b
+    enum-known-condition-4
     lang-set-requires
     enum-known-e
     closed-set-requires

@@ -7,7 +7,7 @@ use Rattle.model.specs.Shapes.{starts, objects}
 use Rattle.tables.specs.Decode.{graphAt, endAt}
 use Rattle.tables.proofs.WellFormed.{sound}
 use Rattle.stepsets.specs.Ends.{numberOk, Held}
-use Rattle.stepsets.proofs.Asks.{where-ext}
+use Rattle.stepsets.proofs.Conditions.{where-ext}
 use Rattle.stepsets.proofs.Rows.{row-end, row-link, end-right, link-right}
 use borrow.Author.Needs.{needs}
 use Rattle.stepsets.proofs.ends_set.Statement.{statement}
@@ -40,7 +40,7 @@ returns c =
     let k = c .before .before .before .before .before .before .before .before .before .before .before .keep-ends in
     let m = c .before .before .before .before .before .keep-ends2 in (
       c .nodes-where .ensures
-          ∙ where-ext cs vs (sound cs (pre .0 .ok) .nodes) (a .ask) (a .breaks) (λ v. has (drop (16 * v) (k .last .0))) (starts (graphAt cs vs) (endAt cs (a .f))) (λ v. has (drop (16 * v) (m .last .0))) (objects (graphAt cs vs) (a .l .0))
+          ∙ where-ext cs vs (sound cs (pre .0 .ok) .nodes) (a .condition) (λ v. has (drop (16 * v) (k .last .0))) (starts (graphAt cs vs) (endAt cs (a .f))) (λ v. has (drop (16 * v) (m .last .0))) (objects (graphAt cs vs) (a .l .0))
           (row-end cs (a .index .now) (pre .0) vs (a .f) (pre .1) (k .ensures .0))
           (row-link cs (a .index .now) (pre .0) vs (a .l .0) (c .before .before .before .before .before .before .link-number .ensures .1) (subst (λ (x : ℕ). Held cs x (m .last .0)) (c .before .before .before .before .before .before .link-number .ensures .0) (m .ensures .0))),
       (

@@ -1,4 +1,4 @@
-use Rattle.stepsets.proofs.Asks.{within-code}
+use Rattle.stepsets.proofs.Conditions.{within-code}
 use borrow.Author.Needs.{needs}
 use Rattle.stepsets.proofs.is_within.Statement.{statement}
 use Rattle.stepsets.proofs.is_within.Tie as tie

@@ -2,23 +2,23 @@
 use Prim.Native.Nat.{ℕ, _*_}
 use mathlib.Core.Bool.{Bool}
 use mathlib.Core.List.{List}
-use mathlib.Core.Path.{refl, sym, _∙_, subst}
+use mathlib.Core.Path.{sym, _∙_, subst}
 use lib.ListN.{drop}
 use Rattle.nodeset.specs.Words.{has}
+use Rattle.nodeset.proofs.Sets.{has-of}
 use Rattle.model.specs.Shapes.{from}
 use Rattle.tables.specs.Decode.{graphAt, pathAt}
 use Rattle.tables.proofs.WellFormed.{sound}
-use Rattle.stepsets.specs.Asks.{askOk}
+use Rattle.stepsets.specs.Conditions.{tagged}
 use Rattle.stepsets.specs.Ends.{Held}
-use Rattle.stepsets.specs.declared.Ask.the-variants.{OneLang}
-use Rattle.stepsets.proofs.Asks.{where-ext, where-langs}
+use Rattle.stepsets.proofs.Conditions.{where-ext}
 use Rattle.stepsets.proofs.Rows.{row-path, path-right}
 use borrow.Author.Needs.{needs}
 use Rattle.stepsets.proofs.lang_set.Statement.{statement}
 use Rattle.stepsets.proofs.lang_set.Tie as tie
 
 keep-ends-requires : tie.Need-keep-ends-requires
-keep-ends-requires c κs = let pre = c .before .before .before .before .before .pre in (pre .0, path-right (c .before .before .before .before .before .args .cells .now) (c .before .before .before .before .before .args .p) (pre .1), pre .2)
+keep-ends-requires c κs = let pre = c .before .before .before .before .before .pre in (pre .0, path-right (c .before .before .before .before .before .args .cells .now) (c .before .before .before .before .before .args .p) (pre .1), pre .3)
 
 languages-requires : tie.Need-languages-requires
 languages-requires c κs = search needs
@@ -27,8 +27,7 @@ slice-aggregate-nodes-where : tie.Need-slice-aggregate-nodes-where
 slice-aggregate-nodes-where c = search needs
 
 nodes-where-requires : tie.Need-nodes-where-requires
-unfolding askOk
-nodes-where-requires c κs = (sound (c .before .before .before .before .before .before .before .before .before .before .before .before .args .cells .now) (c .before .before .before .before .before .before .before .before .before .before .before .before .pre .0 .ok) .nodes, refl)
+nodes-where-requires c κs = (sound (c .before .before .before .before .before .before .before .before .before .before .before .before .args .cells .now) (c .before .before .before .before .before .before .before .before .before .before .before .before .pre .0 .ok) .nodes, c .before .before .before .before .before .before .before .before .before .before .before .before .pre .2)
 
 same-length : tie.Need-same-length
 same-length c = search needs
@@ -44,8 +43,7 @@ returns c =
     let ws : List ℕ = c .before .before .before .before .languages .result .words in
     let k = c .before .before .before .before .before .before .before .keep-ends in (
       c .nodes-where .ensures
-          ∙ where-ext cs vs few OneLang (a .breaks) (λ v. has (drop (16 * v) (k .last .0))) ends (λ v. has ws) (λ v. has ws) (row-path cs (a .index .now) (pre .0) vs (a .p) (pre .1) (k .ensures .0)) (λ v l w lw. refl)
-          ∙ where-langs cs vs few (a .breaks) ends (c .before .before .before .before .languages .ensures),
+          ∙ where-ext cs vs few (a .condition) (λ v. has (drop (16 * v) (k .last .0))) ends (λ v. has ws) (λ v. tagged cs) (row-path cs (a .index .now) (pre .0) vs (a .p) (pre .1) (k .ensures .0)) (λ v l w lw. has-of (tagged cs) 16 (c .before .before .before .before .languages .ensures) w lw),
       subst (λ (x : ℕ). Held cs x (k .last .0)) (sym (k .ensures .1)) (k .ensures .0),
     )
 

@@ -7,22 +7,22 @@ use borrow.Author.Needs.{needs}
 use denote.Ref.{now}
 use lib.ListN.{drop}
 use Rattle.nodeset.specs.Words.{has}
-use Rattle.stepsets.specs.Asks.{nodesOf, orNot, asked}
+use Rattle.stepsets.specs.Conditions.{nodesOf, holdsOf}
 use Rattle.stepsets.proofs.Nodes.{nodes-none, nodes-more, nodes-done, nodes-length}
 use Rattle.stepsets.proofs.nodes_where.Statement.{statement}
 use Rattle.stepsets.proofs.nodes_where.Tie as tie
 
 abbrev Inv-loop : tie.InvT-loop
-Inv-loop ask breaks cells values first second each n words₀ v₀ words v = (v ≤ n) × (words ≡ nodesOf (λ u. orNot breaks (asked cells values ask (has (drop (16 * u) first)) (has (drop (cond each (16 * u) 0) second)) u)) v)
+Inv-loop condition cells values first second each n words₀ v₀ words v = (v ≤ n) × (words ≡ nodesOf (λ u. holdsOf cells values condition (has (drop (16 * u) first)) (has (drop (cond each (16 * u) 0) second)) u) v)
 
 abbrev μ-loop : tie.MeasureT-loop
-μ-loop ask breaks cells values first second each n words₀ v₀ words v = n - v
+μ-loop condition cells values first second each n words₀ v₀ words v = n - v
 
 node-count-requires : tie.Need-node-count-requires Inv-loop μ-loop
 node-count-requires c κs = search needs
 
 loop-holds : tie.Need-loop-holds Inv-loop μ-loop
-loop-holds c = (omega arith, nodes-none (λ u. orNot (c .before .before .before .before .args .breaks) (asked (now (c .before .before .before .before .args .cells)) (now (c .before .before .before .before .args .values)) (c .before .before .before .before .args .ask) (has (drop (16 * u) (now (c .before .before .before .before .args .first)))) (has (drop (cond (c .before .before .before .before .args .each) (16 * u) 0) (now (c .before .before .before .before .args .second)))) u)))
+loop-holds c = (omega arith, nodes-none (λ u. holdsOf (now (c .before .before .before .before .args .cells)) (now (c .before .before .before .before .args .values)) (c .before .before .before .before .args .condition) (has (drop (16 * u) (now (c .before .before .before .before .args .first)))) (has (drop (cond (c .before .before .before .before .args .each) (16 * u) 0) (now (c .before .before .before .before .args .second)))) u))
 
 mul-part : tie.Need-mul-part Inv-loop μ-loop
 mul-part c = omega (arith, c .before .before .before .before .before .before .pre .0, c .before .before .node-count .ensures)
@@ -36,14 +36,11 @@ place-requires c κs = omega (arith, c .before .before .before .before .before .
 part-requires-2 : tie.Need-part-requires-2 Inv-loop μ-loop
 part-requires-2 c κs = search needs
 
-ask-holds-requires : tie.Need-ask-holds-requires Inv-loop μ-loop
-ask-holds-requires c κs = (c .before .before .before .before .before .before .before .before .before .pre .0, omega (arith, c .before .before .before .before .before .node-count .ensures), c .before .before .before .before .before .before .before .before .before .pre .1)
+condition-holds-requires : tie.Need-condition-holds-requires Inv-loop μ-loop
+condition-holds-requires c κs = (c .before .before .before .before .before .before .before .before .before .pre .0, omega (arith, c .before .before .before .before .before .node-count .ensures), c .before .before .before .before .before .before .before .before .before .pre .1)
 
 slice-aggregate-insert-if : tie.Need-slice-aggregate-insert-if Inv-loop μ-loop
-slice-aggregate-insert-if c = nodes-length (λ u. orNot (c .before .before .before .before .before .before .before .before .before .before .before .args .breaks) (asked (now (c .before .before .before .before .before .before .before .before .before .before .before .args .cells)) (now (c .before .before .before .before .before .before .before .before .before .before .before .args .values)) (c .before .before .before .before .before .before .before .before .before .before .before .args .ask) (has (drop (16 * u) (now (c .before .before .before .before .before .before .before .before .before .before .before .args .first)))) (has (drop (cond (c .before .before .before .before .before .before .before .before .before .before .before .args .each) (16 * u) 0) (now (c .before .before .before .before .before .before .before .before .before .before .before .args .second)))) u)) (c .before .before .before .before .before .before .loop .v) (c .before .before .before .before .before .before .loop .inv .1)
-
-or-not-requires : tie.Need-or-not-requires Inv-loop μ-loop
-or-not-requires c κs = search needs
+slice-aggregate-insert-if c = nodes-length (λ u. holdsOf (now (c .before .before .before .before .before .before .before .before .before .before .before .args .cells)) (now (c .before .before .before .before .before .before .before .before .before .before .before .args .values)) (c .before .before .before .before .before .before .before .before .before .before .before .args .condition) (has (drop (16 * u) (now (c .before .before .before .before .before .before .before .before .before .before .before .args .first)))) (has (drop (cond (c .before .before .before .before .before .before .before .before .before .before .before .args .each) (16 * u) 0) (now (c .before .before .before .before .before .before .before .before .before .before .before .args .second)))) u) (c .before .before .before .before .before .before .loop .v) (c .before .before .before .before .before .before .loop .inv .1)
 
 insert-if-requires : tie.Need-insert-if-requires Inv-loop μ-loop
 insert-if-requires c κs = search needs
@@ -55,14 +52,18 @@ loop-less : tie.Need-loop-less Inv-loop μ-loop
 loop-less c = omega arith
 
 loop-again : tie.Need-loop-again Inv-loop μ-loop
-loop-again c = (
-  omega arith,
-  c .before .insert-if .ensures ∙ nodes-more (λ u. orNot (c .before .before .before .before .before .before .before .before .before .before .before .before .before .before .args .breaks) (asked (now (c .before .before .before .before .before .before .before .before .before .before .before .before .before .before .args .cells)) (now (c .before .before .before .before .before .before .before .before .before .before .before .before .before .before .args .values)) (c .before .before .before .before .before .before .before .before .before .before .before .before .before .before .args .ask) (has (drop (16 * u) (now (c .before .before .before .before .before .before .before .before .before .before .before .before .before .before .args .first)))) (has (drop (cond (c .before .before .before .before .before .before .before .before .before .before .before .before .before .before .args .each) (16 * u) 0) (now (c .before .before .before .before .before .before .before .before .before .before .before .before .before .before .args .second)))) u)) (c .before .before .before .before .before .before .before .before .before .loop .v) (c .before .before .or-not .result) (c .before .before .before .before .before .before .before .before .before .loop .inv .1)
-      (c .before .before .or-not .ensures ∙ ap (orNot (c .before .before .before .before .before .before .before .before .before .before .before .before .before .before .args .breaks)) (c .before .before .before .before .ask-holds .ensures ∙ ap₂ (λ (x y : List ℕ). asked (now (c .before .before .before .before .before .before .before .before .before .before .before .before .before .before .args .cells)) (now (c .before .before .before .before .before .before .before .before .before .before .before .before .before .before .args .values)) (c .before .before .before .before .before .before .before .before .before .before .before .before .before .before .args .ask) (has x) (has y) (c .before .before .before .before .before .before .before .before .before .loop .v)) (c .before .before .before .before .before .before .before .part .ensures) (c .before .before .before .before .before .part2 .ensures ∙ ap (λ (k : ℕ). drop k (now (c .before .before .before .before .before .before .before .before .before .before .before .before .before .before .args .second))) (c .before .before .before .before .before .before .place .ensures)))),
-)
+loop-again c =
+    let a = c .before .before .before .before .before .before .before .before .before .before .before .before .before .args in
+    let cs = a .cells .now in
+    let vs = a .values .now in
+    let l = c .before .before .before .before .before .before .before .before .loop in (
+      omega arith,
+      c .before .insert-if .ensures ∙ nodes-more (λ u. holdsOf cs vs (a .condition) (has (drop (16 * u) (a .first .now))) (has (drop (cond (a .each) (16 * u) 0) (a .second .now))) u) (l .v) (c .before .before .before .condition-holds .result) (l .inv .1)
+          (c .before .before .before .condition-holds .ensures ∙ ap₂ (λ (x y : List ℕ). holdsOf cs vs (a .condition) (has x) (has y) (l .v)) (c .before .before .before .before .before .before .part .ensures) (c .before .before .before .before .part2 .ensures ∙ ap (λ (k : ℕ). drop k (a .second .now)) (c .before .before .before .before .before .place .ensures))),
+    )
 
 returns : tie.Need-returns Inv-loop μ-loop
-returns c = nodes-done (λ u. orNot (c .before .before .before .before .before .before .args .breaks) (asked (now (c .before .before .before .before .before .before .args .cells)) (now (c .before .before .before .before .before .before .args .values)) (c .before .before .before .before .before .before .args .ask) (has (drop (16 * u) (now (c .before .before .before .before .before .before .args .first)))) (has (drop (cond (c .before .before .before .before .before .before .args .each) (16 * u) 0) (now (c .before .before .before .before .before .before .args .second)))) u)) (c .before .loop .v) _ (omega (arith, c .before .before .node-count .ensures)) (c .before .loop .inv .1)
+returns c = nodes-done (λ u. holdsOf (now (c .before .before .before .before .before .before .args .cells)) (now (c .before .before .before .before .before .before .args .values)) (c .before .before .before .before .before .before .args .condition) (has (drop (16 * u) (now (c .before .before .before .before .before .before .args .first)))) (has (drop (cond (c .before .before .before .before .before .before .args .each) (16 * u) 0) (now (c .before .before .before .before .before .before .args .second)))) u) (c .before .loop .v) _ (omega (arith, c .before .before .node-count .ensures)) (c .before .loop .inv .1)
 
 pub nodes-where-spec : {M : Type 1} → statement M
 nodes-where-spec =
@@ -76,9 +77,8 @@ nodes-where-spec =
     part-requires
     place-requires
     part-requires-2
-    ask-holds-requires
+    condition-holds-requires
     slice-aggregate-insert-if
-    or-not-requires
     insert-if-requires
     add-v
     loop-less

@@ -8,7 +8,7 @@ use Rattle.model.specs.Shapes.{from}
 use Rattle.tables.specs.Decode.{graphAt, pathAt}
 use Rattle.tables.proofs.WellFormed.{sound}
 use Rattle.stepsets.specs.Ends.{Held}
-use Rattle.stepsets.proofs.Asks.{where-ext}
+use Rattle.stepsets.proofs.Conditions.{where-ext}
 use Rattle.stepsets.proofs.Rows.{row-path, path-right}
 use borrow.Author.Needs.{needs}
 use Rattle.stepsets.proofs.path_set.Statement.{statement}
@@ -37,7 +37,7 @@ returns c =
     let vs = a .values .now in
     let k = c .before .before .before .before .before .keep-ends in (
       c .nodes-where .ensures
-          ∙ where-ext cs vs (sound cs (pre .0 .ok) .nodes) (a .ask) (a .breaks) (λ v. has (drop (16 * v) (k .last .0))) (from (graphAt cs vs) (pathAt cs (a .p))) (λ v. has (c .before .part .result .now)) (λ v. has (drop (16 * a .j) (a .work .now)))
+          ∙ where-ext cs vs (sound cs (pre .0 .ok) .nodes) (a .condition) (λ v. has (drop (16 * v) (k .last .0))) (from (graphAt cs vs) (pathAt cs (a .p))) (λ v. has (c .before .part .result .now)) (λ v. has (drop (16 * a .j) (a .work .now)))
           (row-path cs (a .index .now) (pre .0) vs (a .p) (pre .1) (k .ensures .0)) (λ v l w lw. ap (λ (d : List ℕ). has d w) (c .before .part .ensures)),
       subst (λ (x : ℕ). Held cs x (k .last .0)) (sym (k .ensures .1)) (k .ensures .0),
     )

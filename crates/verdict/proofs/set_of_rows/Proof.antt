@@ -8,7 +8,7 @@ use borrow.Author.Needs.{needs}
 use Rattle.tables.specs.Layout.{pathCount, formCodeAt, formFirstAt, formSecondAt, formThirdAt, formFourthAt}
 use Rattle.tables.specs.WellFormed.{endOk}
 use Rattle.entries.proofs.Codes.{count-path, all-path, lang-path, set-end}
-use Rattle.stepsets.specs.Asks.{askOk}
+use Rattle.stepsets.specs.Conditions.{conditionOk}
 use Rattle.verdict.specs.Memo.{Ready}
 use Rattle.verdict.proofs.Parts.{first-by}
 use Rattle.verdict.proofs.Holds.{code-le}
@@ -73,27 +73,27 @@ form-code-requires : tie.Need-form-code-requires
 form-code-requires c κs = search needs
 
 path-set-requires : tie.Need-path-set-requires
-unfolding askOk
+unfolding conditionOk
 path-set-requires c κs = (ready (c .before .before .before) .tables, subst (λ (p : ℕ). p < pathCount (cells (c .before .before .before))) (sym (first (c .before .before .before))) (count-path (cells (c .before .before .before)) (ready (c .before .before .before) .tables) [] (c .before .before .before .before .before .before .before .before .before .before .before .before .before .before .before .before .before .before .args .e) (ready (c .before .before .before) .entry) (sym (c .before .before .before .form-code .ensures) ∙ c .before .before .match .keys1)), part-room (ready (c .before .before .before)) 13 (sym (c .before .before .before .form-code .ensures) ∙ c .before .before .match .keys1) refl (first-by (cells (c .before .before .before)) (c .before .before .before .before .before .before .before .before .before .before .before .before .before .before .before .before .before .before .args .e) 13 (sym (c .before .before .before .form-code .ensures) ∙ c .before .before .match .keys1)) (half (c .before .before .before)), refl, c .before .before .before .before .before .before .before .before .before .before .before .before .before .before .before .before .before .before .pre .3)
 
 path-set-requires-2 : tie.Need-path-set-requires-2
-unfolding askOk
+unfolding conditionOk
 path-set-requires-2 c κs = (ready (c .before .before .before) .tables, subst (λ (p : ℕ). p < pathCount (cells (c .before .before .before))) (sym (first (c .before .before .before))) (all-path (cells (c .before .before .before)) (ready (c .before .before .before) .tables) [] (c .before .before .before .before .before .before .before .before .before .before .before .before .before .before .before .before .before .before .args .e) (ready (c .before .before .before) .entry) (sym (c .before .before .before .form-code .ensures) ∙ c .before .before .match .keys2)), part-room (ready (c .before .before .before)) 14 (sym (c .before .before .before .form-code .ensures) ∙ c .before .before .match .keys2) refl (first-by (cells (c .before .before .before)) (c .before .before .before .before .before .before .before .before .before .before .before .before .before .before .before .before .before .before .args .e) 14 (sym (c .before .before .before .form-code .ensures) ∙ c .before .before .match .keys2)) (half (c .before .before .before)), refl, c .before .before .before .before .before .before .before .before .before .before .before .before .before .before .before .before .before .before .pre .3)
 
 ends-set-requires : tie.Need-ends-set-requires
-unfolding askOk
+unfolding conditionOk
 ends-set-requires c κs = (ready (c .before .before .before .before .before) .tables, end-ok (c .before .before .before .before .before) 15 (sym (c .before .before .before .before .before .form-code .ensures) ∙ c .before .before .before .before .match .keys3) (omega arith) (omega arith) (λ z. let y : ⊥ = omega arith in y), refl, c .before .before .before .before .before .before .before .before .before .before .before .before .before .before .before .before .before .before .before .before .pre .3, c .before .before .before .before .before .before .before .before .before .before .before .before .before .before .before .before .before .before .before .before .pre .4)
 
 ends-set-requires-2 : tie.Need-ends-set-requires-2
-unfolding askOk
+unfolding conditionOk
 ends-set-requires-2 c κs = (ready (c .before .before .before .before .before) .tables, end-ok (c .before .before .before .before .before) 16 (sym (c .before .before .before .before .before .form-code .ensures) ∙ c .before .before .before .before .match .keys4) (omega arith) (omega arith) (λ z. let y : ⊥ = omega arith in y), refl, c .before .before .before .before .before .before .before .before .before .before .before .before .before .before .before .before .before .before .before .before .pre .3, c .before .before .before .before .before .before .before .before .before .before .before .before .before .before .before .before .before .before .before .before .pre .4)
 
 ends-set-requires-3 : tie.Need-ends-set-requires-3
-unfolding askOk
+unfolding conditionOk
 ends-set-requires-3 c κs = (ready (c .before .before .before .before .before) .tables, end-ok (c .before .before .before .before .before) 18 (sym (c .before .before .before .before .before .form-code .ensures) ∙ c .before .before .before .before .match .keys5) (omega arith) (omega arith) (λ z. let y : ⊥ = omega arith in y), refl, c .before .before .before .before .before .before .before .before .before .before .before .before .before .before .before .before .before .before .before .before .pre .3, c .before .before .before .before .before .before .before .before .before .before .before .before .before .before .before .before .before .before .before .before .pre .4)
 
 ends-set-requires-4 : tie.Need-ends-set-requires-4
-unfolding askOk
+unfolding conditionOk
 ends-set-requires-4 c κs = (ready (c .before .before .before .before .before) .tables, end-ok (c .before .before .before .before .before) 19 (sym (c .before .before .before .before .before .form-code .ensures) ∙ c .before .before .before .before .match .keys6) (omega arith) (omega arith) (λ z. let y : ⊥ = omega arith in y), refl, c .before .before .before .before .before .before .before .before .before .before .before .before .before .before .before .before .before .before .before .before .pre .3, c .before .before .before .before .before .before .before .before .before .before .before .before .before .before .before .before .before .before .before .before .pre .4)
 
 -- the code that is left
@@ -120,7 +120,8 @@ lang c =
     sym e ∙ last-four k past most n17 n18 n19
 
 lang-set-requires : tie.Need-lang-set-requires
-lang-set-requires c κs = (ready (c .before .before .before) .tables, subst (λ (p : ℕ). p < pathCount (cells (c .before .before .before))) (sym (first (c .before .before .before))) (lang-path (cells (c .before .before .before)) (ready (c .before .before .before) .tables) [] (c .before .before .before .before .before .before .before .before .before .before .before .before .before .before .before .before .before .before .args .e) (ready (c .before .before .before) .entry) (lang (c .before .before))), c .before .before .before .before .before .before .before .before .before .before .before .before .before .before .before .before .before .before .pre .3)
+unfolding conditionOk
+lang-set-requires c κs = (ready (c .before .before .before) .tables, subst (λ (p : ℕ). p < pathCount (cells (c .before .before .before))) (sym (first (c .before .before .before))) (lang-path (cells (c .before .before .before)) (ready (c .before .before .before) .tables) [] (c .before .before .before .before .before .before .before .before .before .before .before .before .before .before .before .before .before .before .args .e) (ready (c .before .before .before) .entry) (lang (c .before .before))), refl, c .before .before .before .before .before .before .before .before .before .before .before .before .before .before .before .before .before .before .pre .3)
 
 same-length : tie.Need-same-length
 same-length c = search needs
