@@ -7,7 +7,7 @@ use native.Mathlib.Nat.{eq-or-lt-of-le, le-of-suc-le-suc}
 use native.Mathlib.Omega.{arith}
 use lib.ListN.{length, take, drop, set, getD, length-set, take-append-drop}
 use lib.Seq.{take-append-le, drop-append-le, take-append-seam, drop-at, length-take-le, getD-set-same, getD-set-other}
-use Rattle.lists.specs.Rows.{over, withRow, withRows, withLengths, rowIn, row}
+use Rattle.lists.specs.Rows.{over, withRow, withRows, withLengths, rowIn}
 use Rattle.model.specs.Limits.{maxNodes}
 use Rattle.lists.proofs.Rows.{length-row}
 

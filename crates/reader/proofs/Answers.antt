@@ -7,8 +7,9 @@ use lib.IntN.{ℤ}
 use Rattle.model.specs.Answers.{Answer, refusal, mapValue}
 use Rattle.tables.specs.Sizes.{longEnough}
 use Rattle.grammar.specs.Reading.{reading}
+use Rattle.model.specs.Sizes.{countsIn}
 use Rattle.model.specs.declared.Counts.{Counts}
-use Rattle.reader.specs.Answers.{countsIn, namesLeft, cellsLeft, valuesLeft, readAnswer, namesOf, cellsOf, valuesOf}
+use Rattle.reader.specs.Answers.{namesLeft, cellsLeft, valuesLeft, readAnswer, namesOf, cellsOf, valuesOf}
 
 module _ (s ns cs : List ℕ) (vs : List ℤ) where
   -- x: the answer, then each table afterwards

@@ -1,4 +1,5 @@
 -- Cleared tables with the built-in names.
+use Prim.Native.Nat.{ℕ}
 use mathlib.Core.Path.{_≡_, sym, ap, _∙_}
 use mathlib.Core.List.{List, [], _++_}
 use lib.IntN.{ℤ, pos}

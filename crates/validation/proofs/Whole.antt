@@ -39,6 +39,7 @@ use Rattle.lists.proofs.ReadOff.{row-read}
 use Rattle.tablerun.specs.Lists.{listAt}
 use Rattle.tablerun.proofs.Lists.{rule-nodes, rows-same, lengths-same}
 use Rattle.validation.specs.Claim.{ruleOf, Right, Demand3}
+use Rattle.model.specs.Sizes.{countsIn}
 use Rattle.model.specs.declared.Counts.{Counts}
 use Rattle.validation.specs.Lent.{Lent, lent, validateLong, namesIn, cellsIn, valuesIn, planIn}
 use Rattle.validation.specs.Whole.{left, validateAnswer, after}
@@ -163,23 +164,23 @@ module _ (s : List ℕ) (l : Lent) where
 
 -- ---- what read's answer tells, for tables that are long enough
 module _ (s ns cs : List ℕ) (vs : List ℤ) (e : longEnough ns cs vs ≡ true) where
-  by-reading : reads.readAnswer s ns cs vs ≡ mapValue reads.countsIn (reading s)
+  by-reading : reads.readAnswer s ns cs vs ≡ mapValue countsIn (reading s)
   unfolding reads.readAnswer
   by-reading = rw e refl
 
   pub was-refused : (x : ReadAnswer) (r : Refusal) → reads.answerOf x ≡ reads.readAnswer s ns cs vs → x ≡ answers.Refused r → reading s ≡ refusal (codeOf r) (lineOf r)
   was-refused x r p q = go (reading s) refl (ap reads.answerOf (sym q) ∙ p ∙ by-reading)
     where
-      go : (o : Answer Book) → reading s ≡ o → reads.answerOf (answers.Refused r) ≡ mapValue reads.countsIn (reading s) → reading s ≡ refusal (codeOf r) (lineOf r)
-      go (value b) a d = absurd (not-refused (sym (d ∙ ap (mapValue reads.countsIn) a)))
-      go (refusal k line) a d = let y = same-refusal (d ∙ ap (mapValue reads.countsIn) a) in a ∙ ap₂ refusal (sym (y .0)) (sym (y .1))
+      go : (o : Answer Book) → reading s ≡ o → reads.answerOf (answers.Refused r) ≡ mapValue countsIn (reading s) → reading s ≡ refusal (codeOf r) (lineOf r)
+      go (value b) a d = absurd (not-refused (sym (d ∙ ap (mapValue countsIn) a)))
+      go (refusal k line) a d = let y = same-refusal (d ∙ ap (mapValue countsIn) a) in a ∙ ap₂ refusal (sym (y .0)) (sym (y .1))
 
   pub was-accepted : (x : ReadAnswer) (n : Counts) → reads.answerOf x ≡ reads.readAnswer s ns cs vs → x ≡ answers.Accepted n → (b : Book) × (reading s ≡ value b)
   was-accepted x n p q = go (reading s) refl (ap reads.answerOf (sym q) ∙ p ∙ by-reading)
     where
-      go : (o : Answer Book) → reading s ≡ o → reads.answerOf (answers.Accepted n) ≡ mapValue reads.countsIn (reading s) → (b : Book) × (reading s ≡ value b)
+      go : (o : Answer Book) → reading s ≡ o → reads.answerOf (answers.Accepted n) ≡ mapValue countsIn (reading s) → (b : Book) × (reading s ≡ value b)
       go (value b) a d = (b, a)
-      go (refusal k line) a d = absurd (not-refused (d ∙ ap (mapValue reads.countsIn) a))
+      go (refusal k line) a d = absurd (not-refused (d ∙ ap (mapValue countsIn) a))
 
   module _ (o : Answer Book) (a : reading s ≡ o) where
     pub names-left : reads.namesOf s ns cs vs ≡ reads.namesLeft o ns

@@ -5,7 +5,8 @@ use Rattle.model.specs.Answers.{Answer, mapValue}
 use Rattle.model.specs.Books.{Book}
 use Rattle.tables.specs.Sizes.{longEnough}
 use Rattle.tables.proofs.Sizes.{Long, long}
-use Rattle.reader.specs.Answers.{countsIn, namesLeft, cellsLeft, valuesLeft}
+use Rattle.model.specs.Sizes.{countsIn}
+use Rattle.reader.specs.Answers.{namesLeft, cellsLeft, valuesLeft}
 use Rattle.reader.proofs.Answers.{answered-short, answered-long}
 use Rattle.reader.proofs.Outcomes.{reading-long}
 use borrow.Author.Needs.{needs}
