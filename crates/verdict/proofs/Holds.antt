@@ -86,7 +86,7 @@ module _ {cs index : List ℕ} {vs : List ℤ} {memo : List ℕ} {e v : ℕ} (k 
       ap (λ (b : ℕ). has memo (yesPlace b w)) eb ∙ known-right cs vs memo (secondPart cs e) w (k .ready .right) (low w l) (k .parts (parts-by cs e n q ∙ hp) w l h .1)
       ∙ ap (λ (b : ℕ). conforms (graphAt cs vs) (shapeAt cs vs b) w) (second-by cs e n q)
 
-  -- the numbers of the parts are below 112
+  -- the numbers of the parts are below the limit
   pub first-lt : (a : ℕ) → a ≡ firstPart cs e → hasParts cs e ≡ true → a < maxForms
   first-lt a ea h = omega (arith, ea, parts-lower cs e (k .ready .tables) (k .ready .entry) h .0, k .ready .entry, sound-of cs (k .ready .tables) .forms)
 

@@ -8,10 +8,12 @@ use lib.Dec.{eqb, leb}
 use lib.IntN.{ℤ}
 use Rattle.nodeset.specs.Words.{has}
 use Rattle.model.specs.Paths.{ends}
-use Rattle.model.specs.Shapes.{conforms}
+use Rattle.model.specs.Shapes.{conforms, starts, objects}
 use Rattle.tables.specs.Layout.{nodeCount, formCodeAt, formFirstAt, formSecondAt, rootAt}
 use Rattle.tables.specs.Codes as codes
-use Rattle.tables.specs.Decode.{triplesAt, graphAt, pathAt, shapeAt}
+use Rattle.tables.specs.Decode.{triplesAt, graphAt, pathAt, endAt, shapeAt}
+use Rattle.stepsets.specs.Asks.{asked}
+use Rattle.stepsets.specs.declared.Ask.{Ask}
 use Rattle.verdict.specs.Memo.{settled, Ready}
 
 -- by code: `count` and `all`; these and `shape`, `and`, `or`, `not`
@@ -48,6 +50,10 @@ module _ (cs : List ℕ) (e : ℕ) where
   -- wherever it looks, the verdict on the parts is known
   abbrev pub PartsKnown : List ℕ → ℕ → Type 0
   PartsKnown memo v = hasParts ≡ true → (w : ℕ) → w < nodeCount cs → looksAt v w ≡ true → (settled memo firstPart w ≡ true) × (settled memo secondPart w ≡ true)
+
+-- the answer on node v for a condition on two sets: the ends of END f, and the objects of link l
+abbrev pub pairOf : List ℕ → List ℤ → Ask → ℕ → ℕ → ℕ → Bool
+pairOf cs vs ask f l v = asked cs vs ask (starts (graphAt cs vs) (endAt cs f) v) (objects (graphAt cs vs) l v) v
 
 -- a set has the nodes that conform to entry e, of those where what is known is enough to tell
 abbrev pub Tells : List ℕ → List ℤ → List ℕ → ℕ → List ℕ → Type 0

@@ -53,15 +53,16 @@ ghost use Rattle.base.specs.Bounded.{every};
 ghost use Rattle.nodeset.specs.Words.{has, wordsOf, with};
 ghost use Rattle.model.specs.Shapes.{conforms};
 ghost use Rattle.model.specs.Limits.{maxNodes, maxForms};
-ghost use Rattle.tables.specs.Layout.{cellCount, nodeCount, formCount, formCodeAt};
+ghost use Rattle.tables.specs.Layout.{cellCount, nodeCount, formCount, formCodeAt, formFirstAt, formSecondAt};
 ghost use Rattle.tables.specs.Codes as codes;
 ghost use Rattle.tables.specs.Decode.{graphAt, shapeAt};
-ghost use Rattle.tables.specs.WellFormed.{wellFormed};
+ghost use Rattle.tables.specs.WellFormed.{wellFormed, endOk};
 ghost use Rattle.paths.specs.Facts.{Tables};
+ghost use Rattle.stepsets.specs.Asks.{askOk, nodesOf};
 ghost use Rattle.stepsets.specs.Ends.{Held};
 ghost use Rattle.verdict.specs.Answers.{decisionOf, judgedOn, judged, isGiven, tallied};
 ghost use Rattle.verdict.specs.Memo.{yesPlace, noPlace, Ready, Decided, Settled, memoCount};
-ghost use Rattle.verdict.specs.Parts.{looksAtEnds, hasParts, firstPart, secondPart, looksAt, PartsKnown, Tells, Enough};
+ghost use Rattle.verdict.specs.Parts.{looksAtEnds, hasParts, firstPart, secondPart, looksAt, PartsKnown, Tells, Enough, pairOf};
 
 // How long the memo is: 32 words for each entry; and the rows of ends: sixteen for each node.
 const MEMO_WORDS: usize = 32 * MAX_FORMS;
@@ -198,12 +199,45 @@ fn entry_holds(
     }
 }
 
-// The nodes that conform to entry e, which looks along a path, all at once. Of a node where what is known of the parts is not
-// enough nothing is said. first and second are rows for the ends of all nodes: of number end, and of number link.
-fn set_of_rows(
-    first: &mut [u64],
+// The nodes of which a condition on two sets of ends holds: those of END of entry e and those of its link. ends and links are
+// rows for the ends of all nodes: of number end, and of number link.
+fn pair_set(
+    ends: &mut [u64],
     end: &mut usize,
-    second: &mut [u64],
+    links: &mut [u64],
+    link: &mut usize,
+    ask: Ask,
+    cells: &[u16],
+    index: &[u16],
+    values: &[i64],
+    e: usize,
+) -> NodeSet
+    requires { ⌜ Tables (now cells) (now index) × (endOk (now cells) (formFirstAt (now cells) e) ≡ true) × (askOk (now cells) ask ≡ true) × Held (now cells) (now end) (now ends) × Held (now cells) (now link) (now links) ⌝ }
+    ensures { λ r. ⌜ r .words ≡ nodesOf (pairOf (now (cells .entry)) (now (values .entry)) ask (formFirstAt (now (cells .entry)) e) (formSecondAt (now (cells .entry)) e)) (nodeCount (now (cells .entry))) ⌝ }
+{
+    let p = wide(form_first(cells, e));
+    let l = form_link(cells, e);
+    ends_set(
+        ends,
+        end,
+        links,
+        link,
+        ask,
+        false,
+        cells,
+        index,
+        values,
+        p,
+        l,
+    )
+}
+
+// The nodes that conform to entry e, which looks along a path, all at once. Of a node where what is known of the parts is not
+// enough nothing is said.
+fn set_of_rows(
+    ends: &mut [u64],
+    end: &mut usize,
+    links: &mut [u64],
     link: &mut usize,
     memo: &[u64],
     cells: &[u16],
@@ -211,17 +245,16 @@ fn set_of_rows(
     values: &[i64],
     e: usize,
 ) -> NodeSet
-    requires { ⌜ Ready (now cells) (now index) (now values) (now memo) e × (codes.formCount ≤ formCodeAt (now cells) e) × (formCodeAt (now cells) e ≡ codes.formClosed → ⊥) × Held (now cells) (now end) (now first) × Held (now cells) (now link) (now second) ⌝ }
+    requires { ⌜ Ready (now cells) (now index) (now values) (now memo) e × (codes.formCount ≤ formCodeAt (now cells) e) × (formCodeAt (now cells) e ≡ codes.formClosed → ⊥) × Held (now cells) (now end) (now ends) × Held (now cells) (now link) (now links) ⌝ }
     ensures { λ r. ⌜ Tells (now (cells .entry)) (now (values .entry)) (now (memo .entry)) e (r .words) ⌝ }
 {
     let p = wide(form_first(cells, e));
-    let l = form_link(cells, e);
     let count = Ask::Count(wide(form_third(cells, e)), wide(form_fourth(cells, e)));
     let j = 2 * wide(form_second(cells, e));
     match form_code(cells, e) {
-        codes::FORM_COUNT => path_set(first, end, count, false, cells, index, values, p, memo, j),
+        codes::FORM_COUNT => path_set(ends, end, count, false, cells, index, values, p, memo, j),
         codes::FORM_ALL => path_set(
-            first,
+            ends,
             end,
             Ask::Every,
             false,
@@ -232,59 +265,21 @@ fn set_of_rows(
             memo,
             j,
         ),
-        codes::FORM_EQUAL => ends_set(
-            first,
+        codes::FORM_EQUAL => pair_set(ends, end, links, link, Ask::Equal, cells, index, values, e),
+        codes::FORM_APART => pair_set(ends, end, links, link, Ask::Apart, cells, index, values, e),
+        codes::FORM_LESS => pair_set(ends, end, links, link, Ask::Less, cells, index, values, e),
+        codes::FORM_LESSEQ => pair_set(
+            ends,
             end,
-            second,
-            link,
-            Ask::Equal,
-            false,
-            cells,
-            index,
-            values,
-            p,
-            l,
-        ),
-        codes::FORM_APART => ends_set(
-            first,
-            end,
-            second,
-            link,
-            Ask::Apart,
-            false,
-            cells,
-            index,
-            values,
-            p,
-            l,
-        ),
-        codes::FORM_LESS => ends_set(
-            first,
-            end,
-            second,
-            link,
-            Ask::Less,
-            false,
-            cells,
-            index,
-            values,
-            p,
-            l,
-        ),
-        codes::FORM_LESSEQ => ends_set(
-            first,
-            end,
-            second,
+            links,
             link,
             Ask::LessEq,
-            false,
             cells,
             index,
             values,
-            p,
-            l,
+            e,
         ),
-        _ => lang_set(first, end, false, cells, index, values, p),
+        _ => lang_set(ends, end, false, cells, index, values, p),
     }
 }
 
@@ -293,14 +288,14 @@ fn set_along(memo: &[u64], cells: &[u16], index: &[u16], values: &[i64], e: usiz
     requires { ⌜ Ready (now cells) (now index) (now values) (now memo) e × (codes.formCount ≤ formCodeAt (now cells) e) × (formCodeAt (now cells) e ≡ codes.formClosed → ⊥) ⌝ }
     ensures { λ r. ⌜ Tells (now (cells .entry)) (now (values .entry)) (now (memo .entry)) e (r .words) ⌝ }
 {
-    let mut first = [0u64; ROWS_WORDS];
-    let mut second = [0u64; ROWS_WORDS];
+    let mut ends = [0u64; ROWS_WORDS];
+    let mut links = [0u64; ROWS_WORDS];
     let mut end = NO_END;
     let mut link = NO_END;
     set_of_rows(
-        &mut first,
+        &mut ends,
         &mut end,
-        &mut second,
+        &mut links,
         &mut link,
         memo,
         cells,

@@ -18,35 +18,32 @@ use Rattle.verdict.proofs.set_of_rows.Tie as tie
 
 -- ---- what is known before the match: the tables and the operands
 abbrev cells : tie.After-form-code → List ℕ
-cells m = m .before .before .before .before .before .before .before .before .before .before .before .before .before .before .before .args .cells .now
+cells m = m .before .before .before .before .before .before .before .before .before .before .before .before .before .before .args .cells .now
 
-ready : (m : tie.After-form-code) → Ready (cells m) (m .before .before .before .before .before .before .before .before .before .before .before .before .before .before .before .args .index .now) (m .before .before .before .before .before .before .before .before .before .before .before .before .before .before .before .args .values .now) (m .before .before .before .before .before .before .before .before .before .before .before .before .before .before .before .args .memo .now) (m .before .before .before .before .before .before .before .before .before .before .before .before .before .before .before .args .e)
-ready m = m .before .before .before .before .before .before .before .before .before .before .before .before .before .before .before .pre .0
+ready : (m : tie.After-form-code) → Ready (cells m) (m .before .before .before .before .before .before .before .before .before .before .before .before .before .before .args .index .now) (m .before .before .before .before .before .before .before .before .before .before .before .before .before .before .args .values .now) (m .before .before .before .before .before .before .before .before .before .before .before .before .before .before .args .memo .now) (m .before .before .before .before .before .before .before .before .before .before .before .before .before .before .args .e)
+ready m = m .before .before .before .before .before .before .before .before .before .before .before .before .before .before .pre .0
 
-first : (m : tie.After-form-code) → m .before .before .before .before .before .before .before .before .wide .result ≡ formFirstAt (cells m) (m .before .before .before .before .before .before .before .before .before .before .before .before .before .before .before .args .e)
-first m = m .before .before .before .before .before .before .before .before .wide .ensures ∙ m .before .before .before .before .before .before .before .before .before .form-first .ensures
+first : (m : tie.After-form-code) → m .before .before .before .before .before .before .before .wide .result ≡ formFirstAt (cells m) (m .before .before .before .before .before .before .before .before .before .before .before .before .before .before .args .e)
+first m = m .before .before .before .before .before .before .before .wide .ensures ∙ m .before .before .before .before .before .before .before .before .form-first .ensures
 
-half : (m : tie.After-form-code) → 2 * m .before .wide4 .result ≡ 2 * formSecondAt (cells m) (m .before .before .before .before .before .before .before .before .before .before .before .before .before .before .before .args .e)
+half : (m : tie.After-form-code) → 2 * m .before .wide4 .result ≡ 2 * formSecondAt (cells m) (m .before .before .before .before .before .before .before .before .before .before .before .before .before .before .args .e)
 half m = ap (λ (x : ℕ). 2 * x) (m .before .wide4 .ensures ∙ m .before .before .form-second .ensures)
 
-low : (m : tie.After-form-code) → m .before .before .before .before .before .wide2 .result ≡ formThirdAt (cells m) (m .before .before .before .before .before .before .before .before .before .before .before .before .before .before .before .args .e)
+low : (m : tie.After-form-code) → m .before .before .before .before .before .wide2 .result ≡ formThirdAt (cells m) (m .before .before .before .before .before .before .before .before .before .before .before .before .before .before .args .e)
 low m = m .before .before .before .before .before .wide2 .ensures ∙ m .before .before .before .before .before .before .form-third .ensures
 
-high : (m : tie.After-form-code) → m .before .before .before .wide3 .result ≡ formFourthAt (cells m) (m .before .before .before .before .before .before .before .before .before .before .before .before .before .before .before .args .e)
+high : (m : tie.After-form-code) → m .before .before .before .wide3 .result ≡ formFourthAt (cells m) (m .before .before .before .before .before .before .before .before .before .before .before .before .before .before .args .e)
 high m = m .before .before .before .wide3 .ensures ∙ m .before .before .before .before .form-fourth .ensures
 
 -- END of the four conditions on two sets
-end-ok : (m : tie.After-form-code) (n : ℕ) → formCodeAt (cells m) (m .before .before .before .before .before .before .before .before .before .before .before .before .before .before .before .args .e) ≡ n → 15 ≤ n → n ≤ 19 → (n ≡ 17 → ⊥) → endOk (cells m) (m .before .before .before .before .before .before .before .before .wide .result) ≡ true
-end-ok m n q a b ne = ap (endOk (cells m)) (first m) ∙ set-end (cells m) (ready m .tables) [] (m .before .before .before .before .before .before .before .before .before .before .before .before .before .before .before .args .e) (ready m .entry) (omega (arith, q)) (omega (arith, q)) (λ h. ne (sym q ∙ h))
+end-ok : (m : tie.After-form-code) (n : ℕ) → formCodeAt (cells m) (m .before .before .before .before .before .before .before .before .before .before .before .before .before .before .args .e) ≡ n → 15 ≤ n → n ≤ 19 → (n ≡ 17 → ⊥) → endOk (cells m) (formFirstAt (cells m) (m .before .before .before .before .before .before .before .before .before .before .before .before .before .before .args .e)) ≡ true
+end-ok m n q a b ne = set-end (cells m) (ready m .tables) [] (m .before .before .before .before .before .before .before .before .before .before .before .before .before .before .args .e) (ready m .entry) (omega (arith, q)) (omega (arith, q)) (λ h. ne (sym q ∙ h))
 
 form-first-requires : tie.Need-form-first-requires
 form-first-requires c κs = search needs
 
 wide-requires : tie.Need-wide-requires
 wide-requires c κs = search needs
-
-form-link-requires : tie.Need-form-link-requires
-form-link-requires c κs = search needs
 
 form-third-requires : tie.Need-form-third-requires
 form-third-requires c κs = search needs
@@ -74,27 +71,27 @@ form-code-requires c κs = search needs
 
 path-set-requires : tie.Need-path-set-requires
 unfolding askOk
-path-set-requires c κs = (ready (c .before .before .before) .tables, subst (λ (p : ℕ). p < pathCount (cells (c .before .before .before))) (sym (first (c .before .before .before))) (count-path (cells (c .before .before .before)) (ready (c .before .before .before) .tables) [] (c .before .before .before .before .before .before .before .before .before .before .before .before .before .before .before .before .before .before .args .e) (ready (c .before .before .before) .entry) (sym (c .before .before .before .form-code .ensures) ∙ c .before .before .match .keys1)), part-room (ready (c .before .before .before)) 13 (sym (c .before .before .before .form-code .ensures) ∙ c .before .before .match .keys1) refl (first-by (cells (c .before .before .before)) (c .before .before .before .before .before .before .before .before .before .before .before .before .before .before .before .before .before .before .args .e) 13 (sym (c .before .before .before .form-code .ensures) ∙ c .before .before .match .keys1)) (half (c .before .before .before)), refl, c .before .before .before .before .before .before .before .before .before .before .before .before .before .before .before .before .before .before .pre .3)
+path-set-requires c κs = (ready (c .before .before .before) .tables, subst (λ (p : ℕ). p < pathCount (cells (c .before .before .before))) (sym (first (c .before .before .before))) (count-path (cells (c .before .before .before)) (ready (c .before .before .before) .tables) [] (c .before .before .before .before .before .before .before .before .before .before .before .before .before .before .before .before .before .args .e) (ready (c .before .before .before) .entry) (sym (c .before .before .before .form-code .ensures) ∙ c .before .before .match .keys1)), part-room (ready (c .before .before .before)) 13 (sym (c .before .before .before .form-code .ensures) ∙ c .before .before .match .keys1) refl (first-by (cells (c .before .before .before)) (c .before .before .before .before .before .before .before .before .before .before .before .before .before .before .before .before .before .args .e) 13 (sym (c .before .before .before .form-code .ensures) ∙ c .before .before .match .keys1)) (half (c .before .before .before)), refl, c .before .before .before .before .before .before .before .before .before .before .before .before .before .before .before .before .before .pre .3)
 
 path-set-requires-2 : tie.Need-path-set-requires-2
 unfolding askOk
-path-set-requires-2 c κs = (ready (c .before .before .before) .tables, subst (λ (p : ℕ). p < pathCount (cells (c .before .before .before))) (sym (first (c .before .before .before))) (all-path (cells (c .before .before .before)) (ready (c .before .before .before) .tables) [] (c .before .before .before .before .before .before .before .before .before .before .before .before .before .before .before .before .before .before .args .e) (ready (c .before .before .before) .entry) (sym (c .before .before .before .form-code .ensures) ∙ c .before .before .match .keys2)), part-room (ready (c .before .before .before)) 14 (sym (c .before .before .before .form-code .ensures) ∙ c .before .before .match .keys2) refl (first-by (cells (c .before .before .before)) (c .before .before .before .before .before .before .before .before .before .before .before .before .before .before .before .before .before .before .args .e) 14 (sym (c .before .before .before .form-code .ensures) ∙ c .before .before .match .keys2)) (half (c .before .before .before)), refl, c .before .before .before .before .before .before .before .before .before .before .before .before .before .before .before .before .before .before .pre .3)
+path-set-requires-2 c κs = (ready (c .before .before .before) .tables, subst (λ (p : ℕ). p < pathCount (cells (c .before .before .before))) (sym (first (c .before .before .before))) (all-path (cells (c .before .before .before)) (ready (c .before .before .before) .tables) [] (c .before .before .before .before .before .before .before .before .before .before .before .before .before .before .before .before .before .args .e) (ready (c .before .before .before) .entry) (sym (c .before .before .before .form-code .ensures) ∙ c .before .before .match .keys2)), part-room (ready (c .before .before .before)) 14 (sym (c .before .before .before .form-code .ensures) ∙ c .before .before .match .keys2) refl (first-by (cells (c .before .before .before)) (c .before .before .before .before .before .before .before .before .before .before .before .before .before .before .before .before .before .args .e) 14 (sym (c .before .before .before .form-code .ensures) ∙ c .before .before .match .keys2)) (half (c .before .before .before)), refl, c .before .before .before .before .before .before .before .before .before .before .before .before .before .before .before .before .before .pre .3)
 
-ends-set-requires : tie.Need-ends-set-requires
+pair-set-requires : tie.Need-pair-set-requires
 unfolding askOk
-ends-set-requires c κs = (ready (c .before .before .before .before .before) .tables, end-ok (c .before .before .before .before .before) 15 (sym (c .before .before .before .before .before .form-code .ensures) ∙ c .before .before .before .before .match .keys3) (omega arith) (omega arith) (λ z. let y : ⊥ = omega arith in y), refl, c .before .before .before .before .before .before .before .before .before .before .before .before .before .before .before .before .before .before .before .before .pre .3, c .before .before .before .before .before .before .before .before .before .before .before .before .before .before .before .before .before .before .before .before .pre .4)
+pair-set-requires c κs = (ready (c .before .before .before .before .before) .tables, end-ok (c .before .before .before .before .before) 15 (sym (c .before .before .before .before .before .form-code .ensures) ∙ c .before .before .before .before .match .keys3) (omega arith) (omega arith) (λ z. let y : ⊥ = omega arith in y), refl, c .before .before .before .before .before .before .before .before .before .before .before .before .before .before .before .before .before .before .before .pre .3, c .before .before .before .before .before .before .before .before .before .before .before .before .before .before .before .before .before .before .before .pre .4)
 
-ends-set-requires-2 : tie.Need-ends-set-requires-2
+pair-set-requires-2 : tie.Need-pair-set-requires-2
 unfolding askOk
-ends-set-requires-2 c κs = (ready (c .before .before .before .before .before) .tables, end-ok (c .before .before .before .before .before) 16 (sym (c .before .before .before .before .before .form-code .ensures) ∙ c .before .before .before .before .match .keys4) (omega arith) (omega arith) (λ z. let y : ⊥ = omega arith in y), refl, c .before .before .before .before .before .before .before .before .before .before .before .before .before .before .before .before .before .before .before .before .pre .3, c .before .before .before .before .before .before .before .before .before .before .before .before .before .before .before .before .before .before .before .before .pre .4)
+pair-set-requires-2 c κs = (ready (c .before .before .before .before .before) .tables, end-ok (c .before .before .before .before .before) 16 (sym (c .before .before .before .before .before .form-code .ensures) ∙ c .before .before .before .before .match .keys4) (omega arith) (omega arith) (λ z. let y : ⊥ = omega arith in y), refl, c .before .before .before .before .before .before .before .before .before .before .before .before .before .before .before .before .before .before .before .pre .3, c .before .before .before .before .before .before .before .before .before .before .before .before .before .before .before .before .before .before .before .pre .4)
 
-ends-set-requires-3 : tie.Need-ends-set-requires-3
+pair-set-requires-3 : tie.Need-pair-set-requires-3
 unfolding askOk
-ends-set-requires-3 c κs = (ready (c .before .before .before .before .before) .tables, end-ok (c .before .before .before .before .before) 18 (sym (c .before .before .before .before .before .form-code .ensures) ∙ c .before .before .before .before .match .keys5) (omega arith) (omega arith) (λ z. let y : ⊥ = omega arith in y), refl, c .before .before .before .before .before .before .before .before .before .before .before .before .before .before .before .before .before .before .before .before .pre .3, c .before .before .before .before .before .before .before .before .before .before .before .before .before .before .before .before .before .before .before .before .pre .4)
+pair-set-requires-3 c κs = (ready (c .before .before .before .before .before) .tables, end-ok (c .before .before .before .before .before) 18 (sym (c .before .before .before .before .before .form-code .ensures) ∙ c .before .before .before .before .match .keys5) (omega arith) (omega arith) (λ z. let y : ⊥ = omega arith in y), refl, c .before .before .before .before .before .before .before .before .before .before .before .before .before .before .before .before .before .before .before .pre .3, c .before .before .before .before .before .before .before .before .before .before .before .before .before .before .before .before .before .before .before .pre .4)
 
-ends-set-requires-4 : tie.Need-ends-set-requires-4
+pair-set-requires-4 : tie.Need-pair-set-requires-4
 unfolding askOk
-ends-set-requires-4 c κs = (ready (c .before .before .before .before .before) .tables, end-ok (c .before .before .before .before .before) 19 (sym (c .before .before .before .before .before .form-code .ensures) ∙ c .before .before .before .before .match .keys6) (omega arith) (omega arith) (λ z. let y : ⊥ = omega arith in y), refl, c .before .before .before .before .before .before .before .before .before .before .before .before .before .before .before .before .before .before .before .before .pre .3, c .before .before .before .before .before .before .before .before .before .before .before .before .before .before .before .before .before .before .before .before .pre .4)
+pair-set-requires-4 c κs = (ready (c .before .before .before .before .before) .tables, end-ok (c .before .before .before .before .before) 19 (sym (c .before .before .before .before .before .form-code .ensures) ∙ c .before .before .before .before .match .keys6) (omega arith) (omega arith) (λ z. let y : ⊥ = omega arith in y), refl, c .before .before .before .before .before .before .before .before .before .before .before .before .before .before .before .before .before .before .before .pre .3, c .before .before .before .before .before .before .before .before .before .before .before .before .before .before .before .before .before .before .before .pre .4)
 
 -- the code that is left
 first-four : (k : ℕ) → 13 ≤ k → (k ≡ 13 → ⊥) → (k ≡ 14 → ⊥) → (k ≡ 15 → ⊥) → (k ≡ 16 → ⊥) → 17 ≤ k
@@ -103,10 +100,10 @@ first-four k l a b c d = omega arith
 last-four : (k : ℕ) → 17 ≤ k → k ≤ 20 → (k ≡ 17 → ⊥) → (k ≡ 18 → ⊥) → (k ≡ 19 → ⊥) → k ≡ 20
 last-four k l m a b c = omega arith
 
-lang : (c : tie.At-match-rest) → formCodeAt (cells (c .before)) (c .before .before .before .before .before .before .before .before .before .before .before .before .before .before .before .before .args .e) ≡ 20
+lang : (c : tie.At-match-rest) → formCodeAt (cells (c .before)) (c .before .before .before .before .before .before .before .before .before .before .before .before .before .before .before .args .e) ≡ 20
 lang c =
     let k = c .before .form-code .result in
-    let pre = c .before .before .before .before .before .before .before .before .before .before .before .before .before .before .before .before .pre in
+    let pre = c .before .before .before .before .before .before .before .before .before .before .before .before .before .before .before .pre in
     let e = c .before .form-code .ensures in
     let n13 : k ≡ 13 → ⊥ = c .match .rest .0 .0 .0 .0 .0 .1 in
     let n14 : k ≡ 14 → ⊥ = c .match .rest .0 .0 .0 .0 .1 in
@@ -120,7 +117,7 @@ lang c =
     sym e ∙ last-four k past most n17 n18 n19
 
 lang-set-requires : tie.Need-lang-set-requires
-lang-set-requires c κs = (ready (c .before .before .before) .tables, subst (λ (p : ℕ). p < pathCount (cells (c .before .before .before))) (sym (first (c .before .before .before))) (lang-path (cells (c .before .before .before)) (ready (c .before .before .before) .tables) [] (c .before .before .before .before .before .before .before .before .before .before .before .before .before .before .before .before .before .before .args .e) (ready (c .before .before .before) .entry) (lang (c .before .before))), c .before .before .before .before .before .before .before .before .before .before .before .before .before .before .before .before .before .before .pre .3)
+lang-set-requires c κs = (ready (c .before .before .before) .tables, subst (λ (p : ℕ). p < pathCount (cells (c .before .before .before))) (sym (first (c .before .before .before))) (lang-path (cells (c .before .before .before)) (ready (c .before .before .before) .tables) [] (c .before .before .before .before .before .before .before .before .before .before .before .before .before .before .before .before .before .args .e) (ready (c .before .before .before) .entry) (lang (c .before .before))), c .before .before .before .before .before .before .before .before .before .before .before .before .before .before .before .before .before .pre .3)
 
 same-length : tie.Need-same-length
 same-length c = search needs
@@ -141,7 +138,7 @@ same-length-4 : tie.Need-same-length-4
 same-length-4 c = search needs
 
 returns-3 : tie.Need-returns-3
-returns-3 c = equal-tells (ready (c .before .before .before .before .before .before .before .before .before .before)) (first (c .before .before .before .before .before .before .before .before .before .before)) (c .before .before .before .before .before .before .before .before .before .before .before .before .before .before .before .before .before .form-link .ensures) (sym (c .before .before .before .before .before .before .before .before .before .before .form-code .ensures) ∙ c .before .before .before .before .before .before .before .before .before .match .keys3) (c .before .before .before .before .ends-set .ensures .0)
+returns-3 c = equal-tells (ready (c .before .before .before .before .before .before .before .before .before .before)) refl refl (sym (c .before .before .before .before .before .before .before .before .before .before .form-code .ensures) ∙ c .before .before .before .before .before .before .before .before .before .match .keys3) (c .before .before .before .before .pair-set .ensures)
 
 same-length-5 : tie.Need-same-length-5
 same-length-5 c = search needs
@@ -150,7 +147,7 @@ same-length-6 : tie.Need-same-length-6
 same-length-6 c = search needs
 
 returns-4 : tie.Need-returns-4
-returns-4 c = apart-tells (ready (c .before .before .before .before .before .before .before .before .before .before)) (first (c .before .before .before .before .before .before .before .before .before .before)) (c .before .before .before .before .before .before .before .before .before .before .before .before .before .before .before .before .before .form-link .ensures) (sym (c .before .before .before .before .before .before .before .before .before .before .form-code .ensures) ∙ c .before .before .before .before .before .before .before .before .before .match .keys4) (c .before .before .before .before .ends-set2 .ensures .0)
+returns-4 c = apart-tells (ready (c .before .before .before .before .before .before .before .before .before .before)) refl refl (sym (c .before .before .before .before .before .before .before .before .before .before .form-code .ensures) ∙ c .before .before .before .before .before .before .before .before .before .match .keys4) (c .before .before .before .before .pair-set2 .ensures)
 
 same-length-7 : tie.Need-same-length-7
 same-length-7 c = search needs
@@ -159,7 +156,7 @@ same-length-8 : tie.Need-same-length-8
 same-length-8 c = search needs
 
 returns-5 : tie.Need-returns-5
-returns-5 c = less-tells (ready (c .before .before .before .before .before .before .before .before .before .before)) (first (c .before .before .before .before .before .before .before .before .before .before)) (c .before .before .before .before .before .before .before .before .before .before .before .before .before .before .before .before .before .form-link .ensures) (sym (c .before .before .before .before .before .before .before .before .before .before .form-code .ensures) ∙ c .before .before .before .before .before .before .before .before .before .match .keys5) (c .before .before .before .before .ends-set3 .ensures .0)
+returns-5 c = less-tells (ready (c .before .before .before .before .before .before .before .before .before .before)) refl refl (sym (c .before .before .before .before .before .before .before .before .before .before .form-code .ensures) ∙ c .before .before .before .before .before .before .before .before .before .match .keys5) (c .before .before .before .before .pair-set3 .ensures)
 
 same-length-9 : tie.Need-same-length-9
 same-length-9 c = search needs
@@ -168,7 +165,7 @@ same-length-10 : tie.Need-same-length-10
 same-length-10 c = search needs
 
 returns-6 : tie.Need-returns-6
-returns-6 c = lesseq-tells (ready (c .before .before .before .before .before .before .before .before .before .before)) (first (c .before .before .before .before .before .before .before .before .before .before)) (c .before .before .before .before .before .before .before .before .before .before .before .before .before .before .before .before .before .form-link .ensures) (sym (c .before .before .before .before .before .before .before .before .before .before .form-code .ensures) ∙ c .before .before .before .before .before .before .before .before .before .match .keys6) (c .before .before .before .before .ends-set4 .ensures .0)
+returns-6 c = lesseq-tells (ready (c .before .before .before .before .before .before .before .before .before .before)) refl refl (sym (c .before .before .before .before .before .before .before .before .before .before .form-code .ensures) ∙ c .before .before .before .before .before .before .before .before .before .match .keys6) (c .before .before .before .before .pair-set4 .ensures)
 
 same-length-11 : tie.Need-same-length-11
 same-length-11 c = search needs
@@ -182,7 +179,6 @@ set-of-rows-spec =
     (tie.spec
     form-first-requires
     wide-requires
-    form-link-requires
     form-third-requires
     wide-requires-2
     form-fourth-requires
@@ -193,10 +189,10 @@ set-of-rows-spec =
     form-code-requires
     path-set-requires
     path-set-requires-2
-    ends-set-requires
-    ends-set-requires-2
-    ends-set-requires-3
-    ends-set-requires-4
+    pair-set-requires
+    pair-set-requires-2
+    pair-set-requires-3
+    pair-set-requires-4
     lang-set-requires
     same-length
     returns
