@@ -145,7 +145,7 @@ fn open_word(
     ensures { λ _. ⌜ drop valueCount (now (values .exit)) ≡ drop valueCount (now (values .entry)) ⌝ }
 {
     match code {
-        words::FORM_AND..=words::FORM_NOT => Opening::Part(Front {
+        words::AND..=words::NOT => Opening::Part(Front {
             code: (code + 1) as u16,
             low: 0,
             high: 0,
@@ -153,8 +153,8 @@ fn open_word(
             paths: n.paths,
             next: at,
         }),
-        words::FORM_COUNT => open_count(cells, names, index, counts, book, at, left, n, up),
-        words::FORM_ALL => open_path(
+        words::COUNT => open_count(cells, names, index, counts, book, at, left, n, up),
+        words::ALL => open_path(
             cells,
             names,
             index,

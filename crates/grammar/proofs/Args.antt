@@ -22,6 +22,7 @@ use Rattle.model.specs.Paths.{Path, predicate, inverse, sequence, alternative, 
 use Rattle.model.specs.Books.{Book, nodes, links, types, names}
 use Rattle.model.specs.Sizes.{endEntries}
 use Rattle.model.specs.Valid.{defined, pathOk, endOk}
+use Rattle.model.specs.Limits.{maxForms, maxPaths, maxItems}
 use Rattle.grammar.specs.Writing.{spaced, bracket, writeKind, writeUpper, nameOf, writePath, writeEnd, writeShape, writeTarget}
 use Rattle.grammar.specs.Valid.{pathDepth, endDepth, shapeDepth, reserved, wellNamed}
 use Rattle.grammar.specs.Syntax.{Slot, used, new, subject, literalType, kindWord, value, low, high, path, end, form, target, list, Arg, Args}
@@ -56,9 +57,9 @@ afterAll (k ∷ ks) xs n = afterAll ks (xs .1) (after k (xs .0) n)
 
 -- the entries and items begun are within their limits
 pub record Fit (n : Begun) : Type 0 where
-  pub forms : n .forms ≤ 112
-  pub paths : n .paths ≤ 128
-  pub items : n .items ≤ 128
+  pub forms : n .forms ≤ maxForms
+  pub paths : n .paths ≤ maxPaths
+  pub items : n .items ≤ maxItems
 
 -- a list is the last at its bracket
 abbrev pub isLast : List Slot → Bool
@@ -190,7 +191,7 @@ module _ (s : List ℕ) (above : Book) where
         exact-as (Good above d n (list p))
         (λ a q. (q .0, omega arith, record { forms = f .forms; paths = f .paths; items = let l = q .1 in omega (arith, f .items) }))
         (λ a q. (q .0, let l = q .2 .items in omega arith))
-        (list-exact s above N p (128 - n .items))
+        (list-exact s above N p (maxItems - n .items))
 
     -- ---- one after the other
     -- a place is empty, or begins with a space

@@ -28,6 +28,7 @@ use Rattle.model.specs.Paths.{predicate}
 use Rattle.model.specs.Shapes.{Kind, anIri, aBlank, aLiteral, atMost, unbounded, top}
 use Rattle.model.specs.Books.{Book, Pool, links, names}
 use Rattle.model.specs.Valid.{defined, capacity, hasRoom}
+use Rattle.model.specs.Limits.{maxForms, maxPaths, maxItems, maxCount}
 use Rattle.grammar.specs.Writing.{nameOf, writeKind}
 use Rattle.grammar.specs.Valid.{wellNamed, newName}
 use Rattle.grammar.specs.Syntax.{Slot, new, kindWord, value, low, high, form, list}
@@ -88,7 +89,7 @@ module _ {s : List ℕ} {above : Book} {start q o : ℕ} {k : Slot} {ks : List S
         (λ a i d. settled-cond (b a) (λ _. settled-got a (itemEnd s (q + 1))) (λ e. settled-refused (q + 1) (misfit W (itemAt s (q + 1)) (sp, refl) (f a i d e) bare) (stop-item s (q + 1))))
 
     -- a bare link
-    pub link-settled : PathSlot k → pool ≡ links → (full : Bool) → (full ≡ true → 128 ≤ n .paths) → Settles s above start (itemEnd s (q + 1)) (λ t. andThen (usedAt t above pool (q + 1)) (λ p next. cond full (refused 7) (got (predicate p) next)))
+    pub link-settled : PathSlot k → pool ≡ links → (full : Bool) → (full ≡ true → maxPaths ≤ n .paths) → Settles s above start (itemEnd s (q + 1)) (λ t. andThen (usedAt t above pool (q + 1)) (λ p next. cond full (refused 7) (got (predicate p) next)))
     link-settled P i full f = name-then (λ t p next. cond full (refused 7) (got (predicate p) next))
         (λ a e d. settled-cond full
         (λ u. settled-refused (q + 1) (paths-full W P (is-link P a (ap (λ (x : Pool). defined above x a) (sym i) ∙ d) (sp, e ∙ ap (λ (x : Pool). nameOf above x a) i)) (f u)) (stop-item s (q + 1)))
@@ -118,7 +119,7 @@ kind-not w e aBlank i = index-nothing (map writeKind (anIri ∷ aBlank ∷ aLite
 kind-not w e aLiteral i = index-nothing (map writeKind (anIri ∷ aBlank ∷ aLiteral ∷ [])) w .0 e 2 (omega arith) (sym i)
 
 -- two: it is no decimal; three: it is one above 1,024
-bound-cases : (s : List ℕ) (above : Book) (start q : ℕ) → (((x : ℕ) → itemAt s (q + 1) ≡ decimal x → ⊥) → Ground s above start 2 (q + 1)) → ((x : ℕ) → itemAt s (q + 1) ≡ decimal x → 1024 < x → Ground s above start 3 (q + 1)) → (r : Bound) → boundOf (itemAt s (q + 1)) ≡ r → Settles s above start (itemEnd s (q + 1)) (λ t. bounded t above r (itemEnd s (q + 1)))
+bound-cases : (s : List ℕ) (above : Book) (start q : ℕ) → (((x : ℕ) → itemAt s (q + 1) ≡ decimal x → ⊥) → Ground s above start 2 (q + 1)) → ((x : ℕ) → itemAt s (q + 1) ≡ decimal x → maxCount < x → Ground s above start 3 (q + 1)) → (r : Bound) → boundOf (itemAt s (q + 1)) ≡ r → Settles s above start (itemEnd s (q + 1)) (λ t. bounded t above r (itemEnd s (q + 1)))
 bound-cases s above start q two three Bound.Not e = settled-refused (q + 1) (two (bound-not (itemAt s (q + 1)) .0 e)) (stop-item s (q + 1))
 bound-cases s above start q two three Bound.Over e = let (x, i, r) = bound-over (itemAt s (q + 1)) .0 e in settled-refused (q + 1) (three x i r) (stop-item s (q + 1))
 bound-cases s above start q two three (Bound.Value x) e = settled-got x (itemEnd s (q + 1))
@@ -155,7 +156,7 @@ module _ {s : List ℕ} {above : Book} {start q o : ℕ} {ks : List Slot} {n : B
       (λ x nx _. settled-got (atMost x) nx)))
 
   -- ---- a bare `true`
-  pub true-settled : Waits s above start q (form ∷ ks) n o → getD s q 0 ≡ 32 → (getD s (q + 1) 0 ≡ 40 → ⊥) → (full : Bool) → (full ≡ true → 112 ≤ n .forms) → Settles s above start (itemEnd s (q + 1)) (λ t. trueAt t above full (q + 1))
+  pub true-settled : Waits s above start q (form ∷ ks) n o → getD s q 0 ≡ 32 → (getD s (q + 1) 0 ≡ 40 → ⊥) → (full : Bool) → (full ≡ true → maxForms ≤ n .forms) → Settles s above start (itemEnd s (q + 1)) (λ t. trueAt t above full (q + 1))
   unfolding trueAt
   true-settled W sp bare full f = settled-item (q + 1) (λ t w e. cond (eql w (bytes "true")) (cond full (refused 7) (got top e)) (refused 2))
       (settled-cond (eql (itemAt s (q + 1)) (bytes "true"))
@@ -164,7 +165,7 @@ module _ {s : List ℕ} {above : Book} {start q o : ℕ} {ks : List Slot} {n : B
 
 -- ---- a list
 module _ {s : List ℕ} {above : Book} {start o : ℕ} {ks : List Slot} (pool : Pool) where
-  pub list-settled : (room : ℕ) {q : ℕ} {n : Begun} → Waits s above start q (list pool ∷ ks) n o → room ≡ 128 - n .items → Settles s above start q (λ t. listAt t above pool room q)
+  pub list-settled : (room : ℕ) {q : ℕ} {n : Begun} → Waits s above start q (list pool ∷ ks) n o → room ≡ maxItems - n .items → Settles s above start q (λ t. listAt t above pool room q)
   unfolding listAt
   list-settled zero {q} {n} W i = settled-byte q 32 (omega arith)
       (λ sp. settled-lower (omega (arith, itemEnd-from s (q + 1)))

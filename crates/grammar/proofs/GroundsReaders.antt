@@ -22,6 +22,7 @@ use Rattle.model.specs.Graph.{iri, langString}
 use Rattle.model.specs.Paths.{self, along}
 use Rattle.model.specs.Books.{Book, nodes, links, types, builtIn, names, collect, newTerms, newTriples, rules}
 use Rattle.model.specs.Valid.{isResource}
+use Rattle.model.specs.Limits.{maxFacts, maxForms, maxPaths, maxItems}
 use Rattle.grammar.specs.Writing.{nameOf}
 use Rattle.grammar.specs.Valid.{wellNamed}
 use Rattle.grammar.specs.Syntax.{Slot, used, new, subject, literalType, kindWord, value, low, high, path, end, form, target, list, Arg, Args, Family, pathFamily, formFamily, targetFamily, LineCode, linkL, typeL, langL, thingL, blankL, numberL, textL, wordsL, factL, shapeL, ruleL, lineFamily}
@@ -83,7 +84,7 @@ module _ (s : List ℕ) (above : Book) (start : ℕ) where
     arg-settled end {q} {ks} {n} f W = spaced (λ t. endAt t above (Q t) n) W refl (end-settled f W)
     arg-settled form {q} {ks} {n} f W = spaced (λ t. Q t .formR n) W refl (S .formS f W)
     arg-settled target {q} {ks} {n} f W = spaced (λ t. Q t .targetR n) W refl (S .targetS f W)
-    arg-settled (list p) {q} {ks} {n} f W = list-settled p (128 - n .items) W refl
+    arg-settled (list p) {q} {ks} {n} f W = list-settled p (maxItems - n .items) W refl
 
     -- what was read at a place stands there
     arg-waits : {k : Slot} {q m : ℕ} {ks : List Slot} {n : Begun} (a : Arg k) → Fit n → Waits s above start q (k ∷ ks) n o → argAt s above (Q s) k n q ≡ got a m → Waits s above start m ks (after k a n) o × Fit (after k a n)
@@ -161,18 +162,18 @@ module _ (s : List ℕ) (above : Book) (start : ℕ) where
     unfolding within linkAt
     nested-step Q d o deep most fewer X S =
         record {
-          pathS = λ {q} {k} {ks} {n} P i f W sp. bracket-settled pathFamily Q deep (leb 128 (n .paths)) (λ c. true) (pathBegun n) (λ t. linkAt t above (leb 128 (n .paths)) (q + 1)) (q + 1)
+          pathS = λ {q} {k} {ks} {n} P i f W sp. bracket-settled pathFamily Q deep (leb maxPaths (n .paths)) (λ c. true) (pathBegun n) (λ t. linkAt t above (leb maxPaths (n .paths)) (q + 1)) (q + 1)
               (λ w b e. no-word W w (sp, b) (ap (anyb (eql w)) (path-words P) ∙ e))
               (λ i c b. nesting W (most i) (path-bracket P c) (sp, b))
-              (λ i j c b. paths-full W P (is-bracket (fewer i) (path-bracket P c) (sp, b)) (leb-true 128 (n .paths) j))
-              (λ i j c b. body-settled N Q d (suc o) (X i) (S i) pathFamily (λ c. true) c (record { forms = f .forms; paths = let l = leb-false 128 (n .paths) j in omega arith; items = f .items }) (inner W (path-bracket P c) (opened-within q (pathFamily .word c) (sp, b))) (λ m n′ _ _ r. absurd (never-both refl r)))
-              (λ e. link-settled W sp links (a-link P) i (λ b. absurd (e b)) P refl (leb 128 (n .paths)) (leb-true 128 (n .paths)));
-          formS = λ {q} {ks} {n} f W sp. bracket-settled formFamily Q deep (leb 112 (n .forms)) (λ c. true) (formBegun n) (λ t. trueAt t above (leb 112 (n .forms)) (q + 1)) (q + 1)
+              (λ i j c b. paths-full W P (is-bracket (fewer i) (path-bracket P c) (sp, b)) (leb-true maxPaths (n .paths) j))
+              (λ i j c b. body-settled N Q d (suc o) (X i) (S i) pathFamily (λ c. true) c (record { forms = f .forms; paths = let l = leb-false maxPaths (n .paths) j in omega arith; items = f .items }) (inner W (path-bracket P c) (opened-within q (pathFamily .word c) (sp, b))) (λ m n′ _ _ r. absurd (never-both refl r)))
+              (λ e. link-settled W sp links (a-link P) i (λ b. absurd (e b)) P refl (leb maxPaths (n .paths)) (leb-true maxPaths (n .paths)));
+          formS = λ {q} {ks} {n} f W sp. bracket-settled formFamily Q deep (leb maxForms (n .forms)) (λ c. true) (formBegun n) (λ t. trueAt t above (leb maxForms (n .forms)) (q + 1)) (q + 1)
               (λ w b e. no-word W w (sp, b) e)
               (λ i c b. nesting W (most i) (form-bracket c) (sp, b))
-              (λ i j c b. forms-full W (is-bracket (fewer i) (form-bracket c) (sp, b)) (leb-true 112 (n .forms) j))
-              (λ i j c b. body-settled N Q d (suc o) (X i) (S i) formFamily (λ c. true) c (record { forms = let l = leb-false 112 (n .forms) j in omega arith; paths = f .paths; items = f .items }) (inner W (form-bracket c) (opened-within q (formFamily .word c) (sp, b))) (λ m n′ _ _ r. absurd (never-both refl r)))
-              (λ e. true-settled W sp e (leb 112 (n .forms)) (leb-true 112 (n .forms)));
+              (λ i j c b. forms-full W (is-bracket (fewer i) (form-bracket c) (sp, b)) (leb-true maxForms (n .forms) j))
+              (λ i j c b. body-settled N Q d (suc o) (X i) (S i) formFamily (λ c. true) c (record { forms = let l = leb-false maxForms (n .forms) j in omega arith; paths = f .paths; items = f .items }) (inner W (form-bracket c) (opened-within q (formFamily .word c) (sp, b))) (λ m n′ _ _ r. absurd (never-both refl r)))
+              (λ e. true-settled W sp e (leb maxForms (n .forms)) (leb-true maxForms (n .forms)));
           targetS = λ {q} {ks} {n} f W sp. bracket-settled targetFamily Q deep false (λ c. true) n (λ t. refused 2) (q + 1)
               (λ w b e. no-word W w (sp, b) e)
               (λ i c b. nesting W (most i) (target-bracket c) (sp, b))
@@ -198,7 +199,7 @@ module _ (s : List ℕ) (above : Book) (start : ℕ) where
       line-full numberL b m n W e r = absurd (never-both refl r)
       line-full textL b m n W e r = absurd (never-both refl r)
       line-full wordsL b m n W e r = absurd (never-both refl r)
-      line-full factL b m n W e r = facts-full W b e (ltb-false (length (collect newTriples above)) 4096 r)
+      line-full factL b m n W e r = facts-full W b e (ltb-false (length (collect newTriples above)) maxFacts r)
       line-full shapeL b m n W e r = absurd (never-both refl r)
       line-full ruleL b m n W e r = rules-full W b e (ltb-false (length (rules above)) 32 r)
 

@@ -29,6 +29,7 @@ use Rattle.model.specs.Graph.{iri, langString}
 use Rattle.model.specs.Shapes.{Kind, anIri, aBlank, aLiteral, Upper, atMost, unbounded}
 use Rattle.model.specs.Books.{Name, Book, Pool, nodes, types, names, collect, newTerms}
 use Rattle.model.specs.Valid.{defined, hasRoom, isResource, upperOk}
+use Rattle.model.specs.Limits.{maxCount}
 use Rattle.grammar.specs.Writing.{nameOf, writeKind, writeUpper, spaced}
 use Rattle.grammar.specs.Valid.{reserved, wellNamed, newName}
 use Rattle.grammar.specs.Reading.{Read, got, refused, andThen, known, unknown, usedAt, newAt, subjectAt, literalTypeAt, kindNumbered, kindAt, valued, valueAt, bounded, lowAt, highAt, listAt}
@@ -173,11 +174,11 @@ module _ (s : List ℕ) (above : Book) where
   bound-at Bound.Over e n nx q = absurd (never-refused q)
   bound-at (Bound.Value m) e n nx q = (ap Bound.Value (got-value q), got-next q)
 
-  pub low-exact : Exact s (Edge s) (lowAt s above) decimal (λ n. leb n 1024 ≡ true)
+  pub low-exact : Exact s (Edge s) (lowAt s above) decimal (λ n. leb n maxCount ≡ true)
   unfolding lowAt
-  low-exact = item-exact s (λ w e. bounded s above (boundOf w) e) decimal (λ n. leb n 1024 ≡ true)
-      (λ w e n nx q. let u = bound-at (boundOf w) e n nx q in let v = bound-value w n .0 (u .0) in (v .0, u .1, le-leb n 1024 (v .1)))
-      (λ n d e. ap (λ (r : Bound). bounded s above r e) (bound-value (decimal n) n .1 (refl, leb-true n 1024 d)))
+  low-exact = item-exact s (λ w e. bounded s above (boundOf w) e) decimal (λ n. leb n maxCount ≡ true)
+      (λ w e n nx q. let u = bound-at (boundOf w) e n nx q in let v = bound-value w n .0 (u .0) in (v .0, u .1, le-leb n maxCount (v .1)))
+      (λ n d e. ap (λ (r : Bound). bounded s above r e) (bound-value (decimal n) n .1 (refl, leb-true n maxCount d)))
       (λ n d. decimal-plain n)
 
   high-at : (w : List ℕ) (e : ℕ) (u : Upper) (nx : ℕ) → cond (eql w (bytes "*")) (got unbounded e) (andThen (bounded s above (boundOf w) e) (λ n next. got (atMost n) next)) ≡ got u nx → (w ≡ writeUpper u) × (e ≡ nx) × (upperOk u ≡ true)
@@ -189,12 +190,12 @@ module _ (s : List ℕ) (above : Book) where
       let b = bound-at (boundOf w) e n m r in
       let v = bound-value w n .0 (b .0) in
       let i : atMost n ≡ u = got-value g in
-      (v .0 ∙ ap writeUpper i, b .1 ∙ got-next g, ap upperOk (sym i) ∙ le-leb n 1024 (v .1)))
+      (v .0 ∙ ap writeUpper i, b .1 ∙ got-next g, ap upperOk (sym i) ∙ le-leb n maxCount (v .1)))
       (one-of (eql w (bytes "*")) (got unbounded e) (andThen (bounded s above (boundOf w) e) (λ n next. got (atMost n) next)) q)
 
   high-gives : (u : Upper) → upperOk u ≡ true → (e : ℕ) → cond (eql (writeUpper u) (bytes "*")) (got unbounded e) (andThen (bounded s above (boundOf (writeUpper u)) e) (λ n next. got (atMost n) next)) ≡ got u e
   unfolding writeUpper upperOk eql
-  high-gives (atMost n) d e = ap₂ (λ (b : Bool) (r : Bound). cond b (got unbounded e) (andThen (bounded s above r e) (λ n next. got (atMost n) next))) (no-star n) (bound-value (decimal n) n .1 (refl, leb-true n 1024 d))
+  high-gives (atMost n) d e = ap₂ (λ (b : Bool) (r : Bound). cond b (got unbounded e) (andThen (bounded s above r e) (λ n next. got (atMost n) next))) (no-star n) (bound-value (decimal n) n .1 (refl, leb-true n maxCount d))
   high-gives unbounded d e = refl
 
   pub high-exact : Exact s (Edge s) (highAt s above) writeUpper (λ u. upperOk u ≡ true)

@@ -16,6 +16,7 @@ use Rattle.model.specs.Graph.{iri, blankNode, numeric, plain, tagged, langStrin
 use Rattle.model.specs.Books.{Book, Line, link, type, lang, node, fact, shape, rule, nodes, links, types, langs, shapes, collect, newTerms, newTriples, rules}
 use Rattle.model.specs.Sizes.{formEntries, shapePaths, listItems, formsIn, pathsIn, itemsIn}
 use Rattle.model.specs.Valid.{defined, hasRoom, termOk, factOk, isResource, shapeOk, targetOk, entriesFit, lineOk}
+use Rattle.model.specs.Limits.{maxFacts, maxForms, maxPaths, maxItems}
 use Rattle.grammar.specs.Writing.{spaced, bracket, writeNode, writeLine}
 use Rattle.grammar.specs.Valid.{lineDepth, newName, namesOk, validLine}
 use Rattle.grammar.specs.Syntax.{Args, LineCode, linkL, typeL, langL, thingL, blankL, numberL, textL, wordsL, factL, shapeL, ruleL, lineFamily}
@@ -106,7 +107,7 @@ module _ (above : Book) where
   line-ok s numberL xs = number-tests (hasRoom above nodes) (defined above types (xs .1 .0)) (not (eqb (xs .1 .0) langString)) (inRange (xs .1 .1 .0)) (newName above nodes (xs .0))
   line-ok s textL xs = text-tests (hasRoom above nodes) (defined above types (xs .1 .0)) (not (eqb (xs .1 .0) langString)) (newName above nodes (xs .0))
   line-ok s wordsL xs = words-tests (hasRoom above nodes) (defined above langs (xs .1 .0)) (newName above nodes (xs .0))
-  line-ok s factL xs = fact-tests (defined above nodes (xs .0)) (isResource (getD (collect newTerms above) (xs .0) iri)) (defined above links (xs .1 .0)) (defined above nodes (xs .1 .1 .0)) (ltb (length (collect newTriples above)) 4096)
+  line-ok s factL xs = fact-tests (defined above nodes (xs .0)) (isResource (getD (collect newTerms above) (xs .0) iri)) (defined above links (xs .1 .0)) (defined above nodes (xs .1 .1 .0)) (ltb (length (collect newTriples above)) maxFacts)
   line-ok s shapeL xs = shape-tests (hasRoom above shapes) (shapeOk above (xs .1 .0)) (entriesFit above (xs .1 .0)) (newName above shapes (xs .0))
   line-ok s ruleL xs = rule-tests (defined above shapes (xs .0)) (targetOk above (xs .1 .0)) (ltb (length (rules above)) 32)
 
@@ -128,11 +129,11 @@ module _ (above : Book) where
   fits-from factL xs f e = f
   fits-from shapeL xs f e =
       let φ = xs .1 .0 in
-      let p = and-right (leb (formsIn above + formEntries (xs .1 .0)) 112) (leb (pathsIn above + shapePaths (xs .1 .0)) 128 && leb (itemsIn above + listItems (xs .1 .0)) 128) e in
+      let p = and-right (leb (formsIn above + formEntries (xs .1 .0)) maxForms) (leb (pathsIn above + shapePaths (xs .1 .0)) maxPaths && leb (itemsIn above + listItems (xs .1 .0)) maxItems) e in
       record {
-        forms = leb-true (formsIn above + formEntries (xs .1 .0)) 112 (and-left (leb (formsIn above + formEntries (xs .1 .0)) 112) (leb (pathsIn above + shapePaths (xs .1 .0)) 128 && leb (itemsIn above + listItems (xs .1 .0)) 128) e);
-        paths = leb-true (pathsIn above + shapePaths (xs .1 .0)) 128 (and-left (leb (pathsIn above + shapePaths (xs .1 .0)) 128) (leb (itemsIn above + listItems (xs .1 .0)) 128) p);
-        items = leb-true (itemsIn above + listItems (xs .1 .0)) 128 (and-right (leb (pathsIn above + shapePaths (xs .1 .0)) 128) (leb (itemsIn above + listItems (xs .1 .0)) 128) p);
+        forms = leb-true (formsIn above + formEntries (xs .1 .0)) maxForms (and-left (leb (formsIn above + formEntries (xs .1 .0)) maxForms) (leb (pathsIn above + shapePaths (xs .1 .0)) maxPaths && leb (itemsIn above + listItems (xs .1 .0)) maxItems) e);
+        paths = leb-true (pathsIn above + shapePaths (xs .1 .0)) maxPaths (and-left (leb (pathsIn above + shapePaths (xs .1 .0)) maxPaths) (leb (itemsIn above + listItems (xs .1 .0)) maxItems) p);
+        items = leb-true (itemsIn above + listItems (xs .1 .0)) maxItems (and-right (leb (pathsIn above + shapePaths (xs .1 .0)) maxPaths) (leb (itemsIn above + listItems (xs .1 .0)) maxItems) p);
       }
   fits-from ruleL xs f e = f
 
@@ -148,8 +149,8 @@ module _ (above : Book) where
   from-fits wordsL xs f = refl
   from-fits factL xs f = refl
   from-fits shapeL xs f =
-      and-both (leb (formsIn above + formEntries (xs .1 .0)) 112) (leb (pathsIn above + shapePaths (xs .1 .0)) 128 && leb (itemsIn above + listItems (xs .1 .0)) 128) (le-leb (formsIn above + formEntries (xs .1 .0)) 112 (f .forms))
-      (and-both (leb (pathsIn above + shapePaths (xs .1 .0)) 128) (leb (itemsIn above + listItems (xs .1 .0)) 128) (le-leb (pathsIn above + shapePaths (xs .1 .0)) 128 (f .paths)) (le-leb (itemsIn above + listItems (xs .1 .0)) 128 (f .items)))
+      and-both (leb (formsIn above + formEntries (xs .1 .0)) maxForms) (leb (pathsIn above + shapePaths (xs .1 .0)) maxPaths && leb (itemsIn above + listItems (xs .1 .0)) maxItems) (le-leb (formsIn above + formEntries (xs .1 .0)) maxForms (f .forms))
+      (and-both (leb (pathsIn above + shapePaths (xs .1 .0)) maxPaths) (leb (itemsIn above + listItems (xs .1 .0)) maxItems) (le-leb (pathsIn above + shapePaths (xs .1 .0)) maxPaths (f .paths)) (le-leb (itemsIn above + listItems (xs .1 .0)) maxItems (f .items)))
   from-fits ruleL xs f = refl
 
 line-made : (l : Line) → (c : LineCode) × (xs : Args (lineFamily .slots c)) × (lineFamily .build c xs ≡ l)

@@ -24,6 +24,7 @@ use Rattle.model.specs.Rules.{Target, targetNode, subjectsOf, objectsOf, target
 use Rattle.model.specs.Books.{Book, links, names}
 use Rattle.model.specs.Sizes.{pathEntries, formEntries, shapePaths, listItems}
 use Rattle.model.specs.Valid.{defined, pathOk, shapeOk}
+use Rattle.model.specs.Limits.{maxForms, maxPaths}
 use Rattle.grammar.specs.Writing.{nameOf, writePath, writeShape, writeTarget}
 use Rattle.grammar.specs.Valid.{pathDepth, shapeDepth, reserved, wellNamed}
 use Rattle.grammar.specs.Syntax.{Slot, path, form, target, Arg, Args, Family, invC, seqC, altC, pathFamily, isC, shapeC, andC, orC, notC, kindC, datatypeC, langC, fromC, aboveC, toC, belowC, countC, allC, equalC, apartC, closedC, lessC, lesseqC, onelangC, formFamily, nodeC, subjectsC, objectsC, classC, targetFamily}
@@ -89,42 +90,42 @@ module _ (s : List ℕ) (above : Book) (N : Pools above) (d : ℕ) (n : Begun) w
       let w = N .named links p (ltb-true p (length (names links above)) o) in
       (named-plain links (nameOf above links p) w, name-some (nameOf above links p) (and-left (isName (nameOf above links p)) (not (reserved links (nameOf above links p))) w))
 
-  link-sound : Fit n → (at : ℕ) → at ≤ length s → (x : Path) (nx : ℕ) → linkAt s above (leb 128 (n .paths)) at ≡ got x nx → Span s at nx (writePath above x) × Good above d n path x
+  link-sound : Fit n → (at : ℕ) → at ≤ length s → (x : Path) (nx : ℕ) → linkAt s above (leb maxPaths (n .paths)) at ≡ got x nx → Span s at nx (writePath above x) × Good above d n path x
   unfolding linkAt writePath pathOk pathDepth after pathEntries
   link-sound f at h x nx e =
-      let (p, m, r, g) = thens (usedAt s above links at) (λ p next. cond (leb 128 (n .paths)) (refused 7) (got (predicate p) next)) e in
-      let q = fails (leb 128 (n .paths)) 7 (got (predicate p) m) g in
+      let (p, m, r, g) = thens (usedAt s above links at) (λ p next. cond (leb maxPaths (n .paths)) (refused 7) (got (predicate p) next)) e in
+      let q = fails (leb maxPaths (n .paths)) 7 (got (predicate p) m) g in
       let u = used-exact s above N links .sound at h p m r in
-      let l : n .paths < 128 = leb-false 128 (n .paths) (q .0) in
+      let l : n .paths < maxPaths = leb-false maxPaths (n .paths) (q .0) in
       subst (λ (x : Path). Span s at nx (writePath above x) × Good above d n path x) (got-value (q .1))
       (subst (λ (j : ℕ). Span s at j (nameOf above links p)) (got-next (q .1)) (u .0), (u .1, omega arith, record { forms = f .forms; paths = omega arith; items = f .items }))
 
-  link-complete : (p at nx : ℕ) → Span s at nx (writePath above (predicate p)) → Good above d n path (predicate p) → Edge s nx → (getD s at 0 ≡ 40 → ⊥) × (linkAt s above (leb 128 (n .paths)) at ≡ got (predicate p) nx)
+  link-complete : (p at nx : ℕ) → Span s at nx (writePath above (predicate p)) → Good above d n path (predicate p) → Edge s nx → (getD s at 0 ≡ 40 → ⊥) × (linkAt s above (leb maxPaths (n .paths)) at ≡ got (predicate p) nx)
   unfolding linkAt writePath pathOk after pathEntries
   link-complete p at nx q g e =
       let l = g .2 .paths in
       let w = link-name p (g .0) in (
         word-start (nameOf above links p) at nx q (w .0) (w .1),
-        ap (λ (r : Read ℕ). andThen r (λ p next. cond (leb 128 (n .paths)) (refused 7) (got (predicate p) next))) (used-exact s above N links .complete at nx p q (g .0) e)
-            ∙ ap (λ (b : Bool). cond b (refused 7) (got (predicate p) nx)) (lt-leb 128 (n .paths) (omega arith)),
+        ap (λ (r : Read ℕ). andThen r (λ p next. cond (leb maxPaths (n .paths)) (refused 7) (got (predicate p) next))) (used-exact s above N links .complete at nx p q (g .0) e)
+            ∙ ap (λ (b : Bool). cond b (refused 7) (got (predicate p) nx)) (lt-leb maxPaths (n .paths) (omega arith)),
       )
 
-  true-sound : Fit n → (at : ℕ) → at ≤ length s → (x : Shape) (nx : ℕ) → trueAt s above (leb 112 (n .forms)) at ≡ got x nx → Span s at nx (writeShape above x) × Good above d n form x
+  true-sound : Fit n → (at : ℕ) → at ≤ length s → (x : Shape) (nx : ℕ) → trueAt s above (leb maxForms (n .forms)) at ≡ got x nx → Span s at nx (writeShape above x) × Good above d n form x
   unfolding trueAt writeShape shapeOk shapeDepth after formEntries shapePaths listItems
   true-sound f at h x nx e =
-      let p = passes (eql (slice at (itemEnd s at) s) (bytes "true")) 2 (cond (leb 112 (n .forms)) (refused 7) (got top (itemEnd s at))) e in
-      let q = fails (leb 112 (n .forms)) 7 (got top (itemEnd s at)) (p .1) in
-      let l : n .forms < 112 = leb-false 112 (n .forms) (q .0) in
+      let p = passes (eql (slice at (itemEnd s at) s) (bytes "true")) 2 (cond (leb maxForms (n .forms)) (refused 7) (got top (itemEnd s at))) e in
+      let q = fails (leb maxForms (n .forms)) 7 (got top (itemEnd s at)) (p .1) in
+      let l : n .forms < maxForms = leb-false maxForms (n .forms) (q .0) in
       subst (λ (x : Shape). Span s at nx (writeShape above x) × Good above d n form x) (got-value (q .1))
       (subst (λ (j : ℕ). Span s at j (bytes "true")) (got-next (q .1)) (subst (λ (w : List ℕ). Span s at (itemEnd s at) w) (eql-true (slice at (itemEnd s at) s) (bytes "true") (p .0)) (item-span s at h)), (refl, omega arith, record { forms = omega arith; paths = omega (arith, f .paths); items = omega (arith, f .items) }))
 
-  true-complete : (at nx : ℕ) → Span s at nx (writeShape above top) → Good above d n form top → Edge s nx → (getD s at 0 ≡ 40 → ⊥) × (trueAt s above (leb 112 (n .forms)) at ≡ got top nx)
+  true-complete : (at nx : ℕ) → Span s at nx (writeShape above top) → Good above d n form top → Edge s nx → (getD s at 0 ≡ 40 → ⊥) × (trueAt s above (leb maxForms (n .forms)) at ≡ got top nx)
   unfolding trueAt writeShape after formEntries allb edge
   true-complete at nx p g e =
       let l = g .2 .forms in (
         word-start (bytes "true") at nx p refl (omega arith),
-        ap₂ (λ (w : List ℕ) (j : ℕ). cond (eql w (bytes "true")) (cond (leb 112 (n .forms)) (refused 7) (got top j)) (refused 2)) (word-item (bytes "true") p refl (ends-of s nx e)) (word-ends (bytes "true") p refl (ends-of s nx e))
-            ∙ ap₂ (λ (a b : Bool). cond a (cond b (refused 7) (got top nx)) (refused 2)) (eql-refl (bytes "true")) (lt-leb 112 (n .forms) (omega arith)),
+        ap₂ (λ (w : List ℕ) (j : ℕ). cond (eql w (bytes "true")) (cond (leb maxForms (n .forms)) (refused 7) (got top j)) (refused 2)) (word-item (bytes "true") p refl (ends-of s nx e)) (word-ends (bytes "true") p refl (ends-of s nx e))
+            ∙ ap₂ (λ (a b : Bool). cond a (cond b (refused 7) (got top nx)) (refused 2)) (eql-refl (bytes "true")) (lt-leb maxForms (n .forms) (omega arith)),
       )
 
 -- ---- what is a bracket
@@ -174,12 +175,12 @@ module _ (s : List ℕ) (above : Book) (N : Pools above) where
   abbrev BareAt : ℕ → (k : Slot) → (Arg k → List ℕ) → (ℕ → Read (Arg k)) → Begun → Arg k → Type 0
   BareAt d k W bare n x = (at nx : ℕ) → Span s at nx (W x) → Good above d n k x → Edge s nx → (getD s at 0 ≡ 40 → ⊥) × (bare at ≡ got x nx)
 
-  path-view : (d : ℕ) (n : Begun) (x : Path) → ((p : ℕ) × (predicate p ≡ x)) ⊎ Made path pathFamily x → BareAt d path (writePath above) (linkAt s above (leb 128 (n .paths))) n x ⊎ Made path pathFamily x
-  path-view d n x (inl b) = inl (subst (λ (x : Path). BareAt d path (writePath above) (linkAt s above (leb 128 (n .paths))) n x) (b .1) (λ at nx. link-complete s above N d n (b .0) at nx))
+  path-view : (d : ℕ) (n : Begun) (x : Path) → ((p : ℕ) × (predicate p ≡ x)) ⊎ Made path pathFamily x → BareAt d path (writePath above) (linkAt s above (leb maxPaths (n .paths))) n x ⊎ Made path pathFamily x
+  path-view d n x (inl b) = inl (subst (λ (x : Path). BareAt d path (writePath above) (linkAt s above (leb maxPaths (n .paths))) n x) (b .1) (λ at nx. link-complete s above N d n (b .0) at nx))
   path-view d n x (inr m) = inr m
 
-  form-view : (d : ℕ) (n : Begun) (x : Shape) → (x ≡ top) ⊎ Made form formFamily x → BareAt d form (writeShape above) (trueAt s above (leb 112 (n .forms))) n x ⊎ Made form formFamily x
-  form-view d n x (inl b) = inl (subst (λ (x : Shape). BareAt d form (writeShape above) (trueAt s above (leb 112 (n .forms))) n x) (sym b) (true-complete s above N d n))
+  form-view : (d : ℕ) (n : Begun) (x : Shape) → (x ≡ top) ⊎ Made form formFamily x → BareAt d form (writeShape above) (trueAt s above (leb maxForms (n .forms))) n x ⊎ Made form formFamily x
+  form-view d n x (inl b) = inl (subst (λ (x : Shape). BareAt d form (writeShape above) (trueAt s above (leb maxForms (n .forms))) n x) (sym b) (true-complete s above N d n))
   form-view d n x (inr m) = inr m
 
   -- with one bracket more than R
@@ -187,13 +188,13 @@ module _ (s : List ℕ) (above : Book) (N : Pools above) where
   unfolding within
   step R d d′ deep none one X =
       record {
-        pathE = λ n f. family-exact s above N path pathFamily path-placed (writePath above) pathBegun (path-rows above) R d d′ deep (leb 128 (n .paths)) n (linkAt s above (leb 128 (n .paths))) none one X
-            (λ e. record { forms = f .forms; paths = let l = leb-false 128 (n .paths) e in omega arith; items = f .items })
-            (λ g. lt-leb 128 (n .paths) (let l = g .paths in omega arith))
+        pathE = λ n f. family-exact s above N path pathFamily path-placed (writePath above) pathBegun (path-rows above) R d d′ deep (leb maxPaths (n .paths)) n (linkAt s above (leb maxPaths (n .paths))) none one X
+            (λ e. record { forms = f .forms; paths = let l = leb-false maxPaths (n .paths) e in omega arith; items = f .items })
+            (λ g. lt-leb maxPaths (n .paths) (let l = g .paths in omega arith))
             (record { bare-sound = link-sound s above N d n f; view = λ x. path-view d n x (path-made x) });
-        formE = λ n f. family-exact s above N form formFamily form-placed (writeShape above) formBegun (form-rows above) R d d′ deep (leb 112 (n .forms)) n (trueAt s above (leb 112 (n .forms))) none one X
-            (λ e. record { forms = let l = leb-false 112 (n .forms) e in omega arith; paths = f .paths; items = f .items })
-            (λ g. lt-leb 112 (n .forms) (let l = g .forms in omega arith))
+        formE = λ n f. family-exact s above N form formFamily form-placed (writeShape above) formBegun (form-rows above) R d d′ deep (leb maxForms (n .forms)) n (trueAt s above (leb maxForms (n .forms))) none one X
+            (λ e. record { forms = let l = leb-false maxForms (n .forms) e in omega arith; paths = f .paths; items = f .items })
+            (λ g. lt-leb maxForms (n .forms) (let l = g .forms in omega arith))
             (record { bare-sound = true-sound s above N d n f; view = λ x. form-view d n x (form-made x) });
         targetE = λ n f. family-exact s above N target targetFamily target-placed (writeTarget above) (λ n. n) (target-rows above) R d d′ deep false n (λ at. refused 2) none one X
             (λ e. f) (λ g. refl)

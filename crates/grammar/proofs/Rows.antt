@@ -12,6 +12,7 @@ use lib.Dec.{leb}
 use Rattle.model.specs.Books.{Book, links, langs}
 use Rattle.model.specs.Sizes.{pathEntries, endEntries, formEntries, shapePaths, testItems, listItems}
 use Rattle.model.specs.Valid.{defined, upperOk, pathOk, endOk, testOk, shapeOk, targetOk}
+use Rattle.model.specs.Limits.{maxCount}
 use Rattle.grammar.specs.Writing.{spaced, bracket, nameOf, writePath, writeTest, writeShape, writeTarget}
 use Rattle.grammar.specs.Valid.{pathDepth, shapeDepth}
 use Rattle.grammar.specs.Syntax.{Slot, path, form, target, Arg, Args, Family, PathCode, invC, seqC, altC, pathFamily, FormCode, isC, shapeC, andC, orC, notC, kindC, datatypeC, langC, fromC, aboveC, toC, belowC, countC, allC, equalC, apartC, closedC, lessC, lesseqC, onelangC, formFamily, TargetCode, nodeC, subjectsC, objectsC, classC, targetFamily, LineCode, linkL, typeL, langL, thingL, blankL, numberL, textL, wordsL, factL, shapeL, ruleL, lineFamily}
@@ -108,7 +109,7 @@ form-ok above fromC xs = and-one _
 form-ok above aboveC xs = and-one _
 form-ok above toC xs = and-one _
 form-ok above belowC xs = and-one _
-form-ok above countC xs = and-assoc (leb (xs .0) 1024) (upperOk (xs .1 .0)) (pathOk above (xs .1 .1 .0) && shapeOk above (xs .1 .1 .1 .0)) ∙ ap (λ (b : Bool). leb (xs .0) 1024 && (upperOk (xs .1 .0) && b)) (and-two (pathOk above (xs .1 .1 .0)) (shapeOk above (xs .1 .1 .1 .0)))
+form-ok above countC xs = and-assoc (leb (xs .0) maxCount) (upperOk (xs .1 .0)) (pathOk above (xs .1 .1 .0) && shapeOk above (xs .1 .1 .1 .0)) ∙ ap (λ (b : Bool). leb (xs .0) maxCount && (upperOk (xs .1 .0) && b)) (and-two (pathOk above (xs .1 .1 .0)) (shapeOk above (xs .1 .1 .1 .0)))
 form-ok above allC xs = and-two (pathOk above (xs .0)) (shapeOk above (xs .1 .0))
 form-ok above equalC xs = and-two (endOk above (xs .0)) (defined above links (xs .1 .0))
 form-ok above apartC xs = and-two (endOk above (xs .0)) (defined above links (xs .1 .0))

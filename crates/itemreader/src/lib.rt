@@ -1,6 +1,6 @@
 // The reader of single items: names used and new, decimals, lists, and the words after opening brackets.
-// Functions for the crates above, on positions of a text that these have shown to lie within it. Operations: none. words has the words
-// by their numbers.
+// Functions for the crates above, on positions of a text that these have shown to lie within it. Operations: none.
+// The numbers of the words are in words.
 pub mod words;
 
 use model::Counts;

@@ -8,45 +8,45 @@ pub const PATH_SEQ: usize = 1;
 pub const PATH_ALT: usize = 2;
 
 // of forms: one less than the code of its entry, since `true` has no bracket
-pub const FORM_IS: usize = 0;
+pub const IS: usize = 0;
 
-pub const FORM_SHAPE: usize = 1;
+pub const SHAPE: usize = 1;
 
-pub const FORM_AND: usize = 2;
+pub const AND: usize = 2;
 
-pub const FORM_OR: usize = 3;
+pub const OR: usize = 3;
 
-pub const FORM_NOT: usize = 4;
+pub const NOT: usize = 4;
 
-pub const FORM_KIND: usize = 5;
+pub const KIND: usize = 5;
 
-pub const FORM_DATATYPE: usize = 6;
+pub const DATATYPE: usize = 6;
 
-pub const FORM_LANG: usize = 7;
+pub const LANG: usize = 7;
 
-pub const FORM_FROM: usize = 8;
+pub const FROM: usize = 8;
 
-pub const FORM_ABOVE: usize = 9;
+pub const ABOVE: usize = 9;
 
-pub const FORM_TO: usize = 10;
+pub const TO: usize = 10;
 
-pub const FORM_BELOW: usize = 11;
+pub const BELOW: usize = 11;
 
-pub const FORM_COUNT: usize = 12;
+pub const COUNT: usize = 12;
 
-pub const FORM_ALL: usize = 13;
+pub const ALL: usize = 13;
 
-pub const FORM_EQUAL: usize = 14;
+pub const EQUAL: usize = 14;
 
-pub const FORM_APART: usize = 15;
+pub const APART: usize = 15;
 
-pub const FORM_CLOSED: usize = 16;
+pub const CLOSED: usize = 16;
 
-pub const FORM_LESS: usize = 17;
+pub const LESS: usize = 17;
 
-pub const FORM_LESSEQ: usize = 18;
+pub const LESSEQ: usize = 18;
 
-pub const FORM_ONELANG: usize = 19;
+pub const ONELANG: usize = 19;
 
 // of targets
 pub const TARGET_NODE: usize = 0;

@@ -1,6 +1,6 @@
 -- The entry of each form without a form within.
 use Prim.Native.Nat.{ℕ, _+_, _-_}
-use mathlib.Core.Path.{_≡_, refl, sym, ap}
+use mathlib.Core.Path.{_≡_, refl, sym, ap, subst}
 use mathlib.Core.List.{List}
 use mathlib.Core.Bool.{true}
 use native.Mathlib.Omega.{arith}
@@ -17,6 +17,10 @@ use Rattle.leafreader.specs.declared.Ended.{Ended}
 use Rattle.leafreader.specs.declared.Form.{Form}
 use Rattle.leafreader.specs.Forms.{begunOf, endedOf, formEnded, FormRead, Closes, putItem, UsedShape, ListShape, ValueShape, EndShape, PathShape}
 use Rattle.leafreader.proofs.Forms.{ended-eq}
+
+-- what holds of the code of an entry, by the number of its word
+pub coded : (P : ℕ → Type 0) {k word : ℕ} → k ≡ word → P (word + 1) → P (k + 1)
+coded P e x = subst (λ (w : ℕ). P (w + 1)) (sym e) x
 
 -- what has ended after a form of one entry, by its paths and items
 one-ended : (φ : Shape) (n l : Ended) → formEntries φ ≡ 1 → n .forms ≡ l .forms → n .paths + shapePaths φ ≡ l .paths → n .items + listItems φ ≡ l .items → endedOf (after form φ (begunOf n)) ≡ formEnded l

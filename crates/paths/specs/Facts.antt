@@ -1,5 +1,5 @@
 -- Facts in three lent columns, subjects, predicates and objects, with their number; and what is asked of them.
-use Prim.Native.Nat.{ℕ, _≤_}
+use Prim.Native.Nat.{ℕ, _+_, _≤_}
 use mathlib.Core.List.{List}
 use mathlib.Core.Bool.{Bool, true, _&&_, cond}
 use mathlib.Core.Path.{_≡_}
@@ -40,7 +40,7 @@ TableIndexed cs index = Chained (predicateAt cs) (factCount cs) maxLinks 0 maxLi
 
 -- how long it is, at most
 abbrev pub indexCount : ℕ
-indexCount = 4352
+indexCount = maxLinks + maxFacts
 
 -- well-formed tables, with the index of their facts
 pub record Tables (cs index : List ℕ) : Type 0 where

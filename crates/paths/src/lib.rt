@@ -93,12 +93,12 @@ fn join(into: &mut [u64], far: usize, many: bool, from: &[u64], near: usize)
 }
 
 // The chains of the facts by their links.
-pub fn index_facts(index: &mut [u16], predicates: &[u16], len: usize)
-    requires { ⌜ (now index ≡ replicate indexCount 0) × (len ≤ maxFacts) × (len ≤ length (now predicates)) × (every (λ i. ltb (getD (now predicates) i 0) maxLinks) len ≡ true) ⌝ }
-    ensures { λ _. ⌜ Indexed (now (predicates .entry)) len (now (index .exit)) ⌝ }
+pub fn index_facts(index: &mut [u16], p: &[u16], len: usize)
+    requires { ⌜ (now index ≡ replicate indexCount 0) × (len ≤ maxFacts) × (len ≤ length (now p)) × (every (λ i. ltb (getD (now p) i 0) maxLinks) len ≡ true) ⌝ }
+    ensures { λ _. ⌜ Indexed (now (p .entry)) len (now (index .exit)) ⌝ }
 {
     for i in 0..len {
-        let l = link_at(predicates, i);
+        let l = link_at(p, i);
         link(index, 0, MAX_LINKS, wide(l.0), i);
     }
 }
@@ -132,24 +132,16 @@ pub fn next_fact(index: &[u16], i: usize) -> usize
 }
 
 // The object of fact i joins each set that its subject is in; read backwards where back.
-fn join_fact(
-    into: &mut [u64],
-    i: usize,
-    back: bool,
-    many: bool,
-    from: &[u64],
-    subjects: &[u16],
-    objects: &[u16],
-)
-    requires { ⌜ (i < length (now subjects)) × (i < length (now objects)) ⌝ }
-    ensures { λ _. ⌜ now (into .exit) ≡ joined (setCount many) (cond back (getD (now (objects .entry)) i 0) (getD (now (subjects .entry)) i 0)) (cond back (getD (now (subjects .entry)) i 0) (getD (now (objects .entry)) i 0)) (now (from .entry)) (now (into .entry)) ⌝ }
+fn join_fact(into: &mut [u64], i: usize, back: bool, many: bool, from: &[u64], s: &[u16], o: &[u16])
+    requires { ⌜ (i < length (now s)) × (i < length (now o)) ⌝ }
+    ensures { λ _. ⌜ now (into .exit) ≡ joined (setCount many) (cond back (getD (now (o .entry)) i 0) (getD (now (s .entry)) i 0)) (cond back (getD (now (s .entry)) i 0) (getD (now (o .entry)) i 0)) (now (from .entry)) (now (into .entry)) ⌝ }
 {
-    let v = wide(node_at(subjects, i).0);
-    let w = wide(node_at(objects, i).0);
+    let v = wide(node_at(s, i).0);
+    let w = wide(node_at(o, i).0);
     join(into, pick(back, v, w), many, from, pick(back, w, v));
 }
 
-// What the facts of link l add; read backwards where back. Only these are looked at: predicates, of which the index is made, is there
+// What the facts of link l add; read backwards where back. Only these are looked at: p, of which the index is made, is there
 // for the promise alone.
 fn join_link(
     into: &mut [u64],
@@ -157,20 +149,20 @@ fn join_link(
     back: bool,
     many: bool,
     from: &[u64],
-    subjects: &[u16],
-    predicates: &[u16],
-    objects: &[u16],
+    s: &[u16],
+    p: &[u16],
+    o: &[u16],
     index: &[u16],
     len: usize,
     n: usize,
 )
-    requires { ⌜ FactsOk (now subjects) (now predicates) (now objects) (now index) len n ⌝ }
-    ensures { λ _. ⌜ now (into .exit) ≡ withImages (setCount many) n (edges (now (subjects .entry)) (now (predicates .entry)) (now (objects .entry)) (l .0) back len) (now (from .entry)) (now (into .entry)) ⌝ }
+    requires { ⌜ FactsOk (now s) (now p) (now o) (now index) len n ⌝ }
+    ensures { λ _. ⌜ now (into .exit) ≡ withImages (setCount many) n (edges (now (s .entry)) (now (p .entry)) (now (o .entry)) (l .0) back len) (now (from .entry)) (now (into .entry)) ⌝ }
 {
     let mut next = last_fact(index, l);
     while 0 < next {
         let i = next - 1;
-        join_fact(into, i, back, many, from, subjects, objects);
+        join_fact(into, i, back, many, from, s, o);
         next = next_fact(index, i);
     }
 }
@@ -183,15 +175,15 @@ fn spread(
     many: bool,
     from: &[u64],
     cells: &[u16],
-    subjects: &[u16],
-    predicates: &[u16],
-    objects: &[u16],
+    s: &[u16],
+    p: &[u16],
+    o: &[u16],
     index: &[u16],
     len: usize,
     n: usize,
 )
-    requires { ⌜ FactsOk (now subjects) (now predicates) (now objects) (now index) len n × (wellFormed (now cells) ≡ true) × (e < pathCount (now cells)) ⌝ }
-    ensures { λ _. ⌜ now (into .exit) ≡ withEnds (setCount many) n (triplesOf (now (subjects .entry)) (now (predicates .entry)) (now (objects .entry)) len) (pathAt (now (cells .entry)) e) back (now (from .entry)) (now (into .entry)) ⌝ }
+    requires { ⌜ FactsOk (now s) (now p) (now o) (now index) len n × (wellFormed (now cells) ≡ true) × (e < pathCount (now cells)) ⌝ }
+    ensures { λ _. ⌜ now (into .exit) ≡ withEnds (setCount many) n (triplesOf (now (s .entry)) (now (p .entry)) (now (o .entry)) len) (pathAt (now (cells .entry)) e) back (now (from .entry)) (now (into .entry)) ⌝ }
 {
     let a = path_first(cells, e);
     let b = path_second(cells, e);
@@ -202,89 +194,24 @@ fn spread(
             back,
             many,
             from,
-            subjects,
-            predicates,
-            objects,
+            s,
+            p,
+            o,
             index,
             len,
             n,
         ),
-        codes::PATH_INV => spread(
-            into,
-            a,
-            !back,
-            many,
-            from,
-            cells,
-            subjects,
-            predicates,
-            objects,
-            index,
-            len,
-            n,
-        ),
+        codes::PATH_INV => spread(into, a, !back, many, from, cells, s, p, o, index, len, n),
         codes::PATH_SEQ => {
             let x = pick(back, b, a);
             let y = pick(back, a, b);
             let mut mid = [0u64; MAX_NODES];
-            spread(
-                &mut mid,
-                x,
-                back,
-                many,
-                from,
-                cells,
-                subjects,
-                predicates,
-                objects,
-                index,
-                len,
-                n,
-            );
-            spread(
-                into,
-                y,
-                back,
-                many,
-                &mid,
-                cells,
-                subjects,
-                predicates,
-                objects,
-                index,
-                len,
-                n,
-            );
+            spread(&mut mid, x, back, many, from, cells, s, p, o, index, len, n);
+            spread(into, y, back, many, &mid, cells, s, p, o, index, len, n);
         }
         _ => {
-            spread(
-                into,
-                a,
-                back,
-                many,
-                from,
-                cells,
-                subjects,
-                predicates,
-                objects,
-                index,
-                len,
-                n,
-            );
-            spread(
-                into,
-                b,
-                back,
-                many,
-                from,
-                cells,
-                subjects,
-                predicates,
-                objects,
-                index,
-                len,
-                n,
-            );
+            spread(into, a, back, many, from, cells, s, p, o, index, len, n);
+            spread(into, b, back, many, from, cells, s, p, o, index, len, n);
         }
     }
 }
@@ -306,45 +233,20 @@ pub fn follow(
     many: bool,
     from: &[u64],
     cells: &[u16],
-    subjects: &[u16],
-    predicates: &[u16],
-    objects: &[u16],
+    s: &[u16],
+    p: &[u16],
+    o: &[u16],
     index: &[u16],
     len: usize,
     n: usize,
 )
-    requires { ⌜ FactsOk (now subjects) (now predicates) (now objects) (now index) len n × (wellFormed (now cells) ≡ true) × (endOk (now cells) end ≡ true) ⌝ }
-    ensures { λ _. ⌜ now (into .exit) ≡ withImages (setCount many) n (converseIf back (endsOf n (triplesOf (now (subjects .entry)) (now (predicates .entry)) (now (objects .entry)) len) (endIn (now (cells .entry)) end))) (now (from .entry)) (now (into .entry)) ⌝ }
+    requires { ⌜ FactsOk (now s) (now p) (now o) (now index) len n × (wellFormed (now cells) ≡ true) × (endOk (now cells) end ≡ true) ⌝ }
+    ensures { λ _. ⌜ now (into .exit) ≡ withImages (setCount many) n (converseIf back (endsOf n (triplesOf (now (s .entry)) (now (p .entry)) (now (o .entry)) len) (endIn (now (cells .entry)) end))) (now (from .entry)) (now (into .entry)) ⌝ }
 {
     match end {
         End::Itself => join_itself(into, many, from, n),
-        End::Link(l) => join_link(
-            into,
-            l,
-            back,
-            many,
-            from,
-            subjects,
-            predicates,
-            objects,
-            index,
-            len,
-            n,
-        ),
-        End::Path(e) => spread(
-            into,
-            e,
-            back,
-            many,
-            from,
-            cells,
-            subjects,
-            predicates,
-            objects,
-            index,
-            len,
-            n,
-        ),
+        End::Link(l) => join_link(into, l, back, many, from, s, p, o, index, len, n),
+        End::Path(e) => spread(into, e, back, many, from, cells, s, p, o, index, len, n),
     }
 }
 
@@ -355,30 +257,17 @@ pub fn add_ends(
     back: bool,
     from: &[u64],
     cells: &[u16],
-    subjects: &[u16],
-    predicates: &[u16],
-    objects: &[u16],
+    s: &[u16],
+    p: &[u16],
+    o: &[u16],
     index: &[u16],
     len: usize,
     n: usize,
 )
-    requires { ⌜ FactsOk (now subjects) (now predicates) (now objects) (now index) len n × (wellFormed (now cells) ≡ true) × (endOk (now cells) end ≡ true) ⌝ }
-    ensures { λ _. ⌜ now (into .exit) ≡ withImage n (converseIf back (endsOf n (triplesOf (now (subjects .entry)) (now (predicates .entry)) (now (objects .entry)) len) (endIn (now (cells .entry)) end))) (now (from .entry)) (now (into .entry)) ⌝ }
+    requires { ⌜ FactsOk (now s) (now p) (now o) (now index) len n × (wellFormed (now cells) ≡ true) × (endOk (now cells) end ≡ true) ⌝ }
+    ensures { λ _. ⌜ now (into .exit) ≡ withImage n (converseIf back (endsOf n (triplesOf (now (s .entry)) (now (p .entry)) (now (o .entry)) len) (endIn (now (cells .entry)) end))) (now (from .entry)) (now (into .entry)) ⌝ }
 {
-    follow(
-        into,
-        end,
-        back,
-        false,
-        from,
-        cells,
-        subjects,
-        predicates,
-        objects,
-        index,
-        len,
-        n,
-    );
+    follow(into, end, back, false, from, cells, s, p, o, index, len, n);
 }
 
 // The same over the facts of the tables.

@@ -58,33 +58,20 @@ fn pass(
     j: usize,
     end: End,
     cells: &[u16],
-    subjects: &[u16],
-    predicates: &[u16],
-    objects: &[u16],
+    s: &[u16],
+    p: &[u16],
+    o: &[u16],
     index: &[u16],
     len: usize,
     n: usize,
 )
-    requires { ⌜ FactsOk (now subjects) (now predicates) (now objects) (now index) len n × (wellFormed (now cells) ≡ true) × (endOk (now cells) end ≡ true) × (j < 16) ⌝ }
-    ensures { λ _. ⌜ now (rows .exit) ≡ withColumn (now (rows .entry)) j (columnOf n (endsOf n (triplesOf (now (subjects .entry)) (now (predicates .entry)) (now (objects .entry)) len) (endIn (now (cells .entry)) end)) j) n ⌝ }
+    requires { ⌜ FactsOk (now s) (now p) (now o) (now index) len n × (wellFormed (now cells) ≡ true) × (endOk (now cells) end ≡ true) × (j < 16) ⌝ }
+    ensures { λ _. ⌜ now (rows .exit) ≡ withColumn (now (rows .entry)) j (columnOf n (endsOf n (triplesOf (now (s .entry)) (now (p .entry)) (now (o .entry)) len) (endIn (now (cells .entry)) end)) j) n ⌝ }
 {
     let mut t = [0u64; MAX_NODES];
     identity(&mut t, j);
     let mut m = [0u64; MAX_NODES];
-    follow(
-        &mut m,
-        end,
-        true,
-        true,
-        &t,
-        cells,
-        subjects,
-        predicates,
-        objects,
-        index,
-        len,
-        n,
-    );
+    follow(&mut m, end, true, true, &t, cells, s, p, o, index, len, n);
     store_column(rows, j, &m, n);
 }
 
@@ -93,30 +80,19 @@ pub fn all_ends(
     rows: &mut [u64],
     end: End,
     cells: &[u16],
-    subjects: &[u16],
-    predicates: &[u16],
-    objects: &[u16],
+    s: &[u16],
+    p: &[u16],
+    o: &[u16],
     index: &[u16],
     len: usize,
     n: usize,
 )
-    requires { ⌜ FactsOk (now subjects) (now predicates) (now objects) (now index) len n × (wellFormed (now cells) ≡ true) × (endOk (now cells) end ≡ true) × Within n (now rows) ⌝ }
-    ensures { λ _. ⌜ now (rows .exit) ≡ rowsOf n (endsOf n (triplesOf (now (subjects .entry)) (now (predicates .entry)) (now (objects .entry)) len) (endIn (now (cells .entry)) end)) (length (now (rows .entry))) ⌝ }
+    requires { ⌜ FactsOk (now s) (now p) (now o) (now index) len n × (wellFormed (now cells) ≡ true) × (endOk (now cells) end ≡ true) × Within n (now rows) ⌝ }
+    ensures { λ _. ⌜ now (rows .exit) ≡ rowsOf n (endsOf n (triplesOf (now (s .entry)) (now (p .entry)) (now (o .entry)) len) (endIn (now (cells .entry)) end)) (length (now (rows .entry))) ⌝ }
 {
     let last = (n + 63) / 64;
     for j in 0..last {
-        pass(
-            rows,
-            j,
-            end,
-            cells,
-            subjects,
-            predicates,
-            objects,
-            index,
-            len,
-            n,
-        );
+        pass(rows, j, end, cells, s, p, o, index, len, n);
     }
 }
 

@@ -48,7 +48,7 @@ module _ (cs : List ℕ) (ok : wellFormed cs ≡ true) where
   fine : Sound cs
   fine = sound cs ok
 
-  -- so at most 512
+  -- so not more than the limit
   pub plan-fits : length (stepsOf cs) ≤ maxSteps
   plan-fits = omega (arith, plan-few cs, fine .forms, fine .rules)
 
