@@ -22,9 +22,8 @@ use plancheck::reads::step_second_link;
 use plancheck::reads::step_third;
 use stepsets::Condition;
 use stepsets::NO_END;
-use stepsets::Pick;
+use stepsets::Target;
 use stepsets::both_set;
-use stepsets::closed_set;
 use stepsets::either_set;
 use stepsets::ends_set;
 use stepsets::facts_set;
@@ -69,8 +68,7 @@ enum Kind {
     Path(Condition, usize, usize),
     Ends(Condition, usize, LinkNo),
     Lang(Condition, usize),
-    Closed(usize),
-    Facts(Pick),
+    Facts(Target),
 }
 
 // What step k asks for, by its code.
@@ -99,17 +97,17 @@ fn step_kind(plan: &[u16], k: usize) -> Kind
         11 => Kind::Ends(Condition::Unequal, a, l), // Unequal
         12 => Kind::Ends(Condition::Apart, a, l), // Apart
         13 => Kind::Ends(Condition::Meet, a, l), // Meet
-        14 => Kind::Closed(a), // Closed
-        15 => Kind::Facts(Pick::Open(a)), // Open
+        14 => Kind::Node(Condition::Closed(a)), // Closed
+        15 => Kind::Node(Condition::Open(a)), // Open
         16 => Kind::Ends(Condition::Less, a, l), // Less
         17 => Kind::Ends(Condition::NotLess, a, l), // Notless
         18 => Kind::Ends(Condition::LessEq, a, l), // Lesseq
         19 => Kind::Ends(Condition::NotLessEq, a, l), // Notlesseq
         20 => Kind::Lang(Condition::OneLang, a), // Onelang
         21 => Kind::Lang(Condition::ManyLang, a), // Manylang
-        22 => Kind::Facts(Pick::From(p)), // From
-        23 => Kind::Facts(Pick::Into(p)), // Into
-        24 => Kind::Facts(Pick::Typed(c)), // Typed
+        22 => Kind::Facts(Target::From(p)), // From
+        23 => Kind::Facts(Target::Into(p)), // Into
+        24 => Kind::Facts(Target::Typed(c)), // Typed
         25..=65535 => Kind::Empty,
     }
 }
@@ -137,7 +135,7 @@ fn step_set(
     match step_kind(plan, k) {
         Kind::Whole => NodeSet::whole(n),
         Kind::Empty => NodeSet::EMPTY,
-        Kind::Node(condition) => plain_set(condition, cells, values),
+        Kind::Node(condition) => plain_set(condition, cells, index, values),
         Kind::Both(i, j) => both_set(work, i, j, n),
         Kind::Either(i, j) => either_set(work, i, j, n),
         Kind::Path(condition, p, j) => {
@@ -158,8 +156,7 @@ fn step_set(
             )
         }
         Kind::Lang(condition, p) => lang_set(first, end, condition, cells, index, values, p),
-        Kind::Closed(e) => closed_set(cells, e),
-        Kind::Facts(pick) => facts_set(pick, cells, index),
+        Kind::Facts(target) => facts_set(target, cells, index),
     }
 }
 

@@ -173,7 +173,7 @@ fn entry_holds(
             let words = part.words;
             all_holds(cells, index, e, v, &words)
         }
-        17 => closed_holds(cells, e, v),
+        17 => closed_holds(cells, index, e, v),
         20 => lang_holds(cells, index, values, e, v),
         6..=12 => test_holds(cells, values, e, v),
         _ => sets_hold(cells, index, values, e, v),
