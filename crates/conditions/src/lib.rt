@@ -24,7 +24,8 @@ use nodeset::insert;
 use nodeset::next_member;
 use nodeset::next_outside;
 use nodeset::next_shared;
-use tables::reads::fact_count;
+use paths::last_out;
+use paths::next_out;
 use tables::reads::form_code;
 use tables::reads::form_first;
 use tables::reads::form_second;
@@ -36,7 +37,6 @@ use tables::reads::node_lang;
 use tables::reads::node_type;
 use tables::reads::number;
 use tables::reads::predicate;
-use tables::reads::subject;
 use tables::reads::wide;
 ghost use mathlib.Core.Path.{_≡_};
 ghost use mathlib.Core.Bool.{cond, not, _&&_, _||_};
@@ -50,8 +50,9 @@ ghost use Rattle.base.specs.Lists.{member};
 ghost use Rattle.nodeset.specs.Words.{has, wordsOf};
 ghost use Rattle.model.specs.Graph.{holds};
 ghost use Rattle.model.specs.Shapes.{nodeKind, datatype, satisfies, conforms, subset, noneShared, allPairs, less, lessEq};
-ghost use Rattle.tables.specs.Layout.{nodeCount, factCount, kindAt, langAt, numberAt, formCodeAt, formFirstAt, formSecondAt};
+ghost use Rattle.tables.specs.Layout.{nodeCount, factCount, kindAt, langAt, numberAt, predicateAt, formCodeAt, formFirstAt, formSecondAt};
 ghost use Rattle.tables.specs.Decode.{termAt, triplesAt, graphAt, kindOf, itemsAt, entryAt, shapeAt};
+ghost use Rattle.paths.specs.Facts.{Tables};
 ghost use Rattle.plan.specs.Sets.{testOf};
 ghost use Rattle.plan.specs.Conditions.{failsTest, notLess, notLessEq, someInOne, someShared, somePair, clash, someUnlisted};
 ghost use Rattle.conditions.specs.Pairs.{onlyListed, unlisted, unordered, comesBack, unlikeLangs};
@@ -145,6 +146,15 @@ fn no_fact(answer: FoundFact) -> bool
     }
 }
 
+fn some_fact(answer: FoundFact) -> bool
+    ensures { λ r. ⌜ r ≡ found (factFound answer) ⌝ }
+{
+    match answer {
+        FoundFact::Fact(_) => true,
+        FoundFact::NoFact => false,
+    }
+}
+
 // x as the number of a node.
 fn node(x: usize) -> NodeNo
     requires { ⌜ x < 65536 ⌝ }
@@ -167,36 +177,50 @@ fn listed(cells: &[u16], i: u16, n: u16, x: u16) -> bool
     false
 }
 
-// Fact i goes out of v and has a link that form entry e does not list.
-fn fact_unlisted(cells: &[u16], e: usize, v: usize, i: usize) -> bool
-    ensures { λ r. ⌜ r ≡ unlisted (now (cells .entry)) (itemsAt (now (cells .entry)) (formFirstAt (now (cells .entry)) e) (formSecondAt (now (cells .entry)) e)) v i ⌝ }
+// Fact i has a link that form entry e does not list.
+fn fact_unlisted(cells: &[u16], e: usize, i: usize) -> bool
+    ensures { λ r. ⌜ r ≡ not (member (predicateAt (now (cells .entry)) i) (itemsAt (now (cells .entry)) (formFirstAt (now (cells .entry)) e) (formSecondAt (now (cells .entry)) e))) ⌝ }
 {
-    let s = subject(cells, i);
-    if wide(s.0) == v {
-        let p = predicate(cells, i);
-        return !listed(cells, form_first(cells, e), form_second(cells, e), p.0);
-    }
-    false
+    let p = predicate(cells, i);
+    !listed(cells, form_first(cells, e), form_second(cells, e), p.0)
 }
 
-// The first fact out of v that has a link that form entry e does not list.
-pub fn first_unlisted(cells: &[u16], e: usize, v: usize) -> FoundFact
+// Fact i, where yes; else what was found before.
+fn fact_if(yes: bool, i: usize, answer: FoundFact) -> FoundFact
+    ensures { λ r. ⌜ factFound r ≡ cond yes (Option.some i) (factFound answer) ⌝ }
+{
+    if yes { FoundFact::Fact(i) } else { answer }
+}
+
+// The first fact out of v that has a link that form entry e does not list. The chain of v goes downward, so the last on it that has
+// is the first.
+pub fn first_unlisted(cells: &[u16], index: &[u16], e: usize, v: usize) -> FoundFact
+    requires { ⌜ Tables (now cells) (now index) ⌝ }
     ensures { λ r. ⌜ factFound r ≡ first (unlisted (now (cells .entry)) (itemsAt (now (cells .entry)) (formFirstAt (now (cells .entry)) e) (formSecondAt (now (cells .entry)) e)) v) (factCount (now (cells .entry))) ⌝ }
 {
-    let n = fact_count(cells);
-    for i in 0..n {
-        if fact_unlisted(cells, e, v, i) {
-            return FoundFact::Fact(i);
-        }
+    let mut answer = FoundFact::NoFact;
+    let mut next = last_out(index, v);
+    while 0 < next {
+        let i = next - 1;
+        answer = fact_if(fact_unlisted(cells, e, i), i, answer);
+        next = next_out(index, i);
     }
-    FoundFact::NoFact
+    answer
 }
 
 // Every fact out of v has one of the links that form entry e lists; some has not.
-pub fn closed_holds(cells: &[u16], e: usize, v: usize) -> bool
+pub fn closed_holds(cells: &[u16], index: &[u16], e: usize, v: usize) -> bool
+    requires { ⌜ Tables (now cells) (now index) ⌝ }
     ensures { λ r. ⌜ r ≡ onlyListed (triplesAt (now (cells .entry))) (itemsAt (now (cells .entry)) (formFirstAt (now (cells .entry)) e) (formSecondAt (now (cells .entry)) e)) v ⌝ }
 {
-    no_fact(first_unlisted(cells, e, v))
+    no_fact(first_unlisted(cells, index, e, v))
+}
+
+pub fn closed_fails(cells: &[u16], index: &[u16], e: usize, v: usize) -> bool
+    requires { ⌜ Tables (now cells) (now index) ⌝ }
+    ensures { λ r. ⌜ r ≡ someUnlisted (triplesAt (now (cells .entry))) (itemsAt (now (cells .entry)) (formFirstAt (now (cells .entry)) e) (formSecondAt (now (cells .entry)) e)) v ⌝ }
+{
+    some_fact(first_unlisted(cells, index, e, v))
 }
 
 // Node v is of kind k. The codes of kinds in the tables: 0 thing, 1 blank, 2 number, 3 text, 4 words; another counts as 0.
@@ -309,10 +333,16 @@ fn breaks_order(
 ) -> bool
     ensures { λ r. ⌜ r ≡ (not known || (not (eqb (kindAt (now (cells .entry)) (y .0)) 2) || comesBack order value (numberAt (now (values .entry)) (y .0)))) ⌝ }
 {
+    if !known {
+        return true;
+    }
     let w = wide(y.0);
+    if !has_number(cells, w) {
+        return true;
+    }
     match order {
-        Order::Less => !known | (!has_number(cells, w) | (number(values, w) <= value)),
-        Order::LessEq => !known | (!has_number(cells, w) | (number(values, w) < value)),
+        Order::Less => number(values, w) <= value,
+        Order::LessEq => number(values, w) < value,
     }
 }
 
@@ -440,12 +470,18 @@ pub fn languages(cells: &[u16]) -> NodeSet
     with_language(cells, &words)
 }
 
-// Node y has a language, and it is the first's, which is lang where the first is known to have one.
-fn same_language(known: bool, lang: u16, cells: &[u16], y: NodeNo) -> bool
-    ensures { λ r. ⌜ r ≡ (known && (eqb (kindAt (now (cells .entry)) (y .0)) 4 && eqb lang (langAt (now (cells .entry)) (y .0)))) ⌝ }
+// Node y has a language, and it is the first's, which is lang where the first is tagged.
+fn same_language(tagged: bool, lang: u16, cells: &[u16], y: NodeNo) -> bool
+    ensures { λ r. ⌜ r ≡ (tagged && (eqb (kindAt (now (cells .entry)) (y .0)) 4 && eqb lang (langAt (now (cells .entry)) (y .0)))) ⌝ }
 {
+    if !tagged {
+        return false;
+    }
     let w = wide(y.0);
-    known & (has_language(cells, w) & (lang == node_lang(cells, w)))
+    if lang != node_lang(cells, w) {
+        return false;
+    }
+    has_language(cells, w)
 }
 
 // The first two numbers in both sets that have the same language. The second set is that of the nodes that have one, since

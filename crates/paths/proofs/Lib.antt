@@ -6,3 +6,4 @@ pub mod Codes
 pub mod Parts
 pub mod Ends
 pub mod Nodes
+pub mod Indexes

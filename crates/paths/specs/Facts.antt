@@ -1,5 +1,5 @@
 -- Facts in three lent columns, subjects, predicates and objects, with their number; and what is asked of them.
-use Prim.Native.Nat.{ℕ, _+_, _≤_}
+use Prim.Native.Nat.{ℕ, _+_, _≤_, _<_}
 use mathlib.Core.List.{List}
 use mathlib.Core.Bool.{Bool, true, _&&_, cond}
 use mathlib.Core.Path.{_≡_}
@@ -10,7 +10,7 @@ use Rattle.base.specs.Lists.{values}
 use Rattle.chains.specs.Chains.{Chained}
 use Rattle.model.specs.Graph.{Triple}
 use Rattle.model.specs.Limits.{maxNodes, maxLinks, maxFacts}
-use Rattle.tables.specs.Layout.{cellCount, factCount, predicateAt}
+use Rattle.tables.specs.Layout.{cellCount, factCount, subjectAt, predicateAt}
 use Rattle.tables.specs.WellFormed.{wellFormed}
 
 module _ (ss ps os : List ℕ) where
@@ -34,19 +34,29 @@ module _ (ss ps os : List ℕ) where
 abbrev pub Indexed : List ℕ → ℕ → List ℕ → Type 0
 Indexed ps count index = Chained (λ i. getD ps i 0) count maxLinks 0 maxLinks index
 
--- the index of the tables' facts
+-- the index of the tables' facts: their chains by link, and behind them their chains by subject
 abbrev pub TableIndexed : List ℕ → List ℕ → Type 0
 TableIndexed cs index = Chained (predicateAt cs) (factCount cs) maxLinks 0 maxLinks index
 
--- how long it is, at most
+abbrev pub SubjectIndexed : List ℕ → List ℕ → Type 0
+SubjectIndexed cs index = Chained (subjectAt cs) (factCount cs) maxNodes (maxLinks + maxFacts) (maxLinks + maxFacts + maxNodes) index
+
+-- how long it is
 abbrev pub indexCount : ℕ
-indexCount = maxLinks + maxFacts
+indexCount = maxLinks + maxFacts + maxNodes + maxFacts
+
+-- what is left when the first count facts have been put into chains by their keys: only the places of these chains have changed
+pub record Made (keys : List ℕ) (count slots heads nexts : ℕ) (before after : List ℕ) : Type 0 where
+  pub chained : Chained (λ i. getD keys i 0) count slots heads nexts after
+  pub below : (k : ℕ) → k < heads → getD after k 0 ≡ getD before k 0
+  pub above : (k : ℕ) → nexts + count ≤ k → getD after k 0 ≡ getD before k 0
 
 -- well-formed tables, with the index of their facts
 pub record Tables (cs index : List ℕ) : Type 0 where
   pub room : cellCount ≤ length cs
   pub ok : wellFormed cs ≡ true
   pub indexed : TableIndexed cs index
+  pub subjects : SubjectIndexed cs index
 
 -- count facts between n nodes, and their index
 pub record FactsOk (ss ps os index : List ℕ) (count n : ℕ) : Type 0 where

@@ -8,11 +8,12 @@
 //   add_table_ends   the same over the facts of the tables
 //   follow           the same for sets side by side
 //
-// The facts of each link are found by an index, chains by link, which is made once for many calls:
-//   index_facts      the chains of the facts
-//   index_table      the same for the facts of the tables
-//   last_fact        where the chain of a link begins
-//   next_fact        what follows a fact on its chain
+// The facts of each link, and those out of each node, are found by an index, chains by link and by subject, which is made once for
+// many calls:
+//   index_facts            chains of the facts by the keys in a column
+//   index_table            both for the facts of the tables
+//   last_fact, next_fact   where the chain of a link begins, and what follows a fact on it
+//   last_out, next_out     the same of the facts out of a node
 use base::cell;
 use base::pick;
 use chains::link;
@@ -39,21 +40,27 @@ use tables::reads::path_second;
 use tables::reads::wide;
 ghost use mathlib.Core.Path.{_≡_};
 ghost use mathlib.Core.Bool.{true, cond};
-ghost use Prim.Native.Nat.{_+_, _<_, _≤_};
+ghost use Prim.Native.Nat.{ℕ, _+_, _<_, _≤_};
 ghost use lib.Dec.{eqb, ltb};
 ghost use lib.ListN.{length, getD, replicate};
 ghost use Rattle.model.specs.Paths.{endsOf};
-ghost use Rattle.model.specs.Limits.{maxLinks, maxFacts};
+ghost use Rattle.model.specs.Limits.{maxNodes, maxLinks, maxFacts};
 ghost use Rattle.tables.specs.Layout.{nodeCount, pathCount, cellCount};
 ghost use Rattle.tables.specs.Decode.{triplesAt, pathAt};
 ghost use Rattle.tables.specs.WellFormed.{wellFormed};
 ghost use Rattle.base.specs.Bounded.{every};
-ghost use Rattle.paths.specs.Facts.{Indexed, TableIndexed, indexCount, Tables, FactsOk, triplesOf, edges};
+ghost use Rattle.paths.specs.Facts.{TableIndexed, SubjectIndexed, indexCount, Made, Tables, FactsOk, triplesOf, edges};
 ghost use Rattle.paths.specs.Ends.{endIn, endOk};
 ghost use Rattle.paths.specs.Images.{converseIf, setCount, withImage, withImages, joined, withEnds};
 
-// How many cells the index of the facts takes: the beginnings of the links' chains, and then what follows each fact.
-pub const INDEX_CELLS: usize = MAX_LINKS + MAX_FACTS;
+// How many cells the index of the facts takes: where the chain of each link begins and what follows each fact on it, and then the
+// same by subject.
+pub const INDEX_CELLS: usize = SUBJECT_NEXTS + MAX_FACTS;
+
+// Where the chains by subject begin, and what follows each fact on its own.
+const SUBJECT_HEADS: usize = MAX_LINKS + MAX_FACTS;
+
+const SUBJECT_NEXTS: usize = SUBJECT_HEADS + MAX_NODES;
 
 // The numbers of links lie below this one.
 const LINKS: u16 = MAX_LINKS as u16;
@@ -65,19 +72,12 @@ pub enum End {
     Path(usize),
 }
 
-// Place i of a column: a node, a link.
+// Place i of a column: a node.
 fn node_at(column: &[u16], i: usize) -> NodeNo
     requires { ⌜ i < length (now column) ⌝ }
     ensures { λ r. ⌜ r .0 ≡ getD (now (column .entry)) i 0 ⌝ }
 {
     NodeNo(column[i])
-}
-
-fn link_at(column: &[u16], i: usize) -> LinkNo
-    requires { ⌜ i < length (now column) ⌝ }
-    ensures { λ r. ⌜ r .0 ≡ getD (now (column .entry)) i 0 ⌝ }
-{
-    LinkNo(column[i])
 }
 
 // Node far joins each set that near is in.
@@ -92,24 +92,31 @@ fn join(into: &mut [u64], far: usize, many: bool, from: &[u64], near: usize)
     }
 }
 
-// The chains of the facts by their links.
-pub fn index_facts(index: &mut [u16], p: &[u16], len: usize)
-    requires { ⌜ (now index ≡ replicate indexCount 0) × (len ≤ maxFacts) × (len ≤ length (now p)) × (every (λ i. ltb (getD (now p) i 0) maxLinks) len ≡ true) ⌝ }
-    ensures { λ _. ⌜ Indexed (now (p .entry)) len (now (index .exit)) ⌝ }
+// The facts join the chains of their keys, which stand in a column; of the slots' chains none has begun. Where they begin stands
+// from heads on, and behind that what follows each fact.
+pub fn index_facts(index: &mut [u16], heads: usize, slots: usize, keys: &[u16], len: usize)
+    requires { ⌜ (heads + slots + len ≤ length (now index)) × (length (now index) ≤ 65536) × (len ≤ maxFacts) × (len ≤ length (now keys)) × (every (λ i. ltb (getD (now keys) i 0) slots) len ≡ true) × ((h : ℕ) → h < slots → getD (now index) (heads + h) 0 ≡ 0) ⌝ }
+    ensures { λ _. ⌜ Made (now (keys .entry)) len slots heads (heads + slots) (now (index .entry)) (now (index .exit)) ⌝ }
 {
     for i in 0..len {
-        let l = link_at(p, i);
-        link(index, 0, MAX_LINKS, wide(l.0), i);
+        link(index, heads, heads + slots, wide(keys[i]), i);
     }
 }
 
-// The chains of the tables' facts.
+// The chains of the tables' facts, by link and by subject.
 pub fn index_table(index: &mut [u16], cells: &[u16])
     requires { ⌜ (now index ≡ replicate indexCount 0) × (cellCount ≤ length (now cells)) × (wellFormed (now cells) ≡ true) ⌝ }
-    ensures { λ _. ⌜ TableIndexed (now (cells .entry)) (now (index .exit)) ⌝ }
+    ensures { λ _. ⌜ TableIndexed (now (cells .entry)) (now (index .exit)) × SubjectIndexed (now (cells .entry)) (now (index .exit)) ⌝ }
 {
     let len = fact_count(cells);
-    index_facts(index, &cells[PREDICATES..OBJECTS], len);
+    index_facts(index, 0, MAX_LINKS, &cells[PREDICATES..OBJECTS], len);
+    index_facts(
+        index,
+        SUBJECT_HEADS,
+        MAX_NODES,
+        &cells[SUBJECTS..PREDICATES],
+        len,
+    );
 }
 
 // The last fact of link l, as its number and one; 0 where there is none.
@@ -129,6 +136,25 @@ pub fn next_fact(index: &[u16], i: usize) -> usize
     ensures { λ r. ⌜ r ≡ getD (now (index .entry)) (maxLinks + i) 0 ⌝ }
 {
     wide(cell(index, MAX_LINKS + i))
+}
+
+// The last fact out of node v, as its number and one; 0 where there is none.
+pub fn last_out(index: &[u16], v: usize) -> usize
+    ensures { λ r. ⌜ r ≡ cond (ltb v maxNodes) (getD (now (index .entry)) (maxLinks + maxFacts + v) 0) 0 ⌝ }
+{
+    if v < MAX_NODES {
+        wide(cell(index, SUBJECT_HEADS + v))
+    } else {
+        0
+    }
+}
+
+// The fact before fact i out of the same node, as its number and one; 0 where there is none.
+pub fn next_out(index: &[u16], i: usize) -> usize
+    requires { ⌜ i < maxFacts ⌝ }
+    ensures { λ r. ⌜ r ≡ getD (now (index .entry)) (maxLinks + maxFacts + maxNodes + i) 0 ⌝ }
+{
+    wide(cell(index, SUBJECT_NEXTS + i))
 }
 
 // The object of fact i joins each set that its subject is in; read backwards where back.

@@ -28,16 +28,15 @@ use Rattle.plan.specs.WellFormed.{stepOk}
 use Rattle.plancheck.proofs.Codes.{test-codes}
 use Rattle.paths.specs.Facts.{Tables}
 use Rattle.stepsets.specs.Conditions.{nodesOf, holdsOf, tagged, conditionOk}
-use Rattle.stepsets.specs.Picks.{picked}
+use Rattle.stepsets.specs.Targets.{picked}
 use Rattle.stepsets.specs.declared.Condition.{Condition}
 use Rattle.stepsets.specs.declared.Condition.the-variants.{Less, NotLess, LessEq, NotLessEq}
-use Rattle.stepsets.specs.declared.Pick.the-variants.{Open}
 use Rattle.stepsets.proofs.Conditions.{one-tagged, many-tagged}
 use Rattle.stepsets.proofs.Nodes.{nodes-ext, nodes-all, nodes-never}
 use Rattle.stepsets.proofs.Rows.{ends-low}
-use Rattle.stepsets.proofs.Picks.{picked-from, picked-into, picked-typed, picked-open}
+use Rattle.stepsets.proofs.Targets.{picked-from, picked-into, picked-typed}
 use Rattle.runner.specs.declared.Kind.{Kind}
-use Rattle.runner.specs.declared.Kind.the-variants.{Whole, Empty, Node, Both, Either, Path, Ends, Lang, Closed, Facts}
+use Rattle.runner.specs.declared.Kind.the-variants.{Whole, Empty, Node, Both, Either, Path, Ends, Lang, Facts}
 use Rattle.runner.specs.Kinds.{kindOf}
 use Rattle.runner.specs.Steps.{stepFrom}
 use Rattle.runner.proofs.Steps.{two-low}
@@ -54,8 +53,7 @@ module _ (cs : List ℕ) (vs : List ℤ) (ws : List ℕ) where
   kindSet (Path condition p j) = nodesOf (λ v. holdsOf cs vs condition (from (graphAt cs vs) (pathAt cs p) v) (has (drop (16 * j) ws)) v) (nodeCount cs)
   kindSet (Ends condition f l) = nodesOf (λ v. holdsOf cs vs condition (starts (graphAt cs vs) (endAt cs f) v) (objects (graphAt cs vs) (l .0) v) v) (nodeCount cs)
   kindSet (Lang condition p) = nodesOf (λ v. holdsOf cs vs condition (from (graphAt cs vs) (pathAt cs p) v) (tagged cs) v) (nodeCount cs)
-  kindSet (Closed e) = nodesOf (λ v. not (picked cs (Open e) v)) (nodeCount cs)
-  kindSet (Facts pick) = nodesOf (picked cs pick) (nodeCount cs)
+  kindSet (Facts target) = nodesOf (picked cs target) (nodeCount cs)
 
 -- what the calls require
 abbrev pub KindOk : List ℕ → Kind → Type 0
@@ -67,8 +65,7 @@ KindOk cs (Either i j) = (i < 65536) × (j < 65536)
 KindOk cs (Path condition p j) = (p < pathCount cs) × (j < 65536) × (conditionOk cs condition ≡ true)
 KindOk cs (Ends condition f l) = (endOk cs f ≡ true) × (conditionOk cs condition ≡ true)
 KindOk cs (Lang condition p) = (p < pathCount cs) × (conditionOk cs condition ≡ true)
-KindOk cs (Closed e) = Unit {0}
-KindOk cs (Facts pick) = Unit {0}
+KindOk cs (Facts target) = Unit {0}
 
 -- ---- a right step meets it
 module _ (cs : List ℕ) (k : ℕ) (low : k < maxSteps) where
@@ -99,8 +96,8 @@ module _ (cs : List ℕ) (k : ℕ) (low : k < maxSteps) where
   kind-ok (Step.unequal f l) w = (and-left (endOk cs f) (ltb l (linkCount cs)) w, refl)
   kind-ok (Step.apart f l) w = (and-left (endOk cs f) (ltb l (linkCount cs)) w, refl)
   kind-ok (Step.meet f l) w = (and-left (endOk cs f) (ltb l (linkCount cs)) w, refl)
-  kind-ok (Step.closed e) w = tt
-  kind-ok (Step.opened e) w = tt
+  kind-ok (Step.closed e) w = refl
+  kind-ok (Step.opened e) w = refl
   kind-ok (Step.less p l) w = (an-end p l w, refl)
   kind-ok (Step.notless p l) w = (an-end p l w, refl)
   kind-ok (Step.lesseq p l) w = (an-end p l w, refl)
@@ -154,8 +151,8 @@ module _ (cs index : List ℕ) (tables : Tables cs index) (vs : List ℤ) (ws : 
   kind-set (Step.unequal f l) w = refl
   kind-set (Step.apart f l) w = refl
   kind-set (Step.meet f l) w = refl
-  kind-set (Step.closed e) w = nodes-ext _ _ n (λ v l. ap not (picked-open cs vs v e) ∙ closed-by cs vs e w v)
-  kind-set (Step.opened e) w = nodes-ext _ _ n (λ v l. picked-open cs vs v e ∙ opened-by cs vs e w v)
+  kind-set (Step.closed e) w = nodes-ext _ _ n (λ v l. closed-by cs vs e w v)
+  kind-set (Step.opened e) w = nodes-ext _ _ n (λ v l. opened-by cs vs e w v)
   kind-set (Step.less p l) w = by-path Less p l w
   kind-set (Step.notless p l) w = by-path NotLess p l w
   kind-set (Step.lesseq p l) w = by-path LessEq p l w

@@ -2,7 +2,7 @@
 use Prim.Native.Nat.{ℕ}
 use mathlib.Core.List.{List}
 use mathlib.Core.Option.{Option}
-use mathlib.Core.Bool.{Bool, true, not, true≢false}
+use mathlib.Core.Bool.{Bool, true, true≢false}
 use mathlib.Core.Path.{_≡_, refl, sym, ap, _∙_}
 use lib.Dec.{eqb}
 use lib.IntN.{ℤ}
@@ -17,7 +17,7 @@ use Rattle.tables.proofs.Decode.{shape-number}
 use Rattle.plan.specs.Conditions.{someUnlisted}
 use Rattle.plan.specs.Sets.{testOf, linksOf}
 use Rattle.plan.specs.WellFormed.{testOk, closedOk}
-use Rattle.plan.proofs.Complements.{not-closed}
+use Rattle.conditions.specs.Pairs.{onlyListed}
 use Rattle.plancheck.proofs.Codes.{test-code, test-codes, closed-codes}
 
 module _ (cs : List ℕ) (vs : List ℤ) where
@@ -68,8 +68,6 @@ module _ (cs : List ℕ) (vs : List ℤ) where
     unfolding holds graphAt
     opened-by v = sym (ap (holds (λ ps. someUnlisted (triplesAt cs) ps v)) links-of)
 
-    pub closed-by : (v : ℕ) → not (someUnlisted (triplesAt cs) items v) ≡ holds (λ ps. allb (λ t. eqb (t .subject) v ⇒ member (t .predicate) ps) (graphAt cs vs .triples)) (linksOf cs (entryAt cs vs e))
-    unfolding holds graphAt
-    closed-by v =
-        ap not (sym (not-closed (triplesAt cs) items v)) ∙ mathlib.Core.Bool.Bool·not-not (allb (λ t. eqb (t .subject) v ⇒ member (t .predicate) items) (triplesAt cs))
-        ∙ sym (ap (holds (λ ps. allb (λ t. eqb (t .subject) v ⇒ member (t .predicate) ps) (triplesAt cs))) links-of)
+    pub closed-by : (v : ℕ) → onlyListed (triplesAt cs) items v ≡ holds (λ ps. allb (λ t. eqb (t .subject) v ⇒ member (t .predicate) ps) (graphAt cs vs .triples)) (linksOf cs (entryAt cs vs e))
+    unfolding onlyListed holds graphAt
+    closed-by v = sym (ap (holds (λ ps. allb (λ t. eqb (t .subject) v ⇒ member (t .predicate) ps) (triplesAt cs))) links-of)

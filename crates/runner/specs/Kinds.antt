@@ -3,10 +3,10 @@ use Prim.Native.Nat.{ℕ}
 use Rattle.model.specs.declared.NodeNo.{NodeNo}
 use Rattle.model.specs.declared.LinkNo.{LinkNo}
 use Rattle.plan.specs.Steps.{Step}
-use Rattle.stepsets.specs.declared.Condition.the-variants.{Is, IsNot, Test, Untest, Count, Every, Equal, Unequal, Apart, Meet, Less, NotLess, LessEq, NotLessEq, OneLang, ManyLang}
-use Rattle.stepsets.specs.declared.Pick.the-variants.{From, Into, Typed, Open}
+use Rattle.stepsets.specs.declared.Condition.the-variants.{Is, IsNot, Test, Untest, Count, Every, Equal, Unequal, Apart, Meet, Less, NotLess, LessEq, NotLessEq, OneLang, ManyLang, Closed, Open}
+use Rattle.stepsets.specs.declared.Target.the-variants.{From, Into, Typed}
 use Rattle.runner.specs.declared.Kind.{Kind}
-use Rattle.runner.specs.declared.Kind.the-variants.{Whole, Empty, Node, Both, Either, Path, Ends, Lang, Closed, Facts}
+use Rattle.runner.specs.declared.Kind.the-variants.{Whole, Empty, Node, Both, Either, Path, Ends, Lang, Facts}
 
 -- a number as that of a node, of a link
 abbrev pub node : ℕ → NodeNo
@@ -30,8 +30,8 @@ kindOf (Step.equal f l) = Ends Equal f (link l)
 kindOf (Step.unequal f l) = Ends Unequal f (link l)
 kindOf (Step.apart f l) = Ends Apart f (link l)
 kindOf (Step.meet f l) = Ends Meet f (link l)
-kindOf (Step.closed e) = Closed e
-kindOf (Step.opened e) = Facts (Open e)
+kindOf (Step.closed e) = Node (Closed e)
+kindOf (Step.opened e) = Node (Open e)
 kindOf (Step.less p l) = Ends Less p (link l)
 kindOf (Step.notless p l) = Ends NotLess p (link l)
 kindOf (Step.lesseq p l) = Ends LessEq p (link l)

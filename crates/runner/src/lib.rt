@@ -25,9 +25,8 @@ use plancheck::reads::step_second_link;
 use plancheck::reads::step_third;
 use stepsets::Condition;
 use stepsets::NO_END;
-use stepsets::Pick;
+use stepsets::Target;
 use stepsets::both_set;
-use stepsets::closed_set;
 use stepsets::either_set;
 use stepsets::ends_set;
 use stepsets::facts_set;
@@ -79,8 +78,7 @@ enum Kind {
     Path(Condition, usize, usize),
     Ends(Condition, usize, LinkNo),
     Lang(Condition, usize),
-    Closed(usize),
-    Facts(Pick),
+    Facts(Target),
 }
 
 // What step k asks for, by its code.
@@ -109,17 +107,17 @@ fn step_kind(plan: &[u16], k: usize) -> Kind
         steps::UNEQUAL => Kind::Ends(Condition::Unequal, a, l),
         steps::APART => Kind::Ends(Condition::Apart, a, l),
         steps::MEET => Kind::Ends(Condition::Meet, a, l),
-        steps::CLOSED => Kind::Closed(a),
-        steps::OPEN => Kind::Facts(Pick::Open(a)),
+        steps::CLOSED => Kind::Node(Condition::Closed(a)),
+        steps::OPEN => Kind::Node(Condition::Open(a)),
         steps::LESS => Kind::Ends(Condition::Less, a, l),
         steps::NOTLESS => Kind::Ends(Condition::NotLess, a, l),
         steps::LESSEQ => Kind::Ends(Condition::LessEq, a, l),
         steps::NOTLESSEQ => Kind::Ends(Condition::NotLessEq, a, l),
         steps::ONELANG => Kind::Lang(Condition::OneLang, a),
         steps::MANYLANG => Kind::Lang(Condition::ManyLang, a),
-        steps::FROM => Kind::Facts(Pick::From(p)),
-        steps::INTO => Kind::Facts(Pick::Into(p)),
-        steps::TYPED => Kind::Facts(Pick::Typed(c)),
+        steps::FROM => Kind::Facts(Target::From(p)),
+        steps::INTO => Kind::Facts(Target::Into(p)),
+        steps::TYPED => Kind::Facts(Target::Typed(c)),
         steps::UNKNOWN..=steps::LAST => Kind::Empty,
     }
 }
@@ -147,7 +145,7 @@ fn step_set(
     match step_kind(plan, k) {
         Kind::Whole => NodeSet::whole(n),
         Kind::Empty => NodeSet::EMPTY,
-        Kind::Node(condition) => plain_set(condition, cells, values),
+        Kind::Node(condition) => plain_set(condition, cells, index, values),
         Kind::Both(i, j) => both_set(work, i, j, n),
         Kind::Either(i, j) => either_set(work, i, j, n),
         Kind::Path(condition, p, j) => {
@@ -168,8 +166,7 @@ fn step_set(
             )
         }
         Kind::Lang(condition, p) => lang_set(first, end, condition, cells, index, values, p),
-        Kind::Closed(e) => closed_set(cells, e),
-        Kind::Facts(pick) => facts_set(pick, cells, index),
+        Kind::Facts(target) => facts_set(target, cells, index),
     }
 }
 

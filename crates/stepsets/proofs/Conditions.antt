@@ -19,7 +19,7 @@ use Rattle.conditions.proofs.Langs.{unlike-tagged, clash-tagged}
 use Rattle.stepsets.specs.Conditions.{nodesOf, holdsOf, tagged, conditionOk}
 use Rattle.stepsets.proofs.Nodes.{nodes-ext}
 use Rattle.stepsets.specs.declared.Condition.{Condition}
-use Rattle.stepsets.specs.declared.Condition.the-variants.{Is, IsNot, Test, Untest, Count, Every, Equal, Unequal, Apart, Meet, Less, NotLess, LessEq, NotLessEq, OneLang, ManyLang}
+use Rattle.stepsets.specs.declared.Condition.the-variants.{Is, IsNot, Test, Untest, Count, Every, Equal, Unequal, Apart, Meet, Less, NotLess, LessEq, NotLessEq, OneLang, ManyLang, Closed, Open}
 
 -- ---- sets that agree below n
 module _ (n : ℕ) {a a′ b b′ : ℕ → Bool} (ea : (w : ℕ) → w < n → a w ≡ a′ w) (eb : (w : ℕ) → w < n → b w ≡ b′ w) where
@@ -75,6 +75,8 @@ module _ (cs : List ℕ) (vs : List ℤ) (few : nodeCount cs ≤ 1024) {a a′ b
   holds-ext NotLessEq = some-pair-ext (nodeCount cs) ea′ eb′ _
   holds-ext OneLang = pairs-ext (nodeCount cs) both′ both′ _
   holds-ext ManyLang = some-pair-ext (nodeCount cs) both′ both′ _
+  holds-ext (Closed e) = refl
+  holds-ext (Open e) = refl
 
 -- of each node, its own two sets
 pub where-ext : (cs : List ℕ) (vs : List ℤ) → nodeCount cs ≤ 1024 → (condition : Condition) (a a′ b b′ : ℕ → ℕ → Bool) → ((v : ℕ) → v < nodeCount cs → (w : ℕ) → w < 1024 → a v w ≡ a′ v w) → ((v : ℕ) → v < nodeCount cs → (w : ℕ) → w < 1024 → b v w ≡ b′ v w)

@@ -1,4 +1,4 @@
 pub mod Nodes
 pub mod Conditions
 pub mod Rows
-pub mod Picks
+pub mod Targets

@@ -9,13 +9,13 @@ use Rattle.base.specs.Bounded.{size}
 use Rattle.nodeset.specs.Words.{wordsOf}
 use Rattle.model.specs.Graph.{holds}
 use Rattle.model.specs.Shapes.{conforms, within, subset, noneShared, allPairs, less, lessEq}
-use Rattle.tables.specs.Layout.{nodeCount, kindAt, formCodeAt}
-use Rattle.tables.specs.Decode.{graphAt, termAt, entryAt, shapeAt, upperOf}
-use Rattle.plan.specs.Conditions.{failsTest, notLess, notLessEq, someInOne, someShared, somePair, clash}
+use Rattle.tables.specs.Layout.{nodeCount, kindAt, formCodeAt, formFirstAt, formSecondAt}
+use Rattle.tables.specs.Decode.{graphAt, termAt, triplesAt, itemsAt, entryAt, shapeAt, upperOf}
+use Rattle.plan.specs.Conditions.{failsTest, notLess, notLessEq, someInOne, someShared, somePair, clash, someUnlisted}
 use Rattle.plan.specs.Sets.{testOf}
-use Rattle.conditions.specs.Pairs.{unlikeLangs}
+use Rattle.conditions.specs.Pairs.{onlyListed, unlikeLangs}
 use Rattle.stepsets.specs.declared.Condition.{Condition}
-use Rattle.stepsets.specs.declared.Condition.the-variants.{Is, IsNot, Test, Untest, Count, Every, Equal, Unequal, Apart, Meet, Less, NotLess, LessEq, NotLessEq, OneLang, ManyLang}
+use Rattle.stepsets.specs.declared.Condition.the-variants.{Is, IsNot, Test, Untest, Count, Every, Equal, Unequal, Apart, Meet, Less, NotLess, LessEq, NotLessEq, OneLang, ManyLang, Closed, Open}
 
 -- the numbers below n that have p, in sixteen words
 unfoldable pub nodesOf : (ℕ → Bool) → ℕ → List ℕ
@@ -39,6 +39,8 @@ holdsOf cs vs LessEq a b v = allPairs (nodeCount cs) a b (λ x y. lessEq (termAt
 holdsOf cs vs NotLessEq a b v = somePair (nodeCount cs) a b (λ x y. notLessEq (termAt cs vs x) (termAt cs vs y))
 holdsOf cs vs OneLang a b v = unlikeLangs cs vs (λ w. a w && b w)
 holdsOf cs vs ManyLang a b v = somePair (nodeCount cs) (λ w. a w && b w) (λ w. a w && b w) (clash (termAt cs vs))
+holdsOf cs vs (Closed e) a b v = onlyListed (triplesAt cs) (itemsAt cs (formFirstAt cs e) (formSecondAt cs e)) v
+holdsOf cs vs (Open e) a b v = someUnlisted (triplesAt cs) (itemsAt cs (formFirstAt cs e) (formSecondAt cs e)) v
 
 -- node m has a language
 abbrev pub tagged : List ℕ → ℕ → Bool
@@ -62,3 +64,5 @@ conditionOk cs LessEq = true
 conditionOk cs NotLessEq = true
 conditionOk cs OneLang = true
 conditionOk cs ManyLang = true
+conditionOk cs (Closed e) = true
+conditionOk cs (Open e) = true

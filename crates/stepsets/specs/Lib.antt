@@ -1,3 +1,3 @@
 pub mod Conditions
 pub mod Ends
-pub mod Picks
+pub mod Targets

@@ -8,11 +8,12 @@
 //   lang_set      .. on the ends of a path that have a language
 //   ends_set      .. on two end sets
 // (the ends of all nodes stand in lent rows, which are kept for the next step)
-//   facts_set     the nodes that the facts pick, in one pass over them, or over those of one link
-//   closed_set    the nodes of which every fact has a listed link
+//   facts_set     the nodes that a target selects, in one pass over the facts of a link
 //   both_set, either_set   the nodes in both of two sets, in one of them
 use conditions::apart_fails;
 use conditions::apart_holds;
+use conditions::closed_fails;
+use conditions::closed_holds;
 use conditions::equal_fails;
 use conditions::equal_holds;
 use conditions::insert_if;
@@ -31,34 +32,28 @@ use model::NodeNo;
 use nodeset::NodeSet;
 use nodeset::count_both;
 use nodeset::load;
-use nodeset::test;
 use paths::End;
 use paths::last_fact;
 use paths::next_fact;
 use rows::all_table_ends;
 use tables::layout::NO_NUMBER;
-use tables::reads::fact_count;
-use tables::reads::form_first;
-use tables::reads::form_second;
-use tables::reads::item;
 use tables::reads::node_count;
 use tables::reads::object;
-use tables::reads::predicate;
 use tables::reads::subject;
 use tables::reads::wide;
 ghost use mathlib.Core.Path.{_≡_};
-ghost use mathlib.Core.Bool.{true, false, not, cond, _&&_, _||_};
+ghost use mathlib.Core.Bool.{true, false, cond, _&&_, _||_};
 ghost use Prim.Native.Nat.{_+_, _*_, _<_, _≤_};
 ghost use lib.ListN.{drop};
 ghost use Rattle.nodeset.specs.Words.{has};
 ghost use Rattle.model.specs.Shapes.{within, from, objects, starts};
 ghost use Rattle.tables.specs.Layout.{nodeCount, pathCount};
 ghost use Rattle.tables.specs.Decode.{graphAt, pathAt, endAt, upperOf};
-ghost use Rattle.tables.specs.WellFormed.{wellFormed, endOk};
+ghost use Rattle.tables.specs.WellFormed.{endOk};
 ghost use Rattle.paths.specs.Facts.{Tables};
 ghost use Rattle.stepsets.specs.Conditions.{nodesOf, holdsOf, tagged, conditionOk};
 ghost use Rattle.stepsets.specs.Ends.{EndOf, numberOk, Held};
-ghost use Rattle.stepsets.specs.Picks.{nodeOf, picked, chosen, ByLink, listedBy};
+ghost use Rattle.stepsets.specs.Targets.{nodeOf, picked, chosen, ByLink};
 
 // Ends have numbers: `id` and path entries those of the tables, links those from here on.
 const FIRST_LINK: usize = 65536;
@@ -68,7 +63,7 @@ pub const NO_END: usize = 65534;
 
 // What is asked of each node, a case for each keeping and each breaking step: whether it is a node; whether it meets the test of a
 // form entry; how many of its ends are in a set, and that all are; whether two end sets are equal, are apart, whether each pair is
-// less, or at most; whether no two ends in a set have the same language.
+// less, or at most; whether no two ends in a set have the same language; whether each fact out of it has a link that a form entry lists.
 pub enum Condition {
     Is(NodeNo),
     IsNot(NodeNo),
@@ -86,14 +81,15 @@ pub enum Condition {
     NotLessEq,
     OneLang,
     ManyLang,
+    Closed(usize),
+    Open(usize),
 }
 
-// Which nodes the facts pick: subjects, objects of a link; subjects that the link `a` leads to a node; subjects of an unlisted link.
-pub enum Pick {
+// The target of a rule, as its facts select nodes: subjects, objects of a link; subjects that the link `a` leads to a node.
+pub enum Target {
     From(LinkNo),
     Into(LinkNo),
     Typed(NodeNo),
-    Open(usize),
 }
 
 // LO ≤ count ≤ HI, where 65,535 is no bound.
@@ -107,12 +103,13 @@ fn is_within(lo: usize, hi: usize, count: usize) -> bool
 fn condition_holds(
     condition: Condition,
     cells: &[u16],
+    index: &[u16],
     values: &[i64],
     a: &[u64],
     b: &[u64],
     v: usize,
 ) -> bool
-    requires { ⌜ (nodeCount (now cells) ≤ 1024) × (v < nodeCount (now cells)) × (conditionOk (now cells) condition ≡ true) ⌝ }
+    requires { ⌜ Tables (now cells) (now index) × (v < nodeCount (now cells)) × (conditionOk (now cells) condition ≡ true) ⌝ }
     ensures { λ r. ⌜ r ≡ holdsOf (now (cells .entry)) (now (values .entry)) condition (has (now (a .entry))) (has (now (b .entry))) v ⌝ }
 {
     let n = node_count(cells);
@@ -133,6 +130,8 @@ fn condition_holds(
         Condition::NotLessEq => lesseq_fails(cells, values, a, b),
         Condition::OneLang => onelang_holds(cells, a, b),
         Condition::ManyLang => onelang_fails(cells, a, b),
+        Condition::Closed(e) => closed_holds(cells, index, e, v),
+        Condition::Open(e) => closed_fails(cells, index, e, v),
     }
 }
 
@@ -159,12 +158,13 @@ fn place(each: bool, v: usize) -> usize
 fn nodes_where(
     condition: Condition,
     cells: &[u16],
+    index: &[u16],
     values: &[i64],
     first: &[u64],
     second: &[u64],
     each: bool,
 ) -> NodeSet
-    requires { ⌜ (nodeCount (now cells) ≤ 1024) × (conditionOk (now cells) condition ≡ true) ⌝ }
+    requires { ⌜ Tables (now cells) (now index) × (conditionOk (now cells) condition ≡ true) ⌝ }
     ensures { λ r. ⌜ r .words ≡ nodesOf (λ v. holdsOf (now (cells .entry)) (now (values .entry)) condition (has (drop (16 * v) (now (first .entry)))) (has (drop (cond each (16 * v) 0) (now (second .entry)))) v) (nodeCount (now (cells .entry))) ⌝ }
 {
     let n = node_count(cells);
@@ -172,19 +172,19 @@ fn nodes_where(
     for v in 0..n {
         let a = part(first, 16 * v);
         let b = part(second, place(each, v));
-        let yes = condition_holds(condition, cells, values, a, b, v);
+        let yes = condition_holds(condition, cells, index, values, a, b, v);
         insert_if(&mut words, v, yes);
     }
     NodeSet { words }
 }
 
 // A condition on the node alone.
-pub fn plain_set(condition: Condition, cells: &[u16], values: &[i64]) -> NodeSet
-    requires { ⌜ (nodeCount (now cells) ≤ 1024) × (conditionOk (now cells) condition ≡ true) ⌝ }
+pub fn plain_set(condition: Condition, cells: &[u16], index: &[u16], values: &[i64]) -> NodeSet
+    requires { ⌜ Tables (now cells) (now index) × (conditionOk (now cells) condition ≡ true) ⌝ }
     ensures { λ r. ⌜ r .words ≡ nodesOf (λ v. holdsOf (now (cells .entry)) (now (values .entry)) condition (λ w. false) (λ w. false) v) (nodeCount (now (cells .entry))) ⌝ }
 {
     let none = [0u64; 16];
-    nodes_where(condition, cells, values, &none, &none, false)
+    nodes_where(condition, cells, index, values, &none, &none, false)
 }
 
 // The ends that number x names: below 65,536 `id` or a path entry, from there on a link.
@@ -239,6 +239,7 @@ pub fn path_set(
     nodes_where(
         condition,
         cells,
+        index,
         values,
         &first[..],
         part(work, 16 * j),
@@ -263,7 +264,7 @@ pub fn lang_set(
     keep_ends(first, end, p, cells, index);
     let set = languages(cells);
     let words = set.words;
-    nodes_where(condition, cells, values, &first[..], &words, false)
+    nodes_where(condition, cells, index, values, &first[..], &words, false)
 }
 
 // A condition on the ends of END f and those of link l.
@@ -286,104 +287,65 @@ pub fn ends_set(
 {
     keep_ends(first, end, f, cells, index);
     keep_ends(second, link, link_number(l.0), cells, index);
-    nodes_where(condition, cells, values, &first[..], &second[..], true)
+    nodes_where(
+        condition,
+        cells,
+        index,
+        values,
+        &first[..],
+        &second[..],
+        true,
+    )
 }
 
 // The node that fact i picks, where it picks one.
-fn node_of(pick: Pick, cells: &[u16], i: usize) -> usize
-    ensures { λ r. ⌜ r ≡ nodeOf (now (cells .entry)) pick i ⌝ }
+fn node_of(target: Target, cells: &[u16], i: usize) -> usize
+    ensures { λ r. ⌜ r ≡ nodeOf (now (cells .entry)) target i ⌝ }
 {
-    match pick {
-        Pick::From(_) => wide(subject(cells, i).0),
-        Pick::Into(_) => wide(object(cells, i).0),
-        Pick::Typed(_) => wide(subject(cells, i).0),
-        Pick::Open(_) => wide(subject(cells, i).0),
+    match target {
+        Target::From(_) => wide(subject(cells, i).0),
+        Target::Into(_) => wide(object(cells, i).0),
+        Target::Typed(_) => wide(subject(cells, i).0),
     }
 }
 
-// Fact i, of the link that the pick goes by, picks one. (Open goes by no link.)
-fn chooses(pick: Pick, cells: &[u16], i: usize) -> bool
-    ensures { λ r. ⌜ r ≡ chosen (now (cells .entry)) pick i ⌝ }
+// Fact i, of the link that the target goes by, picks one.
+fn chooses(target: Target, cells: &[u16], i: usize) -> bool
+    ensures { λ r. ⌜ r ≡ chosen (now (cells .entry)) target i ⌝ }
 {
-    match pick {
-        Pick::From(_) => true,
-        Pick::Into(_) => true,
-        Pick::Typed(c) => object(cells, i).0 == c.0,
-        Pick::Open(_) => false,
+    match target {
+        Target::From(_) => true,
+        Target::Into(_) => true,
+        Target::Typed(c) => object(cells, i).0 == c.0,
     }
-}
-
-// A set of links: sixteen words, link l at bit l % 64 of word l / 64.
-pub struct LinkSet {
-    pub words: [u64; 16],
-}
-
-// The links that form entry e lists.
-fn listed_links(cells: &[u16], e: usize) -> LinkSet
-    ensures { λ r. ⌜ r .words ≡ listedBy (now (cells .entry)) e ⌝ }
-{
-    let from = wide(form_first(cells, e));
-    let count = wide(form_second(cells, e));
-    let mut words = [0u64; 16];
-    for k in 0..count {
-        insert_if(&mut words, wide(item(cells, from + k)), true);
-    }
-    LinkSet { words }
-}
-
-// The subjects of facts whose link form entry e does not list.
-fn open_set(cells: &[u16], e: usize) -> NodeSet
-    requires { ⌜ wellFormed (now cells) ≡ true ⌝ }
-    ensures { λ r. ⌜ r .words ≡ nodesOf (picked (now (cells .entry)) (Pick.Open e)) (nodeCount (now (cells .entry))) ⌝ }
-{
-    let count = fact_count(cells);
-    let set = listed_links(cells, e);
-    let links = set.words;
-    let mut words = [0u64; 16];
-    for i in 0..count {
-        let v = wide(subject(cells, i).0);
-        let known = test(&links, wide(predicate(cells, i).0));
-        insert_if(&mut words, v, !known);
-    }
-    NodeSet { words }
 }
 
 // The nodes that the facts of link l pick, where no other fact picks one.
-fn link_set(pick: Pick, l: LinkNo, cells: &[u16], index: &[u16]) -> NodeSet
-    requires { ⌜ Tables (now cells) (now index) × ByLink (now cells) pick (l .0) ⌝ }
-    ensures { λ r. ⌜ r .words ≡ nodesOf (picked (now (cells .entry)) pick) (nodeCount (now (cells .entry))) ⌝ }
+fn link_set(target: Target, l: LinkNo, cells: &[u16], index: &[u16]) -> NodeSet
+    requires { ⌜ Tables (now cells) (now index) × ByLink (now cells) target (l .0) ⌝ }
+    ensures { λ r. ⌜ r .words ≡ nodesOf (picked (now (cells .entry)) target) (nodeCount (now (cells .entry))) ⌝ }
 {
     let mut words = [0u64; 16];
     let mut next = last_fact(index, l);
     while 0 < next {
         let i = next - 1;
-        let v = node_of(pick, cells, i);
-        insert_if(&mut words, v, chooses(pick, cells, i));
+        let v = node_of(target, cells, i);
+        insert_if(&mut words, v, chooses(target, cells, i));
         next = next_fact(index, i);
     }
     NodeSet { words }
 }
 
-// The nodes that the facts pick.
-pub fn facts_set(pick: Pick, cells: &[u16], index: &[u16]) -> NodeSet
+// The nodes that the target selects.
+pub fn facts_set(target: Target, cells: &[u16], index: &[u16]) -> NodeSet
     requires { ⌜ Tables (now cells) (now index) ⌝ }
-    ensures { λ r. ⌜ r .words ≡ nodesOf (picked (now (cells .entry)) pick) (nodeCount (now (cells .entry))) ⌝ }
+    ensures { λ r. ⌜ r .words ≡ nodesOf (picked (now (cells .entry)) target) (nodeCount (now (cells .entry))) ⌝ }
 {
-    match pick {
-        Pick::From(l) => link_set(pick, l, cells, index),
-        Pick::Into(l) => link_set(pick, l, cells, index),
-        Pick::Typed(_) => link_set(pick, LinkNo(0), cells, index),
-        Pick::Open(e) => open_set(cells, e),
+    match target {
+        Target::From(l) => link_set(target, l, cells, index),
+        Target::Into(l) => link_set(target, l, cells, index),
+        Target::Typed(_) => link_set(target, LinkNo(0), cells, index),
     }
-}
-
-// The nodes of which every fact has a link that form entry e lists.
-pub fn closed_set(cells: &[u16], e: usize) -> NodeSet
-    requires { ⌜ wellFormed (now cells) ≡ true ⌝ }
-    ensures { λ r. ⌜ r .words ≡ nodesOf (λ v. not (picked (now (cells .entry)) (Pick.Open e) v)) (nodeCount (now (cells .entry))) ⌝ }
-{
-    let n = node_count(cells);
-    NodeSet::whole(n).difference(open_set(cells, e))
 }
 
 // The nodes below n in the sets of steps i and j; in one of them.

@@ -192,7 +192,7 @@ fn entry_holds(
             let words = part.words;
             all_holds(cells, index, e, v, &words)
         }
-        codes::FORM_CLOSED => closed_holds(cells, e, v),
+        codes::FORM_CLOSED => closed_holds(cells, index, e, v),
         codes::FORM_ONELANG => lang_holds(cells, index, values, e, v),
         codes::FORM_KIND..=codes::FORM_BELOW => test_holds(cells, values, e, v),
         _ => sets_hold(cells, index, values, e, v),

@@ -15,7 +15,7 @@ no-fact-requires : tie.Need-no-fact-requires
 no-fact-requires c κs = search needs
 
 returns : tie.Need-returns
-returns c = let a = c .before .before .before .args in let cs = a .cells .now in c .no-fact .ensures ∙ ap nothing (c .before .first-unlisted .ensures) ∙ unlisted-keeps cs (itemsAt cs (formFirstAt cs (a .e)) (formSecondAt cs (a .e))) (a .v)
+returns c = let a = c .before .before .before .before .args in let cs = a .cells .now in c .no-fact .ensures ∙ ap nothing (c .before .first-unlisted .ensures) ∙ unlisted-keeps cs (itemsAt cs (formFirstAt cs (a .e)) (formSecondAt cs (a .e))) (a .v)
 
 pub closed-holds-spec : {M : Type 1} → statement M
 closed-holds-spec = tie.close (tie.spec first-unlisted-requires no-fact-requires returns)

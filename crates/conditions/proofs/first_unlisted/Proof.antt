@@ -1,59 +1,61 @@
--- `first_unlisted` meets its contract. The invariant: none of the first i facts is one.
-use mathlib.Core.Path.{_≡_, sym, ap, _∙_, subst}
-use mathlib.Core.Bool.{true, false}
+-- `first_unlisted` meets its contract. The invariant: what was found is the first after the facts that are left on the chain.
+use Prim.Native.Nat.{ℕ, suc, _-_, _≤_}
 use mathlib.Core.Option.{Option}
-use Prim.Native.Nat.{ℕ, _-_, _≤_, _<_}
+use mathlib.Core.Path.{_≡_}
 use native.Mathlib.Omega.{arith}
 use borrow.Author.Needs.{needs}
-use Rattle.tables.specs.Layout.{factCount, formFirstAt, formSecondAt}
+use Rattle.tables.specs.Layout.{formFirstAt, formSecondAt}
 use Rattle.tables.specs.Decode.{itemsAt}
-use Rattle.conditions.specs.Pairs.{unlisted}
-use Rattle.conditions.proofs.Searches.{first-none, first-at, none-more}
+use Rattle.tables.proofs.WellFormed.{sound}
+use Rattle.conditions.specs.Searches.{factFound}
+use Rattle.conditions.proofs.Items.{Sought, sought-first, sought-falls, sought-more, sought-done}
 use Rattle.conditions.proofs.first_unlisted.Statement.{statement}
 use Rattle.conditions.proofs.first_unlisted.Tie as tie
 
 abbrev Inv-loop : tie.InvT-loop
-Inv-loop cells e v n i₀ i = (i ≤ n) × (n ≡ factCount cells) × ((j : ℕ) → j < i → unlisted cells (itemsAt cells (formFirstAt cells e) (formSecondAt cells e)) v j ≡ false)
+Inv-loop cells index e v answer₀ next₀ answer next = Sought cells (itemsAt cells (formFirstAt cells e) (formSecondAt cells e)) v next (factFound answer)
 
 abbrev μ-loop : tie.MeasureT-loop
-μ-loop cells e v n i₀ i = n - i
+μ-loop cells index e v answer₀ next₀ answer next = next
 
-fact-count-requires : tie.Need-fact-count-requires Inv-loop μ-loop
-fact-count-requires c κs = search needs
+last-out-requires : tie.Need-last-out-requires Inv-loop μ-loop
+last-out-requires c κs = search needs
 
 loop-holds : tie.Need-loop-holds Inv-loop μ-loop
-loop-holds c = (search needs, c .fact-count .ensures, λ j l. absurd (omega arith))
+loop-holds c = let a = c .before .before .before .args in let cs = a .cells .now in sought-first cs (a .index .now) (c .before .before .before .pre) (itemsAt cs (formFirstAt cs (a .e)) (formSecondAt cs (a .e))) (a .v) (c .last-out .ensures)
+
+sub-i : tie.Need-sub-i Inv-loop μ-loop
+sub-i c = search needs
 
 fact-unlisted-requires : tie.Need-fact-unlisted-requires Inv-loop μ-loop
 fact-unlisted-requires c κs = search needs
 
-returns : tie.Need-returns Inv-loop μ-loop
-returns c =
-    let a = c .before .before .before .before .before .before .args in
-    let cs = a .cells .now in
-    let l = c .before .before .before .loop in
-    sym (first-at (unlisted cs (itemsAt cs (formFirstAt cs (a .e)) (formSecondAt cs (a .e))) (a .v)) (factCount cs) (l .i) (omega (arith, c .before .before .loop-test, l .inv .0, l .inv .1)) (sym (c .before .fact-unlisted .ensures) ∙ c .if1 .taken) (l .inv .2))
+fact-if-requires : tie.Need-fact-if-requires Inv-loop μ-loop
+fact-if-requires c κs = search needs
 
-add-i : tie.Need-add-i Inv-loop μ-loop
-add-i c = search needs
+next-out-requires : tie.Need-next-out-requires Inv-loop μ-loop
+next-out-requires c κs = let cs = c .before .before .before .before .before .before .before .args .cells .now in omega (arith, c .before .before .loop-test, c .before .before .before .loop .inv .low, sound cs (c .before .before .before .before .before .before .before .pre .ok) .facts)
 
 loop-less : tie.Need-loop-less Inv-loop μ-loop
-loop-less c = search needs
+loop-less c =
+    let a = c .before .before .before .before .before .before .before .before .args in
+    let cs = a .cells .now in
+    let l = c .before .before .before .before .loop in
+    let i : ℕ = l .next - 1 in
+    let q : l .next ≡ suc i = omega (arith, c .before .before .before .loop-test) in
+    omega (arith, q, sought-falls cs (a .index .now) (c .before .before .before .before .before .before .before .before .pre) (itemsAt cs (formFirstAt cs (a .e)) (formSecondAt cs (a .e))) (a .v) i (l .inv) q (c .before .before .fact-unlisted .ensures) (c .before .fact-if .ensures) (c .next-out .ensures))
 
 loop-again : tie.Need-loop-again Inv-loop μ-loop
 loop-again c =
-    let a = c .before .before .before .before .before .before .args in
+    let a = c .before .before .before .before .before .before .before .before .args in
     let cs = a .cells .now in
-    let l = c .before .before .before .loop in
-    (omega arith, l .inv .1, none-more (unlisted cs (itemsAt cs (formFirstAt cs (a .e)) (formSecondAt cs (a .e))) (a .v)) (l .inv .2) (sym (c .before .fact-unlisted .ensures) ∙ c .if1 .left))
+    let l = c .before .before .before .before .loop in
+    let i : ℕ = l .next - 1 in
+    let q : l .next ≡ suc i = omega (arith, c .before .before .before .loop-test) in
+    sought-more cs (a .index .now) (c .before .before .before .before .before .before .before .before .pre) (itemsAt cs (formFirstAt cs (a .e)) (formSecondAt cs (a .e))) (a .v) i (l .inv) q (c .before .before .fact-unlisted .ensures) (c .before .fact-if .ensures) (c .next-out .ensures)
 
-returns-2 : tie.Need-returns-2 Inv-loop μ-loop
-returns-2 c =
-    let a = c .before .before .before .before .args in
-    let cs = a .cells .now in
-    let l = c .before .loop in
-    let done : factCount cs ≤ l .i = omega (arith, c .loop-test, l .inv .0, l .inv .1) in
-    sym (first-none (unlisted cs (itemsAt cs (formFirstAt cs (a .e)) (formSecondAt cs (a .e))) (a .v)) (factCount cs) (λ j k. l .inv .2 j (omega arith)))
+returns : tie.Need-returns Inv-loop μ-loop
+returns c = let a = c .before .before .before .before .before .args in let cs = a .cells .now in let l = c .before .loop in sought-done cs (a .index .now) (c .before .before .before .before .before .pre) (itemsAt cs (formFirstAt cs (a .e)) (formSecondAt cs (a .e))) (a .v) (let e : l .next ≡ 0 = omega (arith, c .loop-test) in e) (l .inv)
 
 pub first-unlisted-spec : {M : Type 1} → statement M
 first-unlisted-spec =
@@ -61,11 +63,12 @@ first-unlisted-spec =
     (tie.spec
     Inv-loop
     μ-loop
-    fact-count-requires
+    last-out-requires
     loop-holds
+    sub-i
     fact-unlisted-requires
-    returns
-    add-i
+    fact-if-requires
+    next-out-requires
     loop-less
     loop-again
-    returns-2)
+    returns)

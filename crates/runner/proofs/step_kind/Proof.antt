@@ -3,7 +3,7 @@ use mathlib.Core.Path.{refl}
 use denote.Ref.{now}
 use Rattle.plan.specs.Steps.{stepOf}
 use Rattle.stepsets.specs.declared.Condition.the-variants.{Is, IsNot, Equal, Unequal, Apart, Meet, Less, NotLess, LessEq, NotLessEq}
-use Rattle.stepsets.specs.declared.Pick.the-variants.{From, Into, Typed}
+use Rattle.stepsets.specs.declared.Target.the-variants.{From, Into, Typed}
 use Rattle.runner.specs.declared.Kind.the-variants.{Node, Ends, Facts}
 use Rattle.runner.specs.Kinds.{kindOf}
 use Rattle.runner.proofs.Codes.{nots-le}

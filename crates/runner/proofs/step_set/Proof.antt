@@ -1,14 +1,11 @@
 -- `step_set` meets its contract, arm by arm.
-use Prim.Native.Nat.{ℕ, _*_, _≤_}
+use Prim.Native.Nat.{ℕ, _*_}
 use mathlib.Core.Bool.{_&&_, _||_}
 use mathlib.Core.Path.{_≡_, sym, ap, _∙_, subst}
 use lib.Dec.{ltb}
 use lib.ListN.{drop}
 use denote.Ref.{now}
 use Rattle.nodeset.specs.Words.{has, wordsOf}
-use Rattle.model.specs.Limits.{maxNodes}
-use Rattle.tables.specs.Layout.{nodeCount}
-use Rattle.tables.proofs.WellFormed.{sound}
 use Rattle.plan.specs.Layout.{stepAt}
 use Rattle.stepsets.specs.Conditions.{nodesOf}
 use Rattle.stepsets.specs.Ends.{Held}
@@ -29,12 +26,11 @@ use Rattle.stepsets.proofs.either_set.Reads as either-set-reads
 use Rattle.stepsets.proofs.path_set.Reads as path-set-reads
 use Rattle.stepsets.proofs.ends_set.Reads as ends-set-reads
 use Rattle.stepsets.proofs.lang_set.Reads as lang-set-reads
-use Rattle.stepsets.proofs.closed_set.Reads as closed-set-reads
 use Rattle.stepsets.proofs.facts_set.Reads as facts-set-reads
 
 -- what is asked of each callee, and what it tells
 abbrev calls : lts.Claims
-calls = (node-count-reads.Asked, node-count-reads.Learnt, step-kind-reads.Asked, step-kind-reads.Learnt, whole-reads.Asked, whole-reads.Learnt, plain-set-reads.Asked, plain-set-reads.Learnt, both-set-reads.Asked, both-set-reads.Learnt, either-set-reads.Asked, either-set-reads.Learnt, path-set-reads.Asked, path-set-reads.Learnt, ends-set-reads.Asked, ends-set-reads.Learnt, lang-set-reads.Asked, lang-set-reads.Learnt, closed-set-reads.Asked, closed-set-reads.Learnt, facts-set-reads.Asked, facts-set-reads.Learnt)
+calls = (node-count-reads.Asked, node-count-reads.Learnt, step-kind-reads.Asked, step-kind-reads.Learnt, whole-reads.Asked, whole-reads.Learnt, plain-set-reads.Asked, plain-set-reads.Learnt, both-set-reads.Asked, both-set-reads.Learnt, either-set-reads.Asked, either-set-reads.Learnt, path-set-reads.Asked, path-set-reads.Learnt, ends-set-reads.Asked, ends-set-reads.Learnt, lang-set-reads.Asked, lang-set-reads.Learnt, facts-set-reads.Asked, facts-set-reads.Learnt)
 
 -- what is known of the step where the match begins, which all arms share
 abbrev Place : Type 0
@@ -46,9 +42,6 @@ words c e = ap (kindSet (now (c .before .before .before .before .before .before 
 
 right : (c : Place) {x : Kind} → c .step-kind .result ≡ x → KindOk (now (c .before .before .before .before .before .before .before .before .args .cells)) x
 right c e = subst (KindOk (now (c .before .before .before .before .before .before .before .before .args .cells))) (sym (c .step-kind .ensures) ∙ e) (kind-ok (now (c .before .before .before .before .before .before .before .before .args .cells)) (c .before .before .before .before .before .before .before .before .args .k) (c .before .before .before .before .before .before .before .before .pre .1) (stepAt (now (c .before .before .before .before .before .before .before .before .args .plan)) (c .before .before .before .before .before .before .before .before .args .k)) (c .before .before .before .before .before .before .before .before .pre .2))
-
-few : (c : Place) → nodeCount (now (c .before .before .before .before .before .before .before .before .args .cells)) ≤ maxNodes
-few c = sound (now (c .before .before .before .before .before .before .before .before .args .cells)) (c .before .before .before .before .before .before .before .before .pre .0 .ok) .nodes
 
 -- the rows that no arm has touched
 first-kept : (c : Place) → Held (now (c .before .before .before .before .before .before .before .before .args .cells)) (now (c .before .before .before .before .before .before .before .before .args .end)) (now (c .before .before .before .before .before .before .before .before .args .first))
@@ -76,7 +69,7 @@ enum-known-condition : tie.Need-enum-known-condition
 enum-known-condition c = search needs
 
 plain-set-requires : tie.Need-plain-set-requires
-plain-set-requires c κs = (few (c .before .before .before), right (c .before .before .before) (c .before .condition .given .1))
+plain-set-requires c κs = (c .before .before .before .before .before .before .before .before .before .before .before .pre .0, right (c .before .before .before) (c .before .condition .given .1))
 
 enum-known-i : tie.Need-enum-known-i
 enum-known-i c = search needs
@@ -108,14 +101,8 @@ enum-known-condition-4 c = search needs
 lang-set-requires : tie.Need-lang-set-requires
 lang-set-requires c κs = let r = right (c .before .before .before .before .before) (c .before .before .before .condition4 .given .1) in (c .before .before .before .before .before .before .before .before .before .before .before .before .before .pre .0, r .0, r .1, first-kept (c .before .before .before .before .before))
 
-enum-known-e : tie.Need-enum-known-e
-enum-known-e c = search needs
-
-closed-set-requires : tie.Need-closed-set-requires
-closed-set-requires c κs = search needs
-
-enum-known-pick : tie.Need-enum-known-pick
-enum-known-pick c = search needs
+enum-known-target : tie.Need-enum-known-target
+enum-known-target c = search needs
 
 facts-set-requires : tie.Need-facts-set-requires
 facts-set-requires c κs = search needs
@@ -166,11 +153,7 @@ returns-8 c = (c .before .before .lang-set .ensures .0 ∙ words (c .before .bef
 
 returns-9 : tie.Need-returns-9
 unfolding kindSet
-returns-9 c = (c .closed-set .ensures ∙ words (c .before .before .before .before) (c .before .before .e .given .1), (first-kept (c .before .before .before .before), second-kept (c .before .before .before .before)))
-
-returns-10 : tie.Need-returns-10
-unfolding kindSet
-returns-10 c = (c .facts-set .ensures ∙ words (c .before .before .before .before) (c .before .before .pick .given .1), (first-kept (c .before .before .before .before), second-kept (c .before .before .before .before)))
+returns-9 c = (c .facts-set .ensures ∙ words (c .before .before .before .before) (c .before .before .target .given .1), (first-kept (c .before .before .before .before), second-kept (c .before .before .before .before)))
 
 pub step-set-spec : {M : Type 1} → statement M
 step-set-spec =
@@ -193,9 +176,7 @@ step-set-spec =
     ends-set-requires
     enum-known-condition-4
     lang-set-requires
-    enum-known-e
-    closed-set-requires
-    enum-known-pick
+    enum-known-target
     facts-set-requires
     returns
     returns-2
@@ -209,5 +190,4 @@ step-set-spec =
     returns-7
     same-length-4
     returns-8
-    returns-9
-    returns-10)
+    returns-9)

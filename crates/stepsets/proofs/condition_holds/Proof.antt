@@ -2,8 +2,10 @@
 use Prim.Native.Nat.{ℕ}
 use mathlib.Core.Bool.{_&&_}
 use mathlib.Core.Path.{ap, _∙_}
+use native.Mathlib.Omega.{arith}
 use Rattle.nodeset.specs.Words.{has}
 use Rattle.model.specs.Shapes.{subset, noneShared}
+use Rattle.tables.proofs.WellFormed.{sound}
 use Rattle.plan.specs.Conditions.{someInOne, someShared}
 use Rattle.stepsets.specs.Conditions.{holdsOf}
 use Rattle.stepsets.proofs.Conditions.{test-named, untest-named}
@@ -30,13 +32,13 @@ enum-known-condition-3 : tie.Need-enum-known-condition-3
 enum-known-condition-3 c = search needs
 
 test-holds-requires : tie.Need-test-holds-requires
-test-holds-requires c κs = let t = test-named (c .before .before .before .before .before .before .before .args .cells .now) (c .before .condition3 .given .1) (c .before .before .before .before .before .before .before .pre .2) in (c .before .before .before .before .before .before .before .pre .1, t .0, t .1)
+test-holds-requires c κs = let t = test-named (c .before .before .before .before .before .before .before .before .args .cells .now) (c .before .condition3 .given .1) (c .before .before .before .before .before .before .before .before .pre .2) in (c .before .before .before .before .before .before .before .before .pre .1, t .0, t .1)
 
 enum-known-condition-4 : tie.Need-enum-known-condition-4
 enum-known-condition-4 c = search needs
 
 test-fails-requires : tie.Need-test-fails-requires
-test-fails-requires c κs = let t = untest-named (c .before .before .before .before .before .before .before .args .cells .now) (c .before .condition4 .given .1) (c .before .before .before .before .before .before .before .pre .2) in (c .before .before .before .before .before .before .before .pre .1, t .0, t .1)
+test-fails-requires c κs = let t = untest-named (c .before .before .before .before .before .before .before .before .args .cells .now) (c .before .condition4 .given .1) (c .before .before .before .before .before .before .before .before .pre .2) in (c .before .before .before .before .before .before .before .before .pre .1, t .0, t .1)
 
 enum-known-condition-5 : tie.Need-enum-known-condition-5
 enum-known-condition-5 c = search needs
@@ -51,67 +53,79 @@ enum-told : tie.Need-enum-told
 enum-told c = search needs
 
 subset-holds-requires : tie.Need-subset-holds-requires
-subset-holds-requires c κs = search needs
+subset-holds-requires c κs = omega (arith, c .before .before .node-count .ensures, sound (c .before .before .before .before .before .before .before .args .cells .now) (c .before .before .before .before .before .before .before .pre .0 .ok) .nodes)
 
 enum-told-2 : tie.Need-enum-told-2
 enum-told-2 c = search needs
 
 equal-holds-requires : tie.Need-equal-holds-requires
-equal-holds-requires c κs = search needs
+equal-holds-requires c κs = omega (arith, c .before .before .node-count .ensures, sound (c .before .before .before .before .before .before .before .args .cells .now) (c .before .before .before .before .before .before .before .pre .0 .ok) .nodes)
 
 enum-told-3 : tie.Need-enum-told-3
 enum-told-3 c = search needs
 
 equal-fails-requires : tie.Need-equal-fails-requires
-equal-fails-requires c κs = search needs
+equal-fails-requires c κs = omega (arith, c .before .before .node-count .ensures, sound (c .before .before .before .before .before .before .before .args .cells .now) (c .before .before .before .before .before .before .before .pre .0 .ok) .nodes)
 
 enum-told-4 : tie.Need-enum-told-4
 enum-told-4 c = search needs
 
 apart-holds-requires : tie.Need-apart-holds-requires
-apart-holds-requires c κs = search needs
+apart-holds-requires c κs = omega (arith, c .before .before .node-count .ensures, sound (c .before .before .before .before .before .before .before .args .cells .now) (c .before .before .before .before .before .before .before .pre .0 .ok) .nodes)
 
 enum-told-5 : tie.Need-enum-told-5
 enum-told-5 c = search needs
 
 apart-fails-requires : tie.Need-apart-fails-requires
-apart-fails-requires c κs = search needs
+apart-fails-requires c κs = omega (arith, c .before .before .node-count .ensures, sound (c .before .before .before .before .before .before .before .args .cells .now) (c .before .before .before .before .before .before .before .pre .0 .ok) .nodes)
 
 enum-told-6 : tie.Need-enum-told-6
 enum-told-6 c = search needs
 
 less-holds-requires : tie.Need-less-holds-requires
-less-holds-requires c κs = search needs
+less-holds-requires c κs = sound (c .before .before .before .before .before .before .before .args .cells .now) (c .before .before .before .before .before .before .before .pre .0 .ok) .nodes
 
 enum-told-7 : tie.Need-enum-told-7
 enum-told-7 c = search needs
 
 less-fails-requires : tie.Need-less-fails-requires
-less-fails-requires c κs = search needs
+less-fails-requires c κs = sound (c .before .before .before .before .before .before .before .args .cells .now) (c .before .before .before .before .before .before .before .pre .0 .ok) .nodes
 
 enum-told-8 : tie.Need-enum-told-8
 enum-told-8 c = search needs
 
 lesseq-holds-requires : tie.Need-lesseq-holds-requires
-lesseq-holds-requires c κs = search needs
+lesseq-holds-requires c κs = sound (c .before .before .before .before .before .before .before .args .cells .now) (c .before .before .before .before .before .before .before .pre .0 .ok) .nodes
 
 enum-told-9 : tie.Need-enum-told-9
 enum-told-9 c = search needs
 
 lesseq-fails-requires : tie.Need-lesseq-fails-requires
-lesseq-fails-requires c κs = search needs
+lesseq-fails-requires c κs = sound (c .before .before .before .before .before .before .before .args .cells .now) (c .before .before .before .before .before .before .before .pre .0 .ok) .nodes
 
 enum-told-10 : tie.Need-enum-told-10
 enum-told-10 c = search needs
 
 onelang-holds-requires : tie.Need-onelang-holds-requires
-onelang-holds-requires c κs = search needs
+onelang-holds-requires c κs = sound (c .before .before .before .before .before .before .before .args .cells .now) (c .before .before .before .before .before .before .before .pre .0 .ok) .nodes
 
 enum-told-11 : tie.Need-enum-told-11
 enum-told-11 c = search needs
 
 onelang-fails-requires : tie.Need-onelang-fails-requires
-onelang-fails-requires c κs = search needs
+onelang-fails-requires c κs = sound (c .before .before .before .before .before .before .before .args .cells .now) (c .before .before .before .before .before .before .before .pre .0 .ok) .nodes
+
+enum-known-condition-6 : tie.Need-enum-known-condition-6
+enum-known-condition-6 c = search needs
+
+closed-holds-requires : tie.Need-closed-holds-requires
+closed-holds-requires c κs = c .before .before .before .before .before .before .before .before .pre .0
+
+enum-known-condition-7 : tie.Need-enum-known-condition-7
+enum-known-condition-7 c = search needs
+
+closed-fails-requires : tie.Need-closed-fails-requires
+closed-fails-requires c κs = c .before .before .before .before .before .before .before .before .pre .0
 
 returns : tie.Need-returns
 unfolding holdsOf
@@ -135,23 +149,23 @@ returns-5 c = rw (c .before .before .before .condition5 .given .1) (cc)
 
 returns-6 : tie.Need-returns-6
 unfolding holdsOf
-returns-6 c = let a = c .before .before .before .before .before .before .before .args in rw (c .before .enum-told .given .1) (c .subset-holds .ensures ∙ ap (λ (n : ℕ). subset n (has (a .a .now)) (has (a .b .now))) (c .before .before .before .node-count .ensures))
+returns-6 c = let a = c .before .before .before .before .before .before .before .before .args in rw (c .before .enum-told .given .1) (c .subset-holds .ensures ∙ ap (λ (n : ℕ). subset n (has (a .a .now)) (has (a .b .now))) (c .before .before .before .node-count .ensures))
 
 returns-7 : tie.Need-returns-7
 unfolding holdsOf
-returns-7 c = let a = c .before .before .before .before .before .before .before .args in rw (c .before .enum-told2 .given .1) (c .equal-holds .ensures ∙ ap (λ (n : ℕ). subset n (has (a .a .now)) (has (a .b .now)) && subset n (has (a .b .now)) (has (a .a .now))) (c .before .before .before .node-count .ensures))
+returns-7 c = let a = c .before .before .before .before .before .before .before .before .args in rw (c .before .enum-told2 .given .1) (c .equal-holds .ensures ∙ ap (λ (n : ℕ). subset n (has (a .a .now)) (has (a .b .now)) && subset n (has (a .b .now)) (has (a .a .now))) (c .before .before .before .node-count .ensures))
 
 returns-8 : tie.Need-returns-8
 unfolding holdsOf
-returns-8 c = let a = c .before .before .before .before .before .before .before .args in rw (c .before .enum-told3 .given .1) (c .equal-fails .ensures ∙ ap (λ (n : ℕ). someInOne n (has (a .a .now)) (has (a .b .now))) (c .before .before .before .node-count .ensures))
+returns-8 c = let a = c .before .before .before .before .before .before .before .before .args in rw (c .before .enum-told3 .given .1) (c .equal-fails .ensures ∙ ap (λ (n : ℕ). someInOne n (has (a .a .now)) (has (a .b .now))) (c .before .before .before .node-count .ensures))
 
 returns-9 : tie.Need-returns-9
 unfolding holdsOf
-returns-9 c = let a = c .before .before .before .before .before .before .before .args in rw (c .before .enum-told4 .given .1) (c .apart-holds .ensures ∙ ap (λ (n : ℕ). noneShared n (has (a .a .now)) (has (a .b .now))) (c .before .before .before .node-count .ensures))
+returns-9 c = let a = c .before .before .before .before .before .before .before .before .args in rw (c .before .enum-told4 .given .1) (c .apart-holds .ensures ∙ ap (λ (n : ℕ). noneShared n (has (a .a .now)) (has (a .b .now))) (c .before .before .before .node-count .ensures))
 
 returns-10 : tie.Need-returns-10
 unfolding holdsOf
-returns-10 c = let a = c .before .before .before .before .before .before .before .args in rw (c .before .enum-told5 .given .1) (c .apart-fails .ensures ∙ ap (λ (n : ℕ). someShared n (has (a .a .now)) (has (a .b .now))) (c .before .before .before .node-count .ensures))
+returns-10 c = let a = c .before .before .before .before .before .before .before .before .args in rw (c .before .enum-told5 .given .1) (c .apart-fails .ensures ∙ ap (λ (n : ℕ). someShared n (has (a .a .now)) (has (a .b .now))) (c .before .before .before .node-count .ensures))
 
 returns-11 : tie.Need-returns-11
 unfolding holdsOf
@@ -171,11 +185,19 @@ returns-14 c = rw (c .before .enum-told9 .given .1) (c .lesseq-fails .ensures)
 
 returns-15 : tie.Need-returns-15
 unfolding holdsOf
-returns-15 c = rw (c .before .enum-told10 .given .1) (c .onelang-holds .ensures (c .before .before .before .before .before .before .before .args .values .now))
+returns-15 c = rw (c .before .enum-told10 .given .1) (c .onelang-holds .ensures (c .before .before .before .before .before .before .before .before .args .values .now))
 
 returns-16 : tie.Need-returns-16
 unfolding holdsOf
-returns-16 c = rw (c .before .enum-told11 .given .1) (c .onelang-fails .ensures (c .before .before .before .before .before .before .before .args .values .now))
+returns-16 c = rw (c .before .enum-told11 .given .1) (c .onelang-fails .ensures (c .before .before .before .before .before .before .before .before .args .values .now))
+
+returns-17 : tie.Need-returns-17
+unfolding holdsOf
+returns-17 c = rw (c .before .before .condition6 .given .1) (c .closed-holds .ensures)
+
+returns-18 : tie.Need-returns-18
+unfolding holdsOf
+returns-18 c = rw (c .before .before .condition7 .given .1) (c .closed-fails .ensures)
 
 pub condition-holds-spec : {M : Type 1} → statement M
 condition-holds-spec =
@@ -215,6 +237,10 @@ condition-holds-spec =
     onelang-holds-requires
     enum-told-11
     onelang-fails-requires
+    enum-known-condition-6
+    closed-holds-requires
+    enum-known-condition-7
+    closed-fails-requires
     returns
     returns-2
     returns-3
@@ -230,4 +256,6 @@ condition-holds-spec =
     returns-13
     returns-14
     returns-15
-    returns-16)
+    returns-16
+    returns-17
+    returns-18)

@@ -23,7 +23,7 @@ keep-ends-requires-2 : tie.Need-keep-ends-requires-2
 keep-ends-requires-2 c κs = let pre = c .before .before .before .before .before .before .before .before .before .before .before .before .pre in let a = c .before .before .before .before .before .before .before .before .before .before .before .before .args in (pre .0, ap (numberOk (a .cells .now)) (c .link-number .ensures .0) ∙ link-right (a .cells .now) (a .l .0), pre .4)
 
 nodes-where-requires : tie.Need-nodes-where-requires
-nodes-where-requires c κs = (sound (c .before .before .before .before .before .before .before .before .before .before .before .before .before .before .before .before .before .args .cells .now) (c .before .before .before .before .before .before .before .before .before .before .before .before .before .before .before .before .before .pre .0 .ok) .nodes, c .before .before .before .before .before .before .before .before .before .before .before .before .before .before .before .before .before .pre .2)
+nodes-where-requires c κs = (c .before .before .before .before .before .before .before .before .before .before .before .before .before .before .before .before .before .pre .0, c .before .before .before .before .before .before .before .before .before .before .before .before .before .before .before .before .before .pre .2)
 
 same-length : tie.Need-same-length
 same-length c = search needs

@@ -27,7 +27,7 @@ slice-aggregate-nodes-where : tie.Need-slice-aggregate-nodes-where
 slice-aggregate-nodes-where c = search needs
 
 nodes-where-requires : tie.Need-nodes-where-requires
-nodes-where-requires c κs = (sound (c .before .before .before .before .before .before .before .before .before .before .before .before .args .cells .now) (c .before .before .before .before .before .before .before .before .before .before .before .before .pre .0 .ok) .nodes, c .before .before .before .before .before .before .before .before .before .before .before .before .pre .2)
+nodes-where-requires c κs = (c .before .before .before .before .before .before .before .before .before .before .before .before .pre .0, c .before .before .before .before .before .before .before .before .before .before .before .before .pre .2)
 
 same-length : tie.Need-same-length
 same-length c = search needs

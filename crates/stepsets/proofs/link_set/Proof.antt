@@ -8,15 +8,15 @@ use Rattle.nodeset.proofs.Sets.{length-of}
 use Rattle.chains.proofs.Chains.{walk-falls}
 use Rattle.tables.specs.Layout.{factCount, predicateAt}
 use Rattle.tables.proofs.WellFormed.{sound}
-use Rattle.stepsets.proofs.Picks.{Walk, walk-first, walk-on, walk-done}
+use Rattle.stepsets.proofs.Targets.{Walk, walk-first, walk-on, walk-done}
 use Rattle.stepsets.proofs.link_set.Statement.{statement}
 use Rattle.stepsets.proofs.link_set.Tie as tie
 
 abbrev Inv-loop : tie.InvT-loop
-Inv-loop pick cells index words₀ next₀ words next = Walk cells pick words next
+Inv-loop target cells index words₀ next₀ words next = Walk cells target words next
 
 abbrev μ-loop : tie.MeasureT-loop
-μ-loop pick cells index words₀ next₀ words next = next
+μ-loop target cells index words₀ next₀ words next = next
 
 last-fact-requires : tie.Need-last-fact-requires Inv-loop μ-loop
 last-fact-requires c κs = search needs
@@ -25,7 +25,7 @@ loop-holds : tie.Need-loop-holds Inv-loop μ-loop
 loop-holds c =
     let a = c .before .before .before .args in
     let t = c .before .before .before .pre .0 in
-    walk-first (a .cells .now) (a .index .now) t (a .pick) (a .l .0) (c .before .before .before .pre .1) (c .last-fact .ensures)
+    walk-first (a .cells .now) (a .index .now) t (a .target) (a .l .0) (c .before .before .before .pre .1) (c .last-fact .ensures)
 
 sub-i : tie.Need-sub-i Inv-loop μ-loop
 sub-i c = search needs
@@ -62,13 +62,13 @@ loop-again c =
     let w = c .before .before .before .before .before .before .before .loop in
     let i : ℕ = w .next - 1 in
     let q : w .next ≡ suc i = omega (arith, c .before .before .before .before .before .before .loop-test .taken) in
-    walk-on (a .cells .now) (a .index .now) t (a .pick) (w .next) (c .next-fact .result) i (c .before .before .before .before .before .node-of .result) (c .before .before .before .chooses .result) (w .inv) q (c .before .before .before .before .before .node-of .ensures) (c .before .before .before .chooses .ensures) (c .before .before .insert-if .ensures) (c .next-fact .ensures)
+    walk-on (a .cells .now) (a .index .now) t (a .target) (w .next) (c .next-fact .result) i (c .before .before .before .before .before .node-of .result) (c .before .before .before .chooses .result) (w .inv) q (c .before .before .before .before .before .node-of .ensures) (c .before .before .before .chooses .ensures) (c .before .before .insert-if .ensures) (c .next-fact .ensures)
 
 returns : tie.Need-returns Inv-loop μ-loop
 returns c =
     let a = c .before .before .before .before .before .args in
     let t = c .before .before .before .before .before .pre .0 in
-    walk-done (a .cells .now) (a .index .now) t (a .pick) (c .before .loop .next) (omega (arith, c .loop-test .left)) (c .before .loop .inv)
+    walk-done (a .cells .now) (a .index .now) t (a .target) (c .before .loop .next) (omega (arith, c .loop-test .left)) (c .before .loop .inv)
 
 pub link-set-spec : {M : Type 1} → statement M
 link-set-spec =

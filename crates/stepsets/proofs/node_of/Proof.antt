@@ -1,4 +1,4 @@
-use Rattle.stepsets.specs.Picks.{nodeOf}
+use Rattle.stepsets.specs.Targets.{nodeOf}
 use borrow.Author.Needs.{needs}
 use Rattle.stepsets.proofs.node_of.Statement.{statement}
 use Rattle.stepsets.proofs.node_of.Tie as tie
@@ -30,15 +30,6 @@ subject-requires-2 c κs = search needs
 wide-requires-3 : tie.Need-wide-requires-3
 wide-requires-3 c κs = search needs
 
-enum-told-4 : tie.Need-enum-told-4
-enum-told-4 c = search needs
-
-subject-requires-3 : tie.Need-subject-requires-3
-subject-requires-3 c κs = search needs
-
-wide-requires-4 : tie.Need-wide-requires-4
-wide-requires-4 c κs = search needs
-
 returns : tie.Need-returns
 unfolding nodeOf
 returns c = rw (c .before .before .enum-told .given .1) (cc)
@@ -50,10 +41,6 @@ returns-2 c = rw (c .before .before .enum-told2 .given .1) (cc)
 returns-3 : tie.Need-returns-3
 unfolding nodeOf
 returns-3 c = rw (c .before .before .enum-told3 .given .1) (cc)
-
-returns-4 : tie.Need-returns-4
-unfolding nodeOf
-returns-4 c = rw (c .before .before .enum-told4 .given .1) (cc)
 
 pub node-of-spec : {M : Type 1} → statement M
 node-of-spec =
@@ -68,10 +55,6 @@ node-of-spec =
     enum-told-3
     subject-requires-2
     wide-requires-3
-    enum-told-4
-    subject-requires-3
-    wide-requires-4
     returns
     returns-2
-    returns-3
-    returns-4)
+    returns-3)

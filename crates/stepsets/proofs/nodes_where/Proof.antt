@@ -7,40 +7,41 @@ use borrow.Author.Needs.{needs}
 use denote.Ref.{now}
 use lib.ListN.{drop}
 use Rattle.nodeset.specs.Words.{has}
+use Rattle.tables.proofs.WellFormed.{sound}
 use Rattle.stepsets.specs.Conditions.{nodesOf, holdsOf}
 use Rattle.stepsets.proofs.Nodes.{nodes-none, nodes-more, nodes-done, nodes-length}
 use Rattle.stepsets.proofs.nodes_where.Statement.{statement}
 use Rattle.stepsets.proofs.nodes_where.Tie as tie
 
 abbrev Inv-loop : tie.InvT-loop
-Inv-loop condition cells values first second each n words₀ v₀ words v = (v ≤ n) × (words ≡ nodesOf (λ u. holdsOf cells values condition (has (drop (16 * u) first)) (has (drop (cond each (16 * u) 0) second)) u) v)
+Inv-loop condition cells index values first second each n words₀ v₀ words v = (v ≤ n) × (words ≡ nodesOf (λ u. holdsOf cells values condition (has (drop (16 * u) first)) (has (drop (cond each (16 * u) 0) second)) u) v)
 
 abbrev μ-loop : tie.MeasureT-loop
-μ-loop condition cells values first second each n words₀ v₀ words v = n - v
+μ-loop condition cells index values first second each n words₀ v₀ words v = n - v
 
 node-count-requires : tie.Need-node-count-requires Inv-loop μ-loop
 node-count-requires c κs = search needs
 
 loop-holds : tie.Need-loop-holds Inv-loop μ-loop
-loop-holds c = (omega arith, nodes-none (λ u. holdsOf (now (c .before .before .before .before .args .cells)) (now (c .before .before .before .before .args .values)) (c .before .before .before .before .args .condition) (has (drop (16 * u) (now (c .before .before .before .before .args .first)))) (has (drop (cond (c .before .before .before .before .args .each) (16 * u) 0) (now (c .before .before .before .before .args .second)))) u))
+loop-holds c = (omega arith, nodes-none (λ u. holdsOf (now (c .before .before .before .before .before .args .cells)) (now (c .before .before .before .before .before .args .values)) (c .before .before .before .before .before .args .condition) (has (drop (16 * u) (now (c .before .before .before .before .before .args .first)))) (has (drop (cond (c .before .before .before .before .before .args .each) (16 * u) 0) (now (c .before .before .before .before .before .args .second)))) u))
 
 mul-part : tie.Need-mul-part Inv-loop μ-loop
-mul-part c = omega (arith, c .before .before .before .before .before .before .pre .0, c .before .before .node-count .ensures)
+mul-part c = omega (arith, sound (c .before .before .before .before .before .before .before .args .cells .now) (c .before .before .before .before .before .before .before .pre .0 .ok) .nodes, c .before .before .node-count .ensures)
 
 part-requires : tie.Need-part-requires Inv-loop μ-loop
 part-requires c κs = search needs
 
 place-requires : tie.Need-place-requires Inv-loop μ-loop
-place-requires c κs = omega (arith, c .before .before .before .before .before .before .before .pre .0, c .before .before .before .node-count .ensures)
+place-requires c κs = omega (arith, sound (c .before .before .before .before .before .before .before .before .args .cells .now) (c .before .before .before .before .before .before .before .before .pre .0 .ok) .nodes, c .before .before .before .node-count .ensures)
 
 part-requires-2 : tie.Need-part-requires-2 Inv-loop μ-loop
 part-requires-2 c κs = search needs
 
 condition-holds-requires : tie.Need-condition-holds-requires Inv-loop μ-loop
-condition-holds-requires c κs = (c .before .before .before .before .before .before .before .before .before .pre .0, omega (arith, c .before .before .before .before .before .node-count .ensures), c .before .before .before .before .before .before .before .before .before .pre .1)
+condition-holds-requires c κs = (c .before .before .before .before .before .before .before .before .before .before .pre .0, omega (arith, c .before .before .before .before .before .node-count .ensures), c .before .before .before .before .before .before .before .before .before .before .pre .1)
 
 slice-aggregate-insert-if : tie.Need-slice-aggregate-insert-if Inv-loop μ-loop
-slice-aggregate-insert-if c = nodes-length (λ u. holdsOf (now (c .before .before .before .before .before .before .before .before .before .before .before .args .cells)) (now (c .before .before .before .before .before .before .before .before .before .before .before .args .values)) (c .before .before .before .before .before .before .before .before .before .before .before .args .condition) (has (drop (16 * u) (now (c .before .before .before .before .before .before .before .before .before .before .before .args .first)))) (has (drop (cond (c .before .before .before .before .before .before .before .before .before .before .before .args .each) (16 * u) 0) (now (c .before .before .before .before .before .before .before .before .before .before .before .args .second)))) u) (c .before .before .before .before .before .before .loop .v) (c .before .before .before .before .before .before .loop .inv .1)
+slice-aggregate-insert-if c = nodes-length (λ u. holdsOf (now (c .before .before .before .before .before .before .before .before .before .before .before .before .args .cells)) (now (c .before .before .before .before .before .before .before .before .before .before .before .before .args .values)) (c .before .before .before .before .before .before .before .before .before .before .before .before .args .condition) (has (drop (16 * u) (now (c .before .before .before .before .before .before .before .before .before .before .before .before .args .first)))) (has (drop (cond (c .before .before .before .before .before .before .before .before .before .before .before .before .args .each) (16 * u) 0) (now (c .before .before .before .before .before .before .before .before .before .before .before .before .args .second)))) u) (c .before .before .before .before .before .before .loop .v) (c .before .before .before .before .before .before .loop .inv .1)
 
 insert-if-requires : tie.Need-insert-if-requires Inv-loop μ-loop
 insert-if-requires c κs = search needs
@@ -53,7 +54,7 @@ loop-less c = omega arith
 
 loop-again : tie.Need-loop-again Inv-loop μ-loop
 loop-again c =
-    let a = c .before .before .before .before .before .before .before .before .before .before .before .before .before .args in
+    let a = c .before .before .before .before .before .before .before .before .before .before .before .before .before .before .args in
     let cs = a .cells .now in
     let vs = a .values .now in
     let l = c .before .before .before .before .before .before .before .before .loop in (
@@ -63,7 +64,7 @@ loop-again c =
     )
 
 returns : tie.Need-returns Inv-loop μ-loop
-returns c = nodes-done (λ u. holdsOf (now (c .before .before .before .before .before .before .args .cells)) (now (c .before .before .before .before .before .before .args .values)) (c .before .before .before .before .before .before .args .condition) (has (drop (16 * u) (now (c .before .before .before .before .before .before .args .first)))) (has (drop (cond (c .before .before .before .before .before .before .args .each) (16 * u) 0) (now (c .before .before .before .before .before .before .args .second)))) u) (c .before .loop .v) _ (omega (arith, c .before .before .node-count .ensures)) (c .before .loop .inv .1)
+returns c = nodes-done (λ u. holdsOf (now (c .before .before .before .before .before .before .before .args .cells)) (now (c .before .before .before .before .before .before .before .args .values)) (c .before .before .before .before .before .before .before .args .condition) (has (drop (16 * u) (now (c .before .before .before .before .before .before .before .args .first)))) (has (drop (cond (c .before .before .before .before .before .before .before .args .each) (16 * u) 0) (now (c .before .before .before .before .before .before .before .args .second)))) u) (c .before .loop .v) _ (omega (arith, c .before .before .node-count .ensures)) (c .before .loop .inv .1)
 
 pub nodes-where-spec : {M : Type 1} → statement M
 nodes-where-spec =

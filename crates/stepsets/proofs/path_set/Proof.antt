@@ -24,7 +24,7 @@ part-requires : tie.Need-part-requires
 part-requires c κs = search needs
 
 nodes-where-requires : tie.Need-nodes-where-requires
-nodes-where-requires c κs = (sound (c .before .before .before .before .before .before .before .before .before .before .before .args .cells .now) (c .before .before .before .before .before .before .before .before .before .before .before .pre .0 .ok) .nodes, c .before .before .before .before .before .before .before .before .before .before .before .pre .3)
+nodes-where-requires c κs = (c .before .before .before .before .before .before .before .before .before .before .before .pre .0, c .before .before .before .before .before .before .before .before .before .before .before .pre .3)
 
 same-length : tie.Need-same-length
 same-length c = search needs

@@ -23,7 +23,7 @@ slice-aggregate-settle-2 : tie.Need-slice-aggregate-settle-2
 slice-aggregate-settle-2 c = search needs
 
 settle-requires : tie.Need-settle-requires
-settle-requires c κs = let p = c .before .before .before .before .before .before .before .pre in ready-none record { room = p .0; ok = p .1; indexed = c .before .before .before .before .index-table .ensures } (p .2)
+settle-requires c κs = let p = c .before .before .before .before .before .before .before .pre in ready-none record { room = p .0; ok = p .1; indexed = c .before .before .before .before .index-table .ensures .0; subjects = c .before .before .before .before .index-table .ensures .1 } (p .2)
 
 slice-aggregate-known : tie.Need-slice-aggregate-known
 slice-aggregate-known c = search needs

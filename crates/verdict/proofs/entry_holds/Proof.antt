@@ -68,7 +68,7 @@ all-holds-requires : tie.Need-all-holds-requires
 all-holds-requires c κs = (asked-of (c .before .before .before .before .before .before .before .before .before .before .pre), (sym (c .before .before .before .before .form-code .ensures) ∙ c .before .before .before .match .keys8))
 
 closed-holds-requires : tie.Need-closed-holds-requires
-closed-holds-requires c κs = search needs
+closed-holds-requires c κs = c .before .before .before .before .before .before .before .pre .ready .tables
 
 lang-holds-requires : tie.Need-lang-holds-requires
 lang-holds-requires c κs = (asked-of (c .before .before .before .before .before .before .before .pre), (sym (c .before .form-code .ensures) ∙ c .match .keys10))
