@@ -38,7 +38,7 @@ ghost use Rattle.grammar.specs.Syntax.{linkL, shapeL, lineFamily};
 ghost use Rattle.grammar.specs.Reading.{lineAt};
 ghost use Rattle.tables.specs.Layout.{cellCount, valueCount, nameCount};
 ghost use Rattle.itemreader.specs.Held.{Limits, Held, Kinds, Indexed};
-ghost use Rattle.linereader.specs.Storing.{lineEnd, lineBody, Done, Fits};
+ghost use Rattle.linereader.specs.Storing.{lineEnd, lineBody, Done, CountsFit};
 ghost use Rattle.bodyreader.specs.Storing.{shaped, FormHeld};
 
 // The counts with a shape, with which n entries and items have ended.
@@ -89,7 +89,7 @@ fn shape_line(
     book: &[u8],
     at: usize,
 ) -> LineAnswer
-    requires { ⌜ (at ≤ length (now book)) × (nameCount ≤ length (now names)) × (cellCount ≤ length (now cells)) × (valueCount ≤ length (now values)) × Limits counts × Fits counts × ((a : Book) × Held (now names) counts a) × Indexed (now names) counts (now index) ⌝ }
+    requires { ⌜ (at ≤ length (now book)) × (nameCount ≤ length (now names)) × (cellCount ≤ length (now cells)) × (valueCount ≤ length (now values)) × Limits counts × CountsFit counts × ((a : Book) × Held (now names) counts a) × Indexed (now names) counts (now index) ⌝ }
     ensures { λ r. ⌜ ((a : Book) → Held (now (names .entry)) counts a → Done a counts (lineBody (now (book .entry)) a shapeL at) r (now (names .entry)) (now (names .exit)) (now (cells .entry)) (now (cells .exit)) (now (values .entry)) (now (values .exit))) ⌝ }
 {
     let new = read_new(names, index, counts, Pool::Shapes, book, at);
@@ -129,7 +129,7 @@ fn read_body(
     book: &[u8],
     at: usize,
 ) -> LineAnswer
-    requires { ⌜ (at ≤ length (now book)) × (k < 11) × (nameCount ≤ length (now names)) × (cellCount ≤ length (now cells)) × (valueCount ≤ length (now values)) × Limits counts × Fits counts × ((a : Book) × Held (now names) counts a) × Indexed (now names) counts (now index) ⌝ }
+    requires { ⌜ (at ≤ length (now book)) × (k < 11) × (nameCount ≤ length (now names)) × (cellCount ≤ length (now cells)) × (valueCount ≤ length (now values)) × Limits counts × CountsFit counts × ((a : Book) × Held (now names) counts a) × Indexed (now names) counts (now index) ⌝ }
     ensures { λ r. ⌜ ((a : Book) → Held (now (names .entry)) counts a → Kinds (now (cells .entry)) a → Done a counts (lineBody (now (book .entry)) a (getD (lineFamily .codes) k linkL) at) r (now (names .entry)) (now (names .exit)) (now (cells .entry)) (now (cells .exit)) (now (values .entry)) (now (values .exit))) ⌝ }
 {
     match k {
@@ -175,7 +175,7 @@ pub fn read_line(
     book: &[u8],
     at: usize,
 ) -> LineAnswer
-    requires { ⌜ (at ≤ length (now book)) × (nameCount ≤ length (now names)) × (cellCount ≤ length (now cells)) × (valueCount ≤ length (now values)) × Limits counts × Fits counts × ((a : Book) × Held (now names) counts a) × Indexed (now names) counts (now index) ⌝ }
+    requires { ⌜ (at ≤ length (now book)) × (nameCount ≤ length (now names)) × (cellCount ≤ length (now cells)) × (valueCount ≤ length (now values)) × Limits counts × CountsFit counts × ((a : Book) × Held (now names) counts a) × Indexed (now names) counts (now index) ⌝ }
     ensures { λ r. ⌜ ((a : Book) → Held (now (names .entry)) counts a → Kinds (now (cells .entry)) a → Done a counts (lineAt (now (book .entry)) a at) r (now (names .entry)) (now (names .exit)) (now (cells .entry)) (now (cells .exit)) (now (values .entry)) (now (values .exit))) ⌝ }
 {
     match line_head(book, at, 1, false) {

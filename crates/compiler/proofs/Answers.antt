@@ -15,7 +15,7 @@ use Rattle.tables.specs.WellFormed.{wellFormed}
 use Rattle.tables.proofs.WellFormed.{sound}
 use Rattle.plan.specs.Layout.{planCount}
 use Rattle.translation.specs.Compile.{stepsOf, planOf}
-use Rattle.compiler.specs.Stores.{Fits}
+use Rattle.compiler.specs.Stores.{RoomForPlan}
 use Rattle.compiler.specs.Answers.{compileLong, compileAnswer, planAfter}
 
 module _ (ns cs : List ℕ) (vs : List ℤ) (ps : List ℕ) where
@@ -34,5 +34,5 @@ module _ (ns cs : List ℕ) (vs : List ℤ) (ps : List ℕ) where
   long-both e l = and-both (longEnough ns cs vs) (leb planCount (length ps)) e (le-leb planCount (length ps) l)
 
 -- a plan for well-formed tables
-pub fits : (cs ps : List ℕ) → wellFormed cs ≡ true → planCount ≤ length ps → Fits cs ps
+pub fits : (cs ps : List ℕ) → wellFormed cs ≡ true → planCount ≤ length ps → RoomForPlan cs ps
 fits cs ps w l = record { plan = l; forms = sound cs w .forms; rules = sound cs w .rules }

@@ -46,7 +46,7 @@ module _ (ps p1 p2 : List ℕ) (n p j lo hi k m : ℕ) (first : p1 ≡ withNumbe
   count-both p3 p4 x y z t g h i ex ey em =
       let at2 : n + 2 ≡ n + 1 + 1 = omega arith in
       let at3 : n + 3 ≡ n + 1 + 1 + 1 = omega arith in
-      way p4 (n + 4) m (record { steps = Step.count p j lo hi ∷ Step.count p j 0 (lo - 1) ∷ Step.count p j (hi + 1) noNumber ∷ Step.either (n + 1) (n + 2) ∷ []; keep = n; brk = n + 3 }) (rw (ne-eqb lo 0 z, ne-eqb hi noNumber t))
+      way p4 (n + 4) m (record { steps = Step.count p j lo hi ∷ Step.count p j 0 (lo - 1) ∷ Step.count p j (hi + 1) noNumber ∷ Step.either (n + 1) (n + 2) ∷ []; keep = n; breaking = n + 3 }) (rw (ne-eqb lo 0 z, ne-eqb hi noNumber t))
       (record {
         stored = i ∙ (λ r. withNumbers ((h ∙ (λ r. withNumbers ((g ∙ (λ r. withNumbers (first r) (n + 1) (8 ∷ p ∷ j ∷ 0 ∷ (lo - 1) ∷ []))) r) (at2 r) (8 ∷ p ∷ j ∷ (hi + 1) ∷ noNumber ∷ []))) r) (at3 r) (7 ∷ ex r ∷ ey r ∷ 0 ∷ 0 ∷ []));
         after = refl;

@@ -19,7 +19,7 @@ use Rattle.tables.specs.Sizes.{cleared}
 use Rattle.plan.specs.Steps.{Step, numbersOf}
 use Rattle.plan.specs.Layout.{planCount, laid, withNumbers, withSteps, planCells}
 use Rattle.plan.proofs.Stores.{store-rule, store-count, store-steps, laid-none}
-use Rattle.translation.specs.Compile.{Part, entryPart, putAt, more, made, targetStep, ruleSteps, stepsTo, stepsOf, ruleStep, planOf}
+use Rattle.translation.specs.Compile.{Part, entryPart, putAt, more, made, targetStep, stepsOfRule, stepsTo, stepsOf, ruleStep, planOf}
 use Rattle.compiler.specs.Stores.{numberIn, Added, FormsAdded, ruleStored}
 use Rattle.translation.proofs.Whole.{length-to}
 
@@ -45,7 +45,7 @@ put-set xs e x f l h j = pick (eqb j e) refl
 -- ---- entries: qs has those below e, and rs what compiling entry e made of it
 module _ (cs ps qs rs ks bs : List ℕ) (e n next k m : ℕ) (f : FormsAdded cs ps qs e n bs) (g : (j : ℕ) → getD ks j 0 ≡ made cs e .keep j) (r : Added qs rs n (entryPart cs (numberIn ks) (numberIn bs) n e (entryAt cs [] e)) next k m) where
   abbrev own : Part
-  own = entryPart cs (made cs e .keep) (made cs e .brk) (length (made cs e .steps)) e (entryAt cs [] e)
+  own = entryPart cs (made cs e .keep) (made cs e .breaking) (length (made cs e .steps)) e (entryAt cs [] e)
 
   same-part : entryPart cs (numberIn ks) (numberIn bs) n e (entryAt cs [] e) ≡ own
   unfolding numberIn
@@ -65,7 +65,7 @@ module _ (cs ps qs rs ks bs : List ℕ) (e n next k m : ℕ) (f : FormsAdded cs 
   forms-more l = record {
     stored = r .stored ∙ (λ i. withSteps (f .stored i) (f .after i) (same-part i .steps)) ∙ ap (λ (i : ℕ). withSteps (withSteps ps 0 (made cs e .steps)) i (own .steps)) (sym (zero-add (length (made cs e .steps)))) ∙ sym (steps-append (made cs e .steps) (own .steps) 0 ps) ∙ (λ i. withSteps ps 0 (sym next-made i .steps));
     after = r .after ∙ (λ i. f .after i + length (same-part i .steps)) ∙ sym (length-append (made cs e .steps) (own .steps)) ∙ (λ i. length (sym next-made i .steps));
-    breaks = λ j. put-set bs e m (made cs e .brk) l (f .breaks) j ∙ ap (λ (x : ℕ). putAt (made cs e .brk) e x j) (r .breaks ∙ ap (λ (x : Part). x .brk) same-part) ∙ (λ i. sym next-made i .brk j);
+    breaks = λ j. put-set bs e m (made cs e .breaking) l (f .breaks) j ∙ ap (λ (x : ℕ). putAt (made cs e .breaking) e x j) (r .breaks ∙ ap (λ (x : Part). x .breaking) same-part) ∙ (λ i. sym next-made i .breaking j);
   }
 
   pub keeps-more : e < length ks → (j : ℕ) → getD (set ks e k) j 0 ≡ made cs (e + 1) .keep j
@@ -114,10 +114,10 @@ pub rule-next : (cs : List ℕ) (r n : ℕ) → n ≡ length (stepsTo cs r) → 
 rule-next cs r n e = ap (λ (k : ℕ). k + 2) e ∙ sym (length-to cs r) ∙ ap (λ (k : ℕ). length (stepsTo cs k)) (sym (add-one r))
 
 -- the rules below r are there, and the plan has one more
-pub rule-more : (cs t qs rs : List ℕ) (r n b : ℕ) → r < maxRules → n + 2 ≤ maxSteps → n ≡ length (stepsTo cs r) → b ≡ made cs (formCount cs) .brk (rootAt cs (ruleShapeAt cs r)) → rs ≡ ruleStored cs qs r n b → qs ≡ laid t [] (values (ruleStep cs) r) (stepsTo cs r) → rs ≡ laid t [] (values (ruleStep cs) (r + 1)) (stepsTo cs (r + 1))
-unfolding ruleStored stepsTo ruleSteps ruleStep
+pub rule-more : (cs t qs rs : List ℕ) (r n b : ℕ) → r < maxRules → n + 2 ≤ maxSteps → n ≡ length (stepsTo cs r) → b ≡ made cs (formCount cs) .breaking (rootAt cs (ruleShapeAt cs r)) → rs ≡ ruleStored cs qs r n b → qs ≡ laid t [] (values (ruleStep cs) r) (stepsTo cs r) → rs ≡ laid t [] (values (ruleStep cs) (r + 1)) (stepsTo cs (r + 1))
+unfolding ruleStored stepsTo stepsOfRule ruleStep
 rule-more cs t qs rs r n b lr ln en eb f g =
-    let new : List Step = ruleSteps cs r (length (stepsTo cs r)) in
+    let new : List Step = stepsOfRule cs r (length (stepsTo cs r)) in
     f ∙ (λ i. set (withSteps (g i) (en i) (targetStep (ruleAt cs r .target) ∷ Step.both (en i) (eb i) ∷ [])) (1 + r) (en i + 1))
     ∙ ap (λ (p : List ℕ). set p (1 + r) (ruleStep cs r)) (store-steps t [] (values (ruleStep cs) r) (stepsTo cs r) (length (stepsTo cs r)) new refl (omega arith))
     ∙ store-rule t (values (ruleStep cs) r) (stepsTo cs r ++ new) r (ruleStep cs r) (sym (length-valuesFrom (ruleStep cs) 0 r)) lr

@@ -26,20 +26,20 @@ pub record Added (ps qs : List ℕ) (n : ℕ) (x : Part) (next k m : ℕ) : Type
   pub stored : qs ≡ withSteps ps n (x .steps)
   pub after : next ≡ n + length (x .steps)
   pub keeps : k ≡ x .keep
-  pub breaks : m ≡ x .brk
+  pub breaks : m ≡ x .breaking
 
--- qs is ps with the steps of the entries below e; n is the next step's number, and brk has each entry's breaking step
-pub record FormsAdded (cs ps qs : List ℕ) (e n : ℕ) (brk : List ℕ) : Type 0 where
+-- qs is ps with the steps of the entries below e; n is the next step's number, and breaking has each entry's breaking step
+pub record FormsAdded (cs ps qs : List ℕ) (e n : ℕ) (breaking : List ℕ) : Type 0 where
   pub stored : qs ≡ withSteps ps 0 (made cs e .steps)
   pub after : n ≡ length (made cs e .steps)
-  pub breaks : (j : ℕ) → getD brk j 0 ≡ made cs e .brk j
+  pub breaks : (j : ℕ) → getD breaking j 0 ≡ made cs e .breaking j
 
 -- ps with the two steps of rule r from n on, and its step's number; b is the step of the shape's breaks
 unfoldable pub ruleStored : List ℕ → List ℕ → ℕ → ℕ → ℕ → List ℕ
 ruleStored cs ps r n b = set (withSteps ps n (targetStep (ruleAt cs r .target) ∷ Step.both n b ∷ [])) (ruleSteps + r) (n + 1)
 
 -- what a function that fills a plan asks for
-pub record Fits (cs ps : List ℕ) : Type 0 where
+pub record RoomForPlan (cs ps : List ℕ) : Type 0 where
   pub plan : planCount ≤ length ps
   pub forms : formCount cs ≤ maxForms
   pub rules : ruleCount cs ≤ maxRules

@@ -38,14 +38,14 @@ ghost use Rattle.tables.specs.Decode.{entryAt, ruleAt};
 ghost use Rattle.plan.specs.Steps.{Step, numbersOf};
 ghost use Rattle.plan.specs.Layout.{planCount, withNumbers, laid};
 ghost use Rattle.translation.specs.Compile.{countPart, entryPart, made, targetStep, stepsTo, stepsOf, ruleStep, planOf};
-ghost use Rattle.compiler.specs.Stores.{numberIn, TwoAdded, Added, FormsAdded, ruleStored, Fits};
+ghost use Rattle.compiler.specs.Stores.{numberIn, TwoAdded, Added, FormsAdded, ruleStored, RoomForPlan};
 ghost use Rattle.compiler.specs.Answers.{answerOf, compileAnswer, planAfter};
 
 // What an entry adds: the number of the next step, and the entry's own two.
 pub struct Out {
     pub next: usize,
     pub keep: u16,
-    pub brk: u16,
+    pub breaking: u16,
 }
 
 fn narrow(x: usize) -> u16
@@ -67,21 +67,21 @@ fn two(
     y: u16,
 ) -> Out
     requires { ⌜ (planCount ≤ length (now plan)) × (n + 2 ≤ maxSteps) ⌝ }
-    ensures { λ r. ⌜ TwoAdded (now (plan .entry)) (now (plan .exit)) n (keeping ∷ a ∷ b ∷ 0 ∷ 0 ∷ []) (breaking ∷ x ∷ y ∷ 0 ∷ 0 ∷ []) (r .next) (r .keep) (r .brk) ⌝ }
+    ensures { λ r. ⌜ TwoAdded (now (plan .entry)) (now (plan .exit)) n (keeping ∷ a ∷ b ∷ 0 ∷ 0 ∷ []) (breaking ∷ x ∷ y ∷ 0 ∷ 0 ∷ []) (r .next) (r .keep) (r .breaking) ⌝ }
 {
     put_step(plan, n, keeping, a, b, 0, 0);
     put_step(plan, n + 1, breaking, x, y, 0, 0);
     Out {
         next: n + 2,
         keep: narrow(n),
-        brk: narrow(n + 1),
+        breaking: narrow(n + 1),
     }
 }
 
 // `is`.
 fn is_steps(plan: &mut [u16], cells: &[u16], e: usize, n: usize) -> Out
     requires { ⌜ (planCount ≤ length (now plan)) × (n + 2 ≤ maxSteps) ⌝ }
-    ensures { λ r. ⌜ TwoAdded (now (plan .entry)) (now (plan .exit)) n (numbersOf (Step.is (formFirstAt (now (cells .entry)) e))) (numbersOf (Step.isnot (formFirstAt (now (cells .entry)) e))) (r .next) (r .keep) (r .brk) ⌝ }
+    ensures { λ r. ⌜ TwoAdded (now (plan .entry)) (now (plan .exit)) n (numbersOf (Step.is (formFirstAt (now (cells .entry)) e))) (numbersOf (Step.isnot (formFirstAt (now (cells .entry)) e))) (r .next) (r .keep) (r .breaking) ⌝ }
 {
     let c = form_node(cells, e);
     two(plan, n, steps::IS, c.0, 0, steps::ISNOT, c.0, 0)
@@ -90,7 +90,7 @@ fn is_steps(plan: &mut [u16], cells: &[u16], e: usize, n: usize) -> Out
 // The tests and `closed`: the steps name the entry.
 fn own_steps(plan: &mut [u16], e: usize, n: usize, keeping: u16, breaking: u16) -> Out
     requires { ⌜ (planCount ≤ length (now plan)) × (n + 2 ≤ maxSteps) × (e < maxForms) ⌝ }
-    ensures { λ r. ⌜ TwoAdded (now (plan .entry)) (now (plan .exit)) n (keeping ∷ e ∷ 0 ∷ 0 ∷ 0 ∷ []) (breaking ∷ e ∷ 0 ∷ 0 ∷ 0 ∷ []) (r .next) (r .keep) (r .brk) ⌝ }
+    ensures { λ r. ⌜ TwoAdded (now (plan .entry)) (now (plan .exit)) n (keeping ∷ e ∷ 0 ∷ 0 ∷ 0 ∷ []) (breaking ∷ e ∷ 0 ∷ 0 ∷ 0 ∷ []) (r .next) (r .keep) (r .breaking) ⌝ }
 {
     let me = narrow(e);
     two(plan, n, keeping, me, 0, breaking, me, 0)
@@ -99,7 +99,7 @@ fn own_steps(plan: &mut [u16], e: usize, n: usize, keeping: u16, breaking: u16) 
 // `onelang`.
 fn path_steps(plan: &mut [u16], cells: &[u16], e: usize, n: usize) -> Out
     requires { ⌜ (planCount ≤ length (now plan)) × (n + 2 ≤ maxSteps) ⌝ }
-    ensures { λ r. ⌜ TwoAdded (now (plan .entry)) (now (plan .exit)) n (numbersOf (Step.onelang (formFirstAt (now (cells .entry)) e))) (numbersOf (Step.manylang (formFirstAt (now (cells .entry)) e))) (r .next) (r .keep) (r .brk) ⌝ }
+    ensures { λ r. ⌜ TwoAdded (now (plan .entry)) (now (plan .exit)) n (numbersOf (Step.onelang (formFirstAt (now (cells .entry)) e))) (numbersOf (Step.manylang (formFirstAt (now (cells .entry)) e))) (r .next) (r .keep) (r .breaking) ⌝ }
 {
     let p = form_first(cells, e);
     two(plan, n, steps::ONELANG, p, 0, steps::MANYLANG, p, 0)
@@ -115,7 +115,7 @@ fn link_steps(
     breaking: u16,
 ) -> Out
     requires { ⌜ (planCount ≤ length (now plan)) × (n + 2 ≤ maxSteps) ⌝ }
-    ensures { λ r. ⌜ TwoAdded (now (plan .entry)) (now (plan .exit)) n (keeping ∷ formFirstAt (now (cells .entry)) e ∷ formSecondAt (now (cells .entry)) e ∷ 0 ∷ 0 ∷ []) (breaking ∷ formFirstAt (now (cells .entry)) e ∷ formSecondAt (now (cells .entry)) e ∷ 0 ∷ 0 ∷ []) (r .next) (r .keep) (r .brk) ⌝ }
+    ensures { λ r. ⌜ TwoAdded (now (plan .entry)) (now (plan .exit)) n (keeping ∷ formFirstAt (now (cells .entry)) e ∷ formSecondAt (now (cells .entry)) e ∷ 0 ∷ 0 ∷ []) (breaking ∷ formFirstAt (now (cells .entry)) e ∷ formSecondAt (now (cells .entry)) e ∷ 0 ∷ 0 ∷ []) (r .next) (r .keep) (r .breaking) ⌝ }
 {
     let p = form_first(cells, e);
     let l = form_link(cells, e);
@@ -134,7 +134,7 @@ fn joined(
     breaking: u16,
 ) -> Out
     requires { ⌜ (planCount ≤ length (now plan)) × (n + 2 ≤ maxSteps) ⌝ }
-    ensures { λ r. ⌜ TwoAdded (now (plan .entry)) (now (plan .exit)) n (keeping ∷ getD (now (keeps .entry)) (formFirstAt (now (cells .entry)) e) 0 ∷ getD (now (keeps .entry)) (formSecondAt (now (cells .entry)) e) 0 ∷ 0 ∷ 0 ∷ []) (breaking ∷ getD (now (breaks .entry)) (formFirstAt (now (cells .entry)) e) 0 ∷ getD (now (breaks .entry)) (formSecondAt (now (cells .entry)) e) 0 ∷ 0 ∷ 0 ∷ []) (r .next) (r .keep) (r .brk) ⌝ }
+    ensures { λ r. ⌜ TwoAdded (now (plan .entry)) (now (plan .exit)) n (keeping ∷ getD (now (keeps .entry)) (formFirstAt (now (cells .entry)) e) 0 ∷ getD (now (keeps .entry)) (formSecondAt (now (cells .entry)) e) 0 ∷ 0 ∷ 0 ∷ []) (breaking ∷ getD (now (breaks .entry)) (formFirstAt (now (cells .entry)) e) 0 ∷ getD (now (breaks .entry)) (formSecondAt (now (cells .entry)) e) 0 ∷ 0 ∷ 0 ∷ []) (r .next) (r .keep) (r .breaking) ⌝ }
 {
     let a = wide(form_first(cells, e));
     let b = wide(form_second(cells, e));
@@ -148,14 +148,14 @@ fn joined(
 // `all`: Every of the keep, Count 1 * of the break.
 fn all_steps(plan: &mut [u16], n: usize, p: u16, j: u16, k: u16) -> Out
     requires { ⌜ (planCount ≤ length (now plan)) × (n + 2 ≤ maxSteps) ⌝ }
-    ensures { λ r. ⌜ TwoAdded (now (plan .entry)) (now (plan .exit)) n (numbersOf (Step.every p j)) (numbersOf (Step.count p k 1 noNumber)) (r .next) (r .keep) (r .brk) ⌝ }
+    ensures { λ r. ⌜ TwoAdded (now (plan .entry)) (now (plan .exit)) n (numbersOf (Step.every p j)) (numbersOf (Step.count p k 1 noNumber)) (r .next) (r .keep) (r .breaking) ⌝ }
 {
     put_step(plan, n, steps::EVERY, p, j, 0, 0);
     put_step(plan, n + 1, steps::COUNT, p, k, 1, NO_NUMBER);
     Out {
         next: n + 2,
         keep: narrow(n),
-        brk: narrow(n + 1),
+        breaking: narrow(n + 1),
     }
 }
 
@@ -168,7 +168,7 @@ fn all_entry(
     n: usize,
 ) -> Out
     requires { ⌜ (planCount ≤ length (now plan)) × (n + 2 ≤ maxSteps) ⌝ }
-    ensures { λ r. ⌜ TwoAdded (now (plan .entry)) (now (plan .exit)) n (numbersOf (Step.every (formFirstAt (now (cells .entry)) e) (getD (now (keeps .entry)) (formSecondAt (now (cells .entry)) e) 0))) (numbersOf (Step.count (formFirstAt (now (cells .entry)) e) (getD (now (breaks .entry)) (formSecondAt (now (cells .entry)) e) 0) 1 noNumber)) (r .next) (r .keep) (r .brk) ⌝ }
+    ensures { λ r. ⌜ TwoAdded (now (plan .entry)) (now (plan .exit)) n (numbersOf (Step.every (formFirstAt (now (cells .entry)) e) (getD (now (keeps .entry)) (formSecondAt (now (cells .entry)) e) 0))) (numbersOf (Step.count (formFirstAt (now (cells .entry)) e) (getD (now (breaks .entry)) (formSecondAt (now (cells .entry)) e) 0) 1 noNumber)) (r .next) (r .keep) (r .breaking) ⌝ }
 {
     let a = wide(form_second(cells, e));
     let j = cell(keeps, a);
@@ -179,12 +179,12 @@ fn all_entry(
 // `count`: Count of the keep, and the steps that break it.
 fn count_steps(plan: &mut [u16], n: usize, p: u16, j: u16, lo: u16, hi: u16) -> Out
     requires { ⌜ (planCount ≤ length (now plan)) × (n + 4 ≤ maxSteps) ⌝ }
-    ensures { λ r. ⌜ Added (now (plan .entry)) (now (plan .exit)) n (countPart n p j lo hi) (r .next) (r .keep) (r .brk) ⌝ }
+    ensures { λ r. ⌜ Added (now (plan .entry)) (now (plan .exit)) n (countPart n p j lo hi) (r .next) (r .keep) (r .breaking) ⌝ }
 {
     let own = Out {
         next: n + 2,
         keep: narrow(n),
-        brk: narrow(n + 1),
+        breaking: narrow(n + 1),
     };
     put_step(plan, n, steps::COUNT, p, j, lo, hi);
     if lo == 0 {
@@ -200,17 +200,25 @@ fn count_steps(plan: &mut [u16], n: usize, p: u16, j: u16, lo: u16, hi: u16) -> 
         return own;
     }
     put_step(plan, n + 2, steps::COUNT, p, j, hi + 1, NO_NUMBER);
-    put_step(plan, n + 3, steps::EITHER, own.brk, narrow(n + 2), 0, 0);
+    put_step(
+        plan,
+        n + 3,
+        steps::EITHER,
+        own.breaking,
+        narrow(n + 2),
+        0,
+        0,
+    );
     Out {
         next: n + 4,
         keep: own.keep,
-        brk: narrow(n + 3),
+        breaking: narrow(n + 3),
     }
 }
 
 fn count_entry(plan: &mut [u16], cells: &[u16], keeps: &[u16], e: usize, n: usize) -> Out
     requires { ⌜ (planCount ≤ length (now plan)) × (n + 4 ≤ maxSteps) ⌝ }
-    ensures { λ r. ⌜ Added (now (plan .entry)) (now (plan .exit)) n (countPart n (formFirstAt (now (cells .entry)) e) (getD (now (keeps .entry)) (formSecondAt (now (cells .entry)) e) 0) (formThirdAt (now (cells .entry)) e) (formFourthAt (now (cells .entry)) e)) (r .next) (r .keep) (r .brk) ⌝ }
+    ensures { λ r. ⌜ Added (now (plan .entry)) (now (plan .exit)) n (countPart n (formFirstAt (now (cells .entry)) e) (getD (now (keeps .entry)) (formSecondAt (now (cells .entry)) e) 0) (formThirdAt (now (cells .entry)) e) (formFourthAt (now (cells .entry)) e)) (r .next) (r .keep) (r .breaking) ⌝ }
 {
     let j = cell(keeps, wide(form_second(cells, e)));
     let lo = form_third(cells, e);
@@ -220,25 +228,25 @@ fn count_entry(plan: &mut [u16], cells: &[u16], keeps: &[u16], e: usize, n: usiz
 
 // `not`: its child's two, exchanged.
 fn swapped(cells: &[u16], keeps: &[u16], breaks: &[u16], e: usize, n: usize) -> Out
-    ensures { λ r. ⌜ (r .next ≡ n) × (r .keep ≡ getD (now (breaks .entry)) (formFirstAt (now (cells .entry)) e) 0) × (r .brk ≡ getD (now (keeps .entry)) (formFirstAt (now (cells .entry)) e) 0) ⌝ }
+    ensures { λ r. ⌜ (r .next ≡ n) × (r .keep ≡ getD (now (breaks .entry)) (formFirstAt (now (cells .entry)) e) 0) × (r .breaking ≡ getD (now (keeps .entry)) (formFirstAt (now (cells .entry)) e) 0) ⌝ }
 {
     let a = wide(form_first(cells, e));
     Out {
         next: n,
         keep: cell(breaks, a),
-        brk: cell(keeps, a),
+        breaking: cell(keeps, a),
     }
 }
 
 // `shape`: the two of what that shape begins with.
 fn same_steps(cells: &[u16], keeps: &[u16], breaks: &[u16], e: usize, n: usize) -> Out
-    ensures { λ r. ⌜ (r .next ≡ n) × (r .keep ≡ getD (now (keeps .entry)) (rootAt (now (cells .entry)) (formFirstAt (now (cells .entry)) e)) 0) × (r .brk ≡ getD (now (breaks .entry)) (rootAt (now (cells .entry)) (formFirstAt (now (cells .entry)) e)) 0) ⌝ }
+    ensures { λ r. ⌜ (r .next ≡ n) × (r .keep ≡ getD (now (keeps .entry)) (rootAt (now (cells .entry)) (formFirstAt (now (cells .entry)) e)) 0) × (r .breaking ≡ getD (now (breaks .entry)) (rootAt (now (cells .entry)) (formFirstAt (now (cells .entry)) e)) 0) ⌝ }
 {
     let a = root(cells, wide(form_first(cells, e)));
     Out {
         next: n,
         keep: cell(keeps, a),
-        brk: cell(breaks, a),
+        breaking: cell(breaks, a),
     }
 }
 
@@ -252,7 +260,7 @@ fn compile_entry(
     n: usize,
 ) -> Out
     requires { ⌜ (planCount ≤ length (now plan)) × (e < maxForms) × (n + 4 ≤ maxSteps) ⌝ }
-    ensures { λ r. ⌜ Added (now (plan .entry)) (now (plan .exit)) n (entryPart (now (cells .entry)) (numberIn (now (keeps .entry))) (numberIn (now (breaks .entry))) n e (entryAt (now (cells .entry)) [] e)) (r .next) (r .keep) (r .brk) ⌝ }
+    ensures { λ r. ⌜ Added (now (plan .entry)) (now (plan .exit)) n (entryPart (now (cells .entry)) (numberIn (now (keeps .entry))) (numberIn (now (breaks .entry))) n e (entryAt (now (cells .entry)) [] e)) (r .next) (r .keep) (r .breaking) ⌝ }
 {
     let code = form_code(cells, e);
     match code {
@@ -274,14 +282,14 @@ fn compile_entry(
         codes::FORM_UNKNOWN..=codes::LAST => Out {
             next: n,
             keep: 0,
-            brk: 0,
+            breaking: 0,
         },
     }
 }
 
 // The steps of all entries; breaks gets each entry's breaking step.
 fn fill_forms(plan: &mut [u16], breaks: &mut [u16], cells: &[u16]) -> usize
-    requires { ⌜ Fits (now cells) (now plan) × (now breaks ≡ replicate maxForms 0) ⌝ }
+    requires { ⌜ RoomForPlan (now cells) (now plan) × (now breaks ≡ replicate maxForms 0) ⌝ }
     ensures { λ r. ⌜ FormsAdded (now (cells .entry)) (now (plan .entry)) (now (plan .exit)) (formCount (now (cells .entry))) r (now (breaks .exit)) ⌝ }
 {
     let forms = form_count(cells);
@@ -290,7 +298,7 @@ fn fill_forms(plan: &mut [u16], breaks: &mut [u16], cells: &[u16]) -> usize
     for e in 0..forms {
         let out = compile_entry(plan, cells, &keeps, &breaks[..], e, n);
         keeps[e] = out.keep;
-        breaks[e] = out.brk;
+        breaks[e] = out.breaking;
         n = out.next;
     }
     n
@@ -326,7 +334,7 @@ fn rule_steps(plan: &mut [u16], cells: &[u16], breaks: &[u16], r: u16, n: usize)
 
 // The steps of all rules, from step `first` on.
 fn fill_rules(plan: &mut [u16], cells: &[u16], breaks: &[u16], first: usize) -> usize
-    requires { ⌜ Fits (now cells) (now plan) × (first ≡ length (made (now cells) (formCount (now cells)) .steps)) × ((j : ℕ) → getD (now breaks) j 0 ≡ made (now cells) (formCount (now cells)) .brk j) ⌝ }
+    requires { ⌜ RoomForPlan (now cells) (now plan) × (first ≡ length (made (now cells) (formCount (now cells)) .steps)) × ((j : ℕ) → getD (now breaks) j 0 ≡ made (now cells) (formCount (now cells)) .breaking j) ⌝ }
     ensures { λ r. ⌜ (r ≡ length (stepsTo (now (cells .entry)) (ruleCount (now (cells .entry))))) × ((t : List ℕ) → now (plan .entry) ≡ laid t [] [] (stepsTo (now (cells .entry)) 0) → now (plan .exit) ≡ laid t [] (values (ruleStep (now (cells .entry))) (ruleCount (now (cells .entry)))) (stepsTo (now (cells .entry)) (ruleCount (now (cells .entry))))) ⌝ }
 {
     let rules = rule_count(cells);
@@ -340,7 +348,7 @@ fn fill_rules(plan: &mut [u16], cells: &[u16], breaks: &[u16], first: usize) -> 
 
 // The plan of well-formed tables, and how many steps it has.
 fn make_plan(plan: &mut [u16], cells: &[u16]) -> usize
-    requires { ⌜ Fits (now cells) (now plan) ⌝ }
+    requires { ⌜ RoomForPlan (now cells) (now plan) ⌝ }
     ensures { λ r. ⌜ r ≡ length (stepsOf (now (cells .entry))) ⌝ }
     ensures { λ _. ⌜ now (plan .exit) ≡ planOf (now (cells .entry)) ++ drop planCount (now (plan .entry)) ⌝ }
 {

@@ -14,7 +14,7 @@ use Rattle.model.specs.Sizes.{pathEntries, endEntries, formEntries, shapePaths,
 use Rattle.tables.specs.Layout.{cellCount, valueCount, nameCount, factCount, pathCount, formCount, itemCount, ruleCount}
 use Rattle.tables.specs.Entries.{PathEntry, inv, seq, alt, Entry}
 use Rattle.tables.specs.Entries as E
-use Rattle.encoding.specs.Flatten.{last, addPath, Entries, withPath, withEnd, endNumber, kindCode, upperNumber, addTest, addShape, addShapes, noEntries}
+use Rattle.encoding.specs.Flatten.{lastNumber, addPath, Entries, withPath, withEnd, endNumber, kindCode, upperNumber, addTest, addShape, addShapes, noEntries}
 use Rattle.encoding.specs.Encode.{cellColumns, valueColumns, entriesOf, countsOf, contentOf, encodeCells, encodeValues, nameColumns, encodeNames}
 
 -- ---- the tables' lengths
@@ -34,9 +34,9 @@ names-length b = length-flat 0 (nameColumns b)
 pub path-size : (e : Path) (es : List PathEntry) → length (addPath e es) ≡ length es + pathEntries e
 unfolding addPath pathEntries
 path-size (predicate p) es = length-append es (E.link p ∷ [])
-path-size (inverse d) es = let ds = addPath d es in omega (arith, path-size d es, length-append ds (inv (last ds) ∷ []))
-path-size (sequence d e) es = let ds = addPath d es in let fs = addPath e ds in omega (arith, path-size d es, path-size e ds, length-append fs (seq (last ds) (last fs) ∷ []))
-path-size (alternative d e) es = let ds = addPath d es in let fs = addPath e ds in omega (arith, path-size d es, path-size e ds, length-append fs (alt (last ds) (last fs) ∷ []))
+path-size (inverse d) es = let ds = addPath d es in omega (arith, path-size d es, length-append ds (inv (lastNumber ds) ∷ []))
+path-size (sequence d e) es = let ds = addPath d es in let fs = addPath e ds in omega (arith, path-size d es, path-size e ds, length-append fs (seq (lastNumber ds) (lastNumber fs) ∷ []))
+path-size (alternative d e) es = let ds = addPath d es in let fs = addPath e ds in omega (arith, path-size d es, path-size e ds, length-append fs (alt (lastNumber ds) (lastNumber fs) ∷ []))
 
 -- fs has so many form entries, path entries and items more than es
 pub record Sized (es fs : Entries) (f p i : ℕ) : Type 0 where
@@ -71,23 +71,23 @@ shape-size (hasValue c) es = omega (arith, form-more es (Entry.is c))
 shape-size (conj φ ψ) es =
     let fs = addShape φ es in
     let gs = addShape ψ fs in
-    omega (arith, form-more gs (Entry.conj (last (fs .forms)) (last (gs .forms))), shape-size φ es, shape-size ψ fs)
+    omega (arith, form-more gs (Entry.conj (lastNumber (fs .forms)) (lastNumber (gs .forms))), shape-size φ es, shape-size ψ fs)
 shape-size (disj φ ψ) es =
     let fs = addShape φ es in
     let gs = addShape ψ fs in
-    omega (arith, form-more gs (Entry.disj (last (fs .forms)) (last (gs .forms))), shape-size φ es, shape-size ψ fs)
+    omega (arith, form-more gs (Entry.disj (lastNumber (fs .forms)) (lastNumber (gs .forms))), shape-size φ es, shape-size ψ fs)
 shape-size (neg φ) es =
     let fs = addShape φ es in
-    omega (arith, form-more fs (Entry.neg (last (fs .forms))), shape-size φ es)
+    omega (arith, form-more fs (Entry.neg (lastNumber (fs .forms))), shape-size φ es)
 shape-size (test t) es = test-size t es
 shape-size (count lo hi e ψ) es =
     let ps = withPath e es in
     let fs = addShape ψ ps in
-    omega (arith, form-more fs (Entry.count (last (ps .paths)) (last (fs .forms)) lo (upperNumber hi)), path-size e (es .paths), shape-size ψ ps)
+    omega (arith, form-more fs (Entry.count (lastNumber (ps .paths)) (lastNumber (fs .forms)) lo (upperNumber hi)), path-size e (es .paths), shape-size ψ ps)
 shape-size (forAll e ψ) es =
     let ps = withPath e es in
     let fs = addShape ψ ps in
-    omega (arith, form-more fs (Entry.all (last (ps .paths)) (last (fs .forms))), path-size e (es .paths), shape-size ψ ps)
+    omega (arith, form-more fs (Entry.all (lastNumber (ps .paths)) (lastNumber (fs .forms))), path-size e (es .paths), shape-size ψ ps)
 shape-size (equals f p) es =
     let ps = withEnd f es in
     omega (arith, form-more ps (Entry.equal (endNumber f ps) p), end-size f es)
@@ -97,13 +97,13 @@ shape-size (disjoint f p) es =
 shape-size (closed qs) es = omega (arith, form-more es (Entry.closed (length (es .items)) (length qs)), length-append (es .items) qs)
 shape-size (lessThan e p) es =
     let ps = withPath e es in
-    omega (arith, form-more ps (Entry.less (last (ps .paths)) p), path-size e (es .paths))
+    omega (arith, form-more ps (Entry.less (lastNumber (ps .paths)) p), path-size e (es .paths))
 shape-size (lessThanEq e p) es =
     let ps = withPath e es in
-    omega (arith, form-more ps (Entry.lesseq (last (ps .paths)) p), path-size e (es .paths))
+    omega (arith, form-more ps (Entry.lesseq (lastNumber (ps .paths)) p), path-size e (es .paths))
 shape-size (uniqueLang e) es =
     let ps = withPath e es in
-    omega (arith, form-more ps (Entry.onelang (last (ps .paths))), path-size e (es .paths))
+    omega (arith, form-more ps (Entry.onelang (lastNumber (ps .paths))), path-size e (es .paths))
 
 pub shapes-size : (φs : List Shape) (es : Entries) → Sized es (addShapes φs es) (sumOver formEntries φs) (sumOver shapePaths φs) (sumOver listItems φs)
 unfolding addShapes sumOver

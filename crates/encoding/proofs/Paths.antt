@@ -1,4 +1,4 @@
--- Paths as entries: entries that are there stay, and the last entry of a path, read back, is that path.
+-- Paths as entries: entries that are there stay, and the lastNumber entry of a path, read back, is that path.
 use Prim.Native.Nat.{ℕ, _≤_, _<_}
 use mathlib.Core.List.{List, [], _∷_, _++_}
 use mathlib.Core.Bool.{Bool, cond}
@@ -14,7 +14,7 @@ use Rattle.tables.specs.Layout.{noNumber}
 use Rattle.tables.specs.Entries.{PathEntry, link, inv, seq, alt, pathEntryOf}
 use Rattle.tables.specs.Decode.{pathOf, pathEntryAt, pathAt, endAt}
 use Rattle.encoding.specs.Rows.{pathRow}
-use Rattle.encoding.specs.Flatten.{last, addPath, Entries, withEnd, endNumber}
+use Rattle.encoding.specs.Flatten.{lastNumber, addPath, Entries, withEnd, endNumber}
 use Rattle.base.proofs.Lists.{Extends}
 use Rattle.encoding.proofs.Places.{Gives, gives-front, gives-end, gives-before, extends-more, extends-trans, extends-length}
 use Rattle.encoding.proofs.Counts.{path-size, path-entries}
@@ -33,22 +33,22 @@ unfolding addPath
 path-extends (predicate p) es = extends-more es (link p ∷ [])
 path-extends (inverse d) es =
     let ds = addPath d es in
-    extends-trans es ds (ds ++ (inv (last ds) ∷ [])) (path-extends d es) (extends-more ds (inv (last ds) ∷ []))
+    extends-trans es ds (ds ++ (inv (lastNumber ds) ∷ [])) (path-extends d es) (extends-more ds (inv (lastNumber ds) ∷ []))
 path-extends (sequence d e) es =
     let ds = addPath d es in
     let fs = addPath e ds in
-    let x = seq (last ds) (last fs) ∷ [] in
+    let x = seq (lastNumber ds) (lastNumber fs) ∷ [] in
     extends-trans es ds (fs ++ x) (path-extends d es) (extends-trans ds fs (fs ++ x) (path-extends e ds) (extends-more fs x))
 path-extends (alternative d e) es =
     let ds = addPath d es in
     let fs = addPath e ds in
-    let x = alt (last ds) (last fs) ∷ [] in
+    let x = alt (lastNumber ds) (lastNumber fs) ∷ [] in
     extends-trans es ds (fs ++ x) (path-extends d es) (extends-trans ds fs (fs ++ x) (path-extends e ds) (extends-more fs x))
 
-pub last-snoc : {A : Type 0} (xs : List A) (x : A) → last (xs ++ (x ∷ [])) ≡ length xs
+pub last-snoc : {A : Type 0} (xs : List A) (x : A) → lastNumber (xs ++ (x ∷ [])) ≡ length xs
 last-snoc xs x = omega (arith, length-append xs (x ∷ []))
 
-pub path-last : (e : Path) (es : List PathEntry) → last (addPath e es) < length (addPath e es)
+pub path-last : (e : Path) (es : List PathEntry) → lastNumber (addPath e es) < length (addPath e es)
 path-last e es = omega (arith, path-size e es, path-entries e)
 
 module _ (cs : List ℕ) where
@@ -56,7 +56,7 @@ module _ (cs : List ℕ) where
   lower = below (predicate 0) (λ e at. pathOf (pathEntryAt cs e) at)
 
   -- the entry at the end of a list, by its parts
-  path-end : (es : List PathEntry) (x : PathEntry) → Gives (pathEntryAt cs) (es ++ (x ∷ [])) → pathAt cs (last (es ++ (x ∷ []))) ≡ pathOf x (lower (length es))
+  path-end : (es : List PathEntry) (x : PathEntry) → Gives (pathEntryAt cs) (es ++ (x ∷ [])) → pathAt cs (lastNumber (es ++ (x ∷ []))) ≡ pathOf x (lower (length es))
   unfolding pathAt
   path-end es x h =
       ap (pathAt cs) (last-snoc es x) ∙ at-number (predicate 0) (λ e at. pathOf (pathEntryAt cs e) at) (length es)
@@ -66,21 +66,21 @@ module _ (cs : List ℕ) where
   unfolding pathAt
   lower-at n k l = below-number (predicate 0) (λ e at. pathOf (pathEntryAt cs e) at) n k l
 
-  -- an entry of two parts, the last of ds and the last of fs
-  two-parts : (f : Path → Path → Path) (g : ℕ → ℕ → PathEntry) → ((m n : ℕ) (at : ℕ → Path) → pathOf (g m n) at ≡ f (at m) (at n)) → (d e : Path) (ds fs : List PathEntry) → last ds < length ds → last fs < length fs → Extends ds fs → Gives (pathEntryAt cs) (fs ++ (g (last ds) (last fs) ∷ [])) → (Gives (pathEntryAt cs) ds → pathAt cs (last ds) ≡ d) → (Gives (pathEntryAt cs) fs → pathAt cs (last fs) ≡ e) → pathAt cs (last (fs ++ (g (last ds) (last fs) ∷ []))) ≡ f d e
+  -- an entry of two parts, the lastNumber of ds and the lastNumber of fs
+  two-parts : (f : Path → Path → Path) (g : ℕ → ℕ → PathEntry) → ((m n : ℕ) (at : ℕ → Path) → pathOf (g m n) at ≡ f (at m) (at n)) → (d e : Path) (ds fs : List PathEntry) → lastNumber ds < length ds → lastNumber fs < length fs → Extends ds fs → Gives (pathEntryAt cs) (fs ++ (g (lastNumber ds) (lastNumber fs) ∷ [])) → (Gives (pathEntryAt cs) ds → pathAt cs (lastNumber ds) ≡ d) → (Gives (pathEntryAt cs) fs → pathAt cs (lastNumber fs) ≡ e) → pathAt cs (lastNumber (fs ++ (g (lastNumber ds) (lastNumber fs) ∷ []))) ≡ f d e
   two-parts f g of d e ds fs k l x h p q =
-      let y = g (last ds) (last fs) in
+      let y = g (lastNumber ds) (lastNumber fs) in
       let hf : Gives (pathEntryAt cs) fs = gives-front (pathEntryAt cs) fs (y ∷ []) h in
-      path-end fs y h ∙ of (last ds) (last fs) (lower (length fs))
-      ∙ ap₂ f (lower-at (length fs) (last ds) (omega (arith, extends-length ds fs x)) ∙ p (gives-before (pathEntryAt cs) ds fs x hf)) (lower-at (length fs) (last fs) l ∙ q hf)
+      path-end fs y h ∙ of (lastNumber ds) (lastNumber fs) (lower (length fs))
+      ∙ ap₂ f (lower-at (length fs) (lastNumber ds) (omega (arith, extends-length ds fs x)) ∙ p (gives-before (pathEntryAt cs) ds fs x hf)) (lower-at (length fs) (lastNumber fs) l ∙ q hf)
 
-  -- the last entry of a path is the path
-  pub path-read : (e : Path) (es : List PathEntry) → Gives (pathEntryAt cs) (addPath e es) → pathAt cs (last (addPath e es)) ≡ e
+  -- the lastNumber entry of a path is the path
+  pub path-read : (e : Path) (es : List PathEntry) → Gives (pathEntryAt cs) (addPath e es) → pathAt cs (lastNumber (addPath e es)) ≡ e
   unfolding addPath pathOf
   path-read (predicate p) es h = path-end es (link p) h
   path-read (inverse d) es h =
       let ds = addPath d es in
-      path-end ds (inv (last ds)) h ∙ ap inverse (lower-at (length ds) (last ds) (path-last d es) ∙ path-read d es (gives-front (pathEntryAt cs) ds (inv (last ds) ∷ []) h))
+      path-end ds (inv (lastNumber ds)) h ∙ ap inverse (lower-at (length ds) (lastNumber ds) (path-last d es) ∙ path-read d es (gives-front (pathEntryAt cs) ds (inv (lastNumber ds) ∷ []) h))
   path-read (sequence d e) es h = let ds = addPath d es in two-parts sequence seq (λ m n at. refl) d e ds (addPath e ds) (path-last d es) (path-last e ds) (path-extends e ds) h (path-read d es) (path-read e ds)
   path-read (alternative d e) es h = let ds = addPath d es in two-parts alternative alt (λ m n at. refl) d e ds (addPath e ds) (path-last d es) (path-last e ds) (path-extends e ds) h (path-read d es) (path-read e ds)
 
@@ -89,5 +89,5 @@ module _ (cs : List ℕ) where
   unfolding endAt withEnd endNumber
   end-read self es h l = refl
   end-read (along e) es h l =
-      let k = last (addPath e (es .paths)) in
+      let k = lastNumber (addPath e (es .paths)) in
       ap (λ (t : Bool). cond t self (along (pathAt cs k))) (ne-eqb k noNumber (λ q. let z : ⊥ = omega (arith, path-last e (es .paths)) in z)) ∙ ap along (path-read e (es .paths) h)

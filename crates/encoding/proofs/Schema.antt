@@ -15,14 +15,14 @@ use Rattle.tables.specs.Layout.{pathCount, shapeCount, formCodeAt, formFirstAt,
 use Rattle.tables.specs.Entries.{Entry, entryOf}
 use Rattle.tables.specs.Decode.{pathEntryAt, entryAt, shapeAt, schemaAt}
 use Rattle.encoding.specs.Rows.{pathRow, formRow}
-use Rattle.encoding.specs.Flatten.{last, Entries, addShape, addShapes, rootsOf, noEntries}
+use Rattle.encoding.specs.Flatten.{lastNumber, Entries, addShape, addShapes, rootsOf, noEntries}
 use Rattle.encoding.specs.Encode.{cellColumns, valueColumns, entriesOf, contentOf, encodeCells, encodeValues}
 use Rattle.base.proofs.Lists.{Extends}
 use Rattle.encoding.proofs.Places.{Gives, gives-front, gives-end, by-number-none, by-number-snoc, at-column, at-items, values-is}
 use Rattle.model.proofs.Lines.{shape-by-shape, names-within, forms-within, paths-within, items-within, shapes-counted}
 use Rattle.encoding.proofs.Counts.{shapes-size, entries-size, names-counted, paths-counted, items-counted}
 use Rattle.encoding.proofs.Paths.{path-back}
-use Rattle.encoding.proofs.Shapes.{form-back, form-last, grows-shape, Held, held-before, Low, shape-read}
+use Rattle.encoding.proofs.Shapes.{form-back, form-last, grows-shape, EntriesHeld, held-before, Low, shape-read}
 
 -- ---- the shapes of a book, each expanded by those before it, after H
 unfoldable pub expandAll : List Shape → List Shape → List Shape
@@ -56,10 +56,10 @@ unfolding addShapes
 entries-snoc [] es φ = refl
 entries-snoc (ψ ∷ φs) es φ = entries-snoc φs (addShape ψ es) φ
 
-pub roots-snoc : (φs : List Shape) (es : Entries) (φ : Shape) → rootsOf (φs ++ (φ ∷ [])) es ≡ rootsOf φs es ++ (last (addShape φ (addShapes φs es) .forms) ∷ [])
+pub roots-snoc : (φs : List Shape) (es : Entries) (φ : Shape) → rootsOf (φs ++ (φ ∷ [])) es ≡ rootsOf φs es ++ (lastNumber (addShape φ (addShapes φs es) .forms) ∷ [])
 unfolding rootsOf addShapes
 roots-snoc [] es φ = refl
-roots-snoc (ψ ∷ φs) es φ = ap (λ (l : List ℕ). last (addShape ψ es .forms) ∷ l) (roots-snoc φs (addShape ψ es) φ)
+roots-snoc (ψ ∷ φs) es φ = ap (λ (l : List ℕ). lastNumber (addShape ψ es .forms) ∷ l) (roots-snoc φs (addShape ψ es) φ)
 
 pub roots-length : (φs : List Shape) (es : Entries) → length (rootsOf φs es) ≡ length φs
 unfolding rootsOf
@@ -88,18 +88,18 @@ low-roots cs a r s d =
 module _ (cs : List ℕ) (vs : List ℤ) where
   -- the tables hold the entries and roots of these shapes and of one more, after them
   pub record Next (φs : List Shape) (φ : Shape) : Type 0 where
-    pub entries : Held cs vs (addShape φ (addShapes φs noEntries))
+    pub entries : EntriesHeld cs vs (addShape φ (addShapes φs noEntries))
     pub roots : Gives (rootAt cs) (rootsOf φs noEntries)
-    pub root : rootAt cs (length φs) ≡ last (addShape φ (addShapes φs noEntries) .forms)
+    pub root : rootAt cs (length φs) ≡ lastNumber (addShape φ (addShapes φs noEntries) .forms)
 
   -- induction over the shapes of a book whose entries and roots the tables hold
   module _ (Q : List Shape → Type 0) (start : Q []) (b : Book) (step : (a : Book) (φ : Shape) → Extends a b → Next (collect newShapes a) φ → Q (collect newShapes a) → shapeOk a φ ≡ true → Q (collect newShapes a ++ (φ ∷ []))) where
-    pub held-shapes : admissible b ≡ true → Held cs vs (addShapes (collect newShapes b) noEntries) → Gives (rootAt cs) (rootsOf (collect newShapes b) noEntries) → Q (collect newShapes b)
-    held-shapes = shape-by-shape (λ φs. Held cs vs (addShapes φs noEntries) → Gives (rootAt cs) (rootsOf φs noEntries) → Q φs) (λ h r. start) b (λ a φ x q ok fit h r.
+    pub held-shapes : admissible b ≡ true → EntriesHeld cs vs (addShapes (collect newShapes b) noEntries) → Gives (rootAt cs) (rootsOf (collect newShapes b) noEntries) → Q (collect newShapes b)
+    held-shapes = shape-by-shape (λ φs. EntriesHeld cs vs (addShapes φs noEntries) → Gives (rootAt cs) (rootsOf φs noEntries) → Q φs) (λ h r. start) b (λ a φ x q ok fit h r.
         let φs = collect newShapes a in
         let es = addShapes φs noEntries in
-        let root = last (addShape φ es .forms) in
-        let h′ : Held cs vs (addShape φ es) = subst (Held cs vs) (entries-snoc φs noEntries φ) h in
+        let root = lastNumber (addShape φ es .forms) in
+        let h′ : EntriesHeld cs vs (addShape φ es) = subst (EntriesHeld cs vs) (entries-snoc φs noEntries φ) h in
         let r′ : Gives (rootAt cs) (rootsOf φs noEntries ++ (root ∷ [])) = subst (Gives (rootAt cs)) (roots-snoc φs noEntries φ) r in
         let r₀ : Gives (rootAt cs) (rootsOf φs noEntries) = gives-front (rootAt cs) (rootsOf φs noEntries) (root ∷ []) r′ in
         let at : rootAt cs (length φs) ≡ root = ap (rootAt cs) (sym (roots-length φs noEntries)) ∙ gives-end (rootAt cs) (rootsOf φs noEntries) root r′ in
@@ -119,7 +119,7 @@ module _ (cs : List ℕ) (vs : List ℤ) where
         subst (Gives (λ s. shapeAt cs vs (rootAt cs s))) (sym (expand-snoc φs [] φ))
         (by-number-snoc (λ s x. shapeAt cs vs (rootAt cs s) ≡ x) H (expand H φ) before (ap (shapeAt cs vs) (at ∙ n .root) ∙ here))
 
-    pub shapes-read : (b : Book) → admissible b ≡ true → Held cs vs (addShapes (collect newShapes b) noEntries) → Gives (rootAt cs) (rootsOf (collect newShapes b) noEntries) → ReadBack (collect newShapes b)
+    pub shapes-read : (b : Book) → admissible b ≡ true → EntriesHeld cs vs (addShapes (collect newShapes b) noEntries) → Gives (rootAt cs) (rootsOf (collect newShapes b) noEntries) → ReadBack (collect newShapes b)
     unfolding expandAll
     shapes-read b = held-shapes ReadBack (by-number-none (λ s x. shapeAt cs vs (rootAt cs s) ≡ x)) b (λ a φ _ n q ok. shape-more a φ n q ok)
 
@@ -167,7 +167,7 @@ module _ (b : Book) (ok : admissible b ≡ true) where
   unfolding encodeCells contentOf capacity
   root-at = at-items 0 (cellColumns (contentOf b)) 16 (rootsOf (collect newShapes b) noEntries) refl (omega (arith, roots-length (collect newShapes b) noEntries, shapes-counted b, names-within shapes b ok))
 
-  pub entries-held : Held (encodeCells b) (encodeValues b) (entriesOf b)
+  pub entries-held : EntriesHeld (encodeCells b) (encodeValues b) (entriesOf b)
   entries-held =
       record {
         paths = path-entry-at;

@@ -1,4 +1,4 @@
--- Shapes as entries: entries that are there stay, and the last entry of a shape, read back, is that shape with the shape
+-- Shapes as entries: entries that are there stay, and the lastNumber entry of a shape, read back, is that shape with the shape
 -- names in it expanded.
 use Prim.Native.Nat.{ℕ, _≤_, _<_}
 use mathlib.Core.List.{List, [], _∷_, _++_}
@@ -21,7 +21,7 @@ use Rattle.tables.specs.Layout.{noNumber, pathCount, itemCount, itemAt, rootAt}
 use Rattle.tables.specs.Entries.{Entry, entryOf}
 use Rattle.tables.specs.Decode.{pathEntryAt, pathAt, endAt, kindOf, upperOf, itemsAt, shapeOf, entryAt, shapeAt}
 use Rattle.encoding.specs.Rows.{plainRow, valueRow, formRow}
-use Rattle.encoding.specs.Flatten.{last, addPath, Entries, addForm, withPath, withItems, withEnd, endNumber, kindCode, upperNumber, addTest, addShape}
+use Rattle.encoding.specs.Flatten.{lastNumber, addPath, Entries, addForm, withPath, withItems, withEnd, endNumber, kindCode, upperNumber, addTest, addShape}
 use Rattle.base.proofs.Lists.{Extends}
 use Rattle.encoding.proofs.Places.{Gives, gives-back, gives-end, gives-before, valuesFrom-is, extends-refl, extends-more, extends-trans, extends-length}
 use Rattle.encoding.proofs.Counts.{shape-size, form-entries}
@@ -102,42 +102,42 @@ grows-shape (hasValue c) es = grows-form (Entry.is c) es
 grows-shape (conj φ ψ) es =
     let fs = addShape φ es in
     let gs = addShape ψ fs in
-    grows-trans (grows-shape φ es) (grows-trans (grows-shape ψ fs) (grows-form (Entry.conj (last (fs .forms)) (last (gs .forms))) gs))
+    grows-trans (grows-shape φ es) (grows-trans (grows-shape ψ fs) (grows-form (Entry.conj (lastNumber (fs .forms)) (lastNumber (gs .forms))) gs))
 grows-shape (disj φ ψ) es =
     let fs = addShape φ es in
     let gs = addShape ψ fs in
-    grows-trans (grows-shape φ es) (grows-trans (grows-shape ψ fs) (grows-form (Entry.disj (last (fs .forms)) (last (gs .forms))) gs))
+    grows-trans (grows-shape φ es) (grows-trans (grows-shape ψ fs) (grows-form (Entry.disj (lastNumber (fs .forms)) (lastNumber (gs .forms))) gs))
 grows-shape (neg φ) es =
     let fs = addShape φ es in
-    grows-trans (grows-shape φ es) (grows-form (Entry.neg (last (fs .forms))) fs)
+    grows-trans (grows-shape φ es) (grows-form (Entry.neg (lastNumber (fs .forms))) fs)
 grows-shape (test t) es = grows-test t es
 grows-shape (count lo hi e ψ) es =
     let ps = withPath e es in
     let fs = addShape ψ ps in
-    grows-trans (grows-path e es) (grows-trans (grows-shape ψ ps) (grows-form (Entry.count (last (ps .paths)) (last (fs .forms)) lo (upperNumber hi)) fs))
+    grows-trans (grows-path e es) (grows-trans (grows-shape ψ ps) (grows-form (Entry.count (lastNumber (ps .paths)) (lastNumber (fs .forms)) lo (upperNumber hi)) fs))
 grows-shape (forAll e ψ) es =
     let ps = withPath e es in
     let fs = addShape ψ ps in
-    grows-trans (grows-path e es) (grows-trans (grows-shape ψ ps) (grows-form (Entry.all (last (ps .paths)) (last (fs .forms))) fs))
+    grows-trans (grows-path e es) (grows-trans (grows-shape ψ ps) (grows-form (Entry.all (lastNumber (ps .paths)) (lastNumber (fs .forms))) fs))
 grows-shape (equals f p) es = let ps = withEnd f es in grows-trans (grows-end f es) (grows-form (Entry.equal (endNumber f ps) p) ps)
 grows-shape (disjoint f p) es = let ps = withEnd f es in grows-trans (grows-end f es) (grows-form (Entry.apart (endNumber f ps) p) ps)
 grows-shape (closed qs) es = grows-trans (grows-items qs es) (grows-form (Entry.closed (length (es .items)) (length qs)) (withItems qs es))
-grows-shape (lessThan e p) es = let ps = withPath e es in grows-trans (grows-path e es) (grows-form (Entry.less (last (ps .paths)) p) ps)
-grows-shape (lessThanEq e p) es = let ps = withPath e es in grows-trans (grows-path e es) (grows-form (Entry.lesseq (last (ps .paths)) p) ps)
-grows-shape (uniqueLang e) es = let ps = withPath e es in grows-trans (grows-path e es) (grows-form (Entry.onelang (last (ps .paths))) ps)
+grows-shape (lessThan e p) es = let ps = withPath e es in grows-trans (grows-path e es) (grows-form (Entry.less (lastNumber (ps .paths)) p) ps)
+grows-shape (lessThanEq e p) es = let ps = withPath e es in grows-trans (grows-path e es) (grows-form (Entry.lesseq (lastNumber (ps .paths)) p) ps)
+grows-shape (uniqueLang e) es = let ps = withPath e es in grows-trans (grows-path e es) (grows-form (Entry.onelang (lastNumber (ps .paths))) ps)
 
-pub form-last : (φ : Shape) (es : Entries) → last (addShape φ es .forms) < length (addShape φ es .forms)
+pub form-last : (φ : Shape) (es : Entries) → lastNumber (addShape φ es .forms) < length (addShape φ es .forms)
 form-last φ es = omega (arith, shape-size φ es, form-entries φ)
 
 -- ---- tables that hold these entries, by number, and perhaps more
-pub record Held (cs : List ℕ) (vs : List ℤ) (es : Entries) : Type 0 where
+pub record EntriesHeld (cs : List ℕ) (vs : List ℤ) (es : Entries) : Type 0 where
   pub paths : Gives (pathEntryAt cs) (es .paths)
   pub forms : Gives (entryAt cs vs) (es .forms)
   pub items : Gives (itemAt cs) (es .items)
   pub pathsFit : length (es .paths) ≤ pathCount cs
   pub itemsFit : length (es .items) ≤ itemCount cs
 
-pub held-before : {cs : List ℕ} {vs : List ℤ} {es fs : Entries} → Grows es fs → Held cs vs fs → Held cs vs es
+pub held-before : {cs : List ℕ} {vs : List ℤ} {es fs : Entries} → Grows es fs → EntriesHeld cs vs fs → EntriesHeld cs vs es
 held-before {cs} {vs} {es} {fs} g h =
     record {
       paths = gives-before (pathEntryAt cs) (es .paths) (fs .paths) (g .paths) (h .paths);
@@ -166,13 +166,13 @@ unfolding upperOk upperOf upperNumber
 upper-back (atMost hi) e = ap (λ (t : Bool). cond t unbounded (atMost hi)) (ne-eqb hi noNumber (λ q. let z : ⊥ = omega (arith, leb-true hi maxCount e) in z))
 upper-back unbounded e = refl
 
--- ---- the last entry of a shape
+-- ---- the lastNumber entry of a shape
 module _ (cs : List ℕ) (vs : List ℤ) (few : pathCount cs ≤ maxPaths) where
   abbrev lower : ℕ → ℕ → Shape
   lower = below Shape.top (λ e at. shapeOf cs (entryAt cs vs e) at)
 
   -- the entry at the end, by its parts
-  form-end : (es : Entries) (x : Entry) → Held cs vs (addForm x es) → shapeAt cs vs (last (es .forms ++ (x ∷ []))) ≡ shapeOf cs x (lower (length (es .forms)))
+  form-end : (es : Entries) (x : Entry) → EntriesHeld cs vs (addForm x es) → shapeAt cs vs (lastNumber (es .forms ++ (x ∷ []))) ≡ shapeOf cs x (lower (length (es .forms)))
   unfolding shapeAt
   form-end es x h =
       ap (shapeAt cs vs) (last-snoc (es .forms) x) ∙ at-number Shape.top (λ e at. shapeOf cs (entryAt cs vs e) at) (length (es .forms))
@@ -182,11 +182,11 @@ module _ (cs : List ℕ) (vs : List ℤ) (few : pathCount cs ≤ maxPaths) where
   unfolding shapeAt
   lower-at n k l = below-number Shape.top (λ e at. shapeOf cs (entryAt cs vs e) at) n k l
 
-  items-read : (xs : List ℕ) (es : Entries) → Held cs vs (withItems xs es) → itemsAt cs (length (es .items)) (length xs) ≡ xs
+  items-read : (xs : List ℕ) (es : Entries) → EntriesHeld cs vs (withItems xs es) → itemsAt cs (length (es .items)) (length xs) ≡ xs
   unfolding itemsAt
   items-read xs es h = valuesFrom-is (itemAt cs) (length (es .items)) xs (gives-back (itemAt cs) (es .items) xs (h .items))
 
-  test-read : (t : Test) (es : Entries) → Held cs vs (addTest t es) → shapeAt cs vs (last (addTest t es .forms)) ≡ test t
+  test-read : (t : Test) (es : Entries) → EntriesHeld cs vs (addTest t es) → shapeAt cs vs (lastNumber (addTest t es .forms)) ≡ test t
   unfolding addTest shapeOf
   test-read (nodeKind k) es h = form-end es (Entry.kind (kindCode k)) h ∙ ap (λ (k : Kind). test (nodeKind k)) (kind-back k)
   test-read (datatype t) es h = form-end es (Entry.datatype t) h
@@ -200,29 +200,29 @@ module _ (cs : List ℕ) (vs : List ℤ) (few : pathCount cs ≤ maxPaths) where
   test-read (maxExclusive x) es h = form-end es (Entry.under x) h
 
   -- a path whose entries come before a form entry
-  path-of : (e : Path) (es fs : Entries) → Grows (withPath e es) fs → Held cs vs fs → pathAt cs (last (addPath e (es .paths))) ≡ e
+  path-of : (e : Path) (es fs : Entries) → Grows (withPath e es) fs → EntriesHeld cs vs fs → pathAt cs (lastNumber (addPath e (es .paths))) ≡ e
   path-of e es fs g h = path-read cs e (es .paths) (held-before g h .paths)
 
-  end-of : (f : End) (es : Entries) (x : Entry) → Held cs vs (addForm x (withEnd f es)) → endAt cs (endNumber f (withEnd f es)) ≡ f
+  end-of : (f : End) (es : Entries) (x : Entry) → EntriesHeld cs vs (addForm x (withEnd f es)) → endAt cs (endNumber f (withEnd f es)) ≡ f
   end-of f es x h = let g = held-before (grows-form x (withEnd f es)) h in end-read cs f es (g .paths) (omega (arith, g .pathsFit))
 
   -- H: what the shapes named so far stand for; a: the lines above
   module _ (H : List Shape) (a : Book) (known : (s : ℕ) → defined a shapes s ≡ true → shapeAt cs vs (rootAt cs s) ≡ def H s) where
     -- the entry of a part, asked for below number n
-    part : (φ : Shape) (es fs : Entries) → Grows (addShape φ es) fs → shapeAt cs vs (last (addShape φ es .forms)) ≡ expand H φ → lower (length (fs .forms)) (last (addShape φ es .forms)) ≡ expand H φ
-    part φ es fs g e = lower-at (length (fs .forms)) (last (addShape φ es .forms)) (omega (arith, form-last φ es, extends-length (addShape φ es .forms) (fs .forms) (g .forms))) ∙ e
+    part : (φ : Shape) (es fs : Entries) → Grows (addShape φ es) fs → shapeAt cs vs (lastNumber (addShape φ es .forms)) ≡ expand H φ → lower (length (fs .forms)) (lastNumber (addShape φ es .forms)) ≡ expand H φ
+    part φ es fs g e = lower-at (length (fs .forms)) (lastNumber (addShape φ es .forms)) (omega (arith, form-last φ es, extends-length (addShape φ es .forms) (fs .forms) (g .forms))) ∙ e
 
     -- an entry of two parts
-    two-parts : (f : Shape → Shape → Shape) (g : ℕ → ℕ → Entry) → ((m n : ℕ) (at : ℕ → Shape) → shapeOf cs (g m n) at ≡ f (at m) (at n)) → (φ ψ : Shape) (es : Entries) → (let fs = addShape φ es in let gs = addShape ψ fs in let x = g (last (fs .forms)) (last (gs .forms)) in Held cs vs (addForm x gs) → (Held cs vs fs → shapeAt cs vs (last (fs .forms)) ≡ expand H φ) → (Held cs vs gs → shapeAt cs vs (last (gs .forms)) ≡ expand H ψ) → shapeAt cs vs (last (gs .forms ++ (x ∷ []))) ≡ f (expand H φ) (expand H ψ))
+    two-parts : (f : Shape → Shape → Shape) (g : ℕ → ℕ → Entry) → ((m n : ℕ) (at : ℕ → Shape) → shapeOf cs (g m n) at ≡ f (at m) (at n)) → (φ ψ : Shape) (es : Entries) → (let fs = addShape φ es in let gs = addShape ψ fs in let x = g (lastNumber (fs .forms)) (lastNumber (gs .forms)) in EntriesHeld cs vs (addForm x gs) → (EntriesHeld cs vs fs → shapeAt cs vs (lastNumber (fs .forms)) ≡ expand H φ) → (EntriesHeld cs vs gs → shapeAt cs vs (lastNumber (gs .forms)) ≡ expand H ψ) → shapeAt cs vs (lastNumber (gs .forms ++ (x ∷ []))) ≡ f (expand H φ) (expand H ψ))
     two-parts f g of φ ψ es h p q =
         let fs = addShape φ es in
         let gs = addShape ψ fs in
-        let x = g (last (fs .forms)) (last (gs .forms)) in
-        let hg : Held cs vs gs = held-before (grows-form x gs) h in
-        form-end gs x h ∙ of (last (fs .forms)) (last (gs .forms)) (lower (length (gs .forms)))
+        let x = g (lastNumber (fs .forms)) (lastNumber (gs .forms)) in
+        let hg : EntriesHeld cs vs gs = held-before (grows-form x gs) h in
+        form-end gs x h ∙ of (lastNumber (fs .forms)) (lastNumber (gs .forms)) (lower (length (gs .forms)))
         ∙ ap₂ f (part φ es gs (grows-shape ψ fs) (p (held-before (grows-shape ψ fs) hg))) (part ψ fs gs (grows-refl gs) (q hg))
 
-    pub shape-read : (φ : Shape) (es : Entries) → Low cs a es → Held cs vs (addShape φ es) → shapeOk a φ ≡ true → shapeAt cs vs (last (addShape φ es .forms)) ≡ expand H φ
+    pub shape-read : (φ : Shape) (es : Entries) → Low cs a es → EntriesHeld cs vs (addShape φ es) → shapeOk a φ ≡ true → shapeAt cs vs (lastNumber (addShape φ es .forms)) ≡ expand H φ
     unfolding addShape shapeOf expand shapeOk
     shape-read top es low h ok = form-end es Entry.top h
     shape-read (hasShape s) es low h ok = form-end es (Entry.shape s) h ∙ lower-at (length (es .forms)) (rootAt cs s) (low s ok) ∙ known s ok
@@ -231,25 +231,25 @@ module _ (cs : List ℕ) (vs : List ℤ) (few : pathCount cs ≤ maxPaths) where
     shape-read (disj φ ψ) es low h ok = two-parts disj Entry.disj (λ m n at. refl) φ ψ es h (λ k. shape-read φ es low k (and-left _ _ ok)) (λ k. shape-read ψ (addShape φ es) (low-shape cs a φ es low) k (and-right (shapeOk a φ) _ ok))
     shape-read (neg φ) es low h ok =
         let fs = addShape φ es in
-        let x = Entry.neg (last (fs .forms)) in
+        let x = Entry.neg (lastNumber (fs .forms)) in
         form-end fs x h ∙ ap neg (part φ es fs (grows-refl fs) (shape-read φ es low (held-before (grows-form x fs) h) ok))
     shape-read (test t) es low h ok = test-read t es h
     shape-read (count lo hi e ψ) es low h ok =
         let ps = withPath e es in
         let fs = addShape ψ ps in
-        let x = Entry.count (last (ps .paths)) (last (fs .forms)) lo (upperNumber hi) in
-        let g : Held cs vs fs = held-before (grows-form x fs) h in
+        let x = Entry.count (lastNumber (ps .paths)) (lastNumber (fs .forms)) lo (upperNumber hi) in
+        let g : EntriesHeld cs vs fs = held-before (grows-form x fs) h in
         let bounds : (leb lo maxCount && upperOk hi) ≡ true = and-left _ _ ok in
         let parts : (pathOk a e && shapeOk a ψ) ≡ true = and-right (leb lo maxCount && upperOk hi) _ ok in
         let upper = upper-back hi (and-right (leb lo maxCount) _ bounds) in
         let path = path-of e es fs (grows-shape ψ ps) g in
         let child = part ψ ps fs (grows-refl fs) (shape-read ψ ps low g (and-right (pathOk a e) _ parts)) in
-        form-end fs x h ∙ ap₂ (λ (u : Upper) (d : Path). count lo u d (lower (length (fs .forms)) (last (fs .forms)))) upper path ∙ ap (count lo hi e) child
+        form-end fs x h ∙ ap₂ (λ (u : Upper) (d : Path). count lo u d (lower (length (fs .forms)) (lastNumber (fs .forms)))) upper path ∙ ap (count lo hi e) child
     shape-read (forAll e ψ) es low h ok =
         let ps = withPath e es in
         let fs = addShape ψ ps in
-        let x = Entry.all (last (ps .paths)) (last (fs .forms)) in
-        let g : Held cs vs fs = held-before (grows-form x fs) h in
+        let x = Entry.all (lastNumber (ps .paths)) (lastNumber (fs .forms)) in
+        let g : EntriesHeld cs vs fs = held-before (grows-form x fs) h in
         form-end fs x h ∙ ap₂ forAll (path-of e es fs (grows-shape ψ ps) g) (part ψ ps fs (grows-refl fs) (shape-read ψ ps low g (and-right (pathOk a e) _ ok)))
     shape-read (equals f p) es low h ok = form-end (withEnd f es) (Entry.equal (endNumber f (withEnd f es)) p) h ∙ ap (λ (f : End). equals f p) (end-of f es (Entry.equal (endNumber f (withEnd f es)) p) h)
     shape-read (disjoint f p) es low h ok = form-end (withEnd f es) (Entry.apart (endNumber f (withEnd f es)) p) h ∙ ap (λ (f : End). disjoint f p) (end-of f es (Entry.apart (endNumber f (withEnd f es)) p) h)
@@ -259,13 +259,13 @@ module _ (cs : List ℕ) (vs : List ℤ) (few : pathCount cs ≤ maxPaths) where
         form-end fs x h ∙ ap closed (items-read qs es (held-before (grows-form x fs) h))
     shape-read (lessThan e p) es low h ok =
         let ps = withPath e es in
-        let x = Entry.less (last (ps .paths)) p in
+        let x = Entry.less (lastNumber (ps .paths)) p in
         form-end ps x h ∙ ap (λ (e : Path). lessThan e p) (path-of e es (addForm x ps) (grows-form x ps) h)
     shape-read (lessThanEq e p) es low h ok =
         let ps = withPath e es in
-        let x = Entry.lesseq (last (ps .paths)) p in
+        let x = Entry.lesseq (lastNumber (ps .paths)) p in
         form-end ps x h ∙ ap (λ (e : Path). lessThanEq e p) (path-of e es (addForm x ps) (grows-form x ps) h)
     shape-read (uniqueLang e) es low h ok =
         let ps = withPath e es in
-        let x = Entry.onelang (last (ps .paths)) in
+        let x = Entry.onelang (lastNumber (ps .paths)) in
         form-end ps x h ∙ ap uniqueLang (path-of e es (addForm x ps) (grows-form x ps) h)

@@ -28,14 +28,14 @@ use Rattle.tables.specs.Entries as E
 use Rattle.tables.specs.Decode.{tripleAt, pathEntryAt, entryAt}
 use Rattle.tables.specs.WellFormed.{countsOk, nodeOk, factOk, pathEntryOk, itemOk, itemsOk, upperOk, endOk, entryOk, ruleOk, wellFormed}
 use Rattle.encoding.specs.Rows.{nodeRow, targetCode, targetOperand, plainRow, valueRow, formRow}
-use Rattle.encoding.specs.Flatten.{last, addPath, Entries, addForm, withPath, withItems, withEnd, endNumber, kindCode, upperNumber, addTest, addShape, addShapes, noEntries}
+use Rattle.encoding.specs.Flatten.{lastNumber, addPath, Entries, addForm, withPath, withItems, withEnd, endNumber, kindCode, upperNumber, addTest, addShape, addShapes, noEntries}
 use Rattle.encoding.specs.Encode.{entriesOf, encodeCells, encodeValues}
 use Rattle.encoding.proofs.Places.{gives-back, Each, by-number-none, by-number-snoc, extends-length}
 use Rattle.model.proofs.Lines.{defined-more, all-right, names-before, facts-within, rules-within, names-within, forms-within, paths-within, items-within, terms-counted, shapes-counted}
 use Rattle.encoding.proofs.Counts.{path-size, entries-size, names-counted, facts-counted, rules-counted, paths-counted, forms-counted, items-counted}
 use Rattle.encoding.proofs.Graph.{kind-at, type-at, lang-at, triple-at, rule-shape-at, rule-target-at, rule-operand-at}
 use Rattle.encoding.proofs.Paths.{path-last}
-use Rattle.encoding.proofs.Shapes.{form-last, Grows, grows-refl, grows-form, grows-shape, Held, held-before, Low, low-shape}
+use Rattle.encoding.proofs.Shapes.{form-last, Grows, grows-refl, grows-form, grows-shape, EntriesHeld, held-before, Low, low-shape}
 use Rattle.encoding.proofs.Schema.{entries-snoc, roots-length, roots-low, low-roots, held-shapes, path-entry-at, form-entry-with, root-at, entries-held}
 
 -- ---- what lines add uses what the book defines
@@ -152,11 +152,11 @@ kind-low anIri = lt-ltb 0 3 (omega arith)
 kind-low aBlank = lt-ltb 1 3 (omega arith)
 kind-low aLiteral = lt-ltb 2 3 (omega arith)
 
-parts-lower : (d e : Path) (es : List PathEntry) → (ltb (last (addPath d es)) (length (addPath e (addPath d es))) && ltb (last (addPath e (addPath d es))) (length (addPath e (addPath d es)))) ≡ true
+parts-lower : (d e : Path) (es : List PathEntry) → (ltb (lastNumber (addPath d es)) (length (addPath e (addPath d es))) && ltb (lastNumber (addPath e (addPath d es))) (length (addPath e (addPath d es)))) ≡ true
 parts-lower d e es =
     let ds = addPath d es in
     let fs = addPath e ds in
-    and-both _ _ (lt-ltb (last ds) (length fs) (omega (arith, path-last d es, path-size e ds))) (lt-ltb (last fs) (length fs) (path-last e ds))
+    and-both _ _ (lt-ltb (lastNumber ds) (length fs) (omega (arith, path-last d es, path-size e ds))) (lt-ltb (lastNumber fs) (length fs) (path-last e ds))
 
 module _ (cs : List ℕ) where
   upper-ok : (hi : Upper) → Valid.upperOk hi ≡ true → upperOk cs (upperNumber hi) ≡ true
@@ -168,24 +168,24 @@ module _ (cs : List ℕ) where
   with-form es x h e = record { paths = h .paths; forms = by-number-snoc (λ i x. entryOk cs i x ≡ true) (es .forms) x (h .forms) e }
 
   -- a part of the entry to come
-  form-lower : (φ : Shape) (es fs : Entries) → Grows (addShape φ es) fs → ltb (last (addShape φ es .forms)) (length (fs .forms)) ≡ true
-  form-lower φ es fs g = lt-ltb (last (addShape φ es .forms)) (length (fs .forms)) (omega (arith, form-last φ es, extends-length (addShape φ es .forms) (fs .forms) (g .forms)))
+  form-lower : (φ : Shape) (es fs : Entries) → Grows (addShape φ es) fs → ltb (lastNumber (addShape φ es .forms)) (length (fs .forms)) ≡ true
+  form-lower φ es fs g = lt-ltb (lastNumber (addShape φ es .forms)) (length (fs .forms)) (omega (arith, form-last φ es, extends-length (addShape φ es .forms) (fs .forms) (g .forms)))
 
   module _ (vs : List ℤ) where
-    path-lower : (e : Path) (es fs : Entries) → Grows (withPath e es) fs → Held cs vs fs → ltb (last (addPath e (es .paths))) (pathCount cs) ≡ true
-    path-lower e es fs g h = lt-ltb (last (addPath e (es .paths))) (pathCount cs) (omega (arith, path-last e (es .paths), held-before g h .pathsFit))
+    path-lower : (e : Path) (es fs : Entries) → Grows (withPath e es) fs → EntriesHeld cs vs fs → ltb (lastNumber (addPath e (es .paths))) (pathCount cs) ≡ true
+    path-lower e es fs g h = lt-ltb (lastNumber (addPath e (es .paths))) (pathCount cs) (omega (arith, path-last e (es .paths), held-before g h .pathsFit))
 
-    end-ok : (f : End) (es : Entries) (x : Entry) → Held cs vs (addForm x (withEnd f es)) → endOk cs (endNumber f (withEnd f es)) ≡ true
+    end-ok : (f : End) (es : Entries) (x : Entry) → EntriesHeld cs vs (addForm x (withEnd f es)) → endOk cs (endNumber f (withEnd f es)) ≡ true
     unfolding endOk withEnd endNumber
     end-ok self es x h = ap (λ (t : Bool). ltb noNumber (pathCount cs) || t) (eq-eqb noNumber noNumber refl) ∙ or-true (ltb noNumber (pathCount cs))
-    end-ok (along e) es x h = ap (λ (t : Bool). t || eqb (last (addPath e (es .paths))) noNumber) (path-lower e es (addForm x (withPath e es)) (grows-form x (withPath e es)) h)
+    end-ok (along e) es x h = ap (λ (t : Bool). t || eqb (lastNumber (addPath e (es .paths))) noNumber) (path-lower e es (addForm x (withPath e es)) (grows-form x (withPath e es)) h)
 
     module _ (a : Book) (enough : (p : Pool) → length (names p a) ≤ getD cs (poolNumber p) 0) where
       below-count : (p : Pool) (k : ℕ) → defined a p k ≡ true → ltb k (getD cs (poolNumber p) 0) ≡ true
       unfolding defined
       below-count p k d = lt-ltb k (getD cs (poolNumber p) 0) (omega (arith, ltb-true k (length (names p a)) d, enough p))
 
-      items-ok : (p : Pool) (xs : List ℕ) (es : Entries) → allb (defined a p) xs ≡ true → Held cs vs (withItems xs es) → itemsOk cs (getD cs (poolNumber p) 0) (length (es .items)) (length xs) ≡ true
+      items-ok : (p : Pool) (xs : List ℕ) (es : Entries) → allb (defined a p) xs ≡ true → EntriesHeld cs vs (withItems xs es) → itemsOk cs (getD cs (poolNumber p) 0) (length (es .items)) (length xs) ≡ true
       unfolding itemsOk
       items-ok p xs es d h =
           let i = length (es .items) in
@@ -200,16 +200,16 @@ module _ (cs : List ℕ) where
       path-ok (predicate p) es d h = by-number-snoc (λ i x. pathEntryOk cs i x ≡ true) es (E.link p) h (below-count links p d)
       path-ok (inverse e) es d h =
           let ds = addPath e es in
-          by-number-snoc (λ i x. pathEntryOk cs i x ≡ true) ds (E.inv (last ds)) (path-ok e es d h) (lt-ltb (last ds) (length ds) (path-last e es))
+          by-number-snoc (λ i x. pathEntryOk cs i x ≡ true) ds (E.inv (lastNumber ds)) (path-ok e es d h) (lt-ltb (lastNumber ds) (length ds) (path-last e es))
       path-ok (sequence e f) es d h =
           let ds = addPath e es in
           let fs = addPath f ds in
-          by-number-snoc (λ i x. pathEntryOk cs i x ≡ true) fs (E.seq (last ds) (last fs)) (path-ok f ds (and-right (pathOk a e) _ d) (path-ok e es (and-left _ _ d) h))
+          by-number-snoc (λ i x. pathEntryOk cs i x ≡ true) fs (E.seq (lastNumber ds) (lastNumber fs)) (path-ok f ds (and-right (pathOk a e) _ d) (path-ok e es (and-left _ _ d) h))
           (parts-lower e f es)
       path-ok (alternative e f) es d h =
           let ds = addPath e es in
           let fs = addPath f ds in
-          by-number-snoc (λ i x. pathEntryOk cs i x ≡ true) fs (E.alt (last ds) (last fs)) (path-ok f ds (and-right (pathOk a e) _ d) (path-ok e es (and-left _ _ d) h))
+          by-number-snoc (λ i x. pathEntryOk cs i x ≡ true) fs (E.alt (lastNumber ds) (lastNumber fs)) (path-ok f ds (and-right (pathOk a e) _ d) (path-ok e es (and-left _ _ d) h))
           (parts-lower e f es)
 
       with-items : (xs : List ℕ) (es : Entries) → EntriesOk cs es → EntriesOk cs (withItems xs es)
@@ -223,7 +223,7 @@ module _ (cs : List ℕ) where
       with-end self es d k = k
       with-end (along e) es d k = with-path e es d k
 
-      test-ok : (t : Test) (es : Entries) → Held cs vs (addTest t es) → testOk a t ≡ true → EntriesOk cs es → EntriesOk cs (addTest t es)
+      test-ok : (t : Test) (es : Entries) → EntriesHeld cs vs (addTest t es) → testOk a t ≡ true → EntriesOk cs es → EntriesOk cs (addTest t es)
       unfolding addTest testOk entryOk
       test-ok (nodeKind k) es h d o = with-form es (Entry.kind (kindCode k)) o (kind-low k)
       test-ok (datatype t) es h d o = with-form es (Entry.datatype t) o (below-count types t d)
@@ -237,53 +237,53 @@ module _ (cs : List ℕ) where
       test-ok (maxExclusive x) es h d o = with-form es (Entry.under x) o refl
 
       -- an entry of two parts
-      two-parts : (φ ψ : Shape) (es : Entries) (x : Entry) → (let fs = addShape φ es in let gs = addShape ψ fs in let n = length (gs .forms) in entryOk cs n x ≡ (ltb (last (fs .forms)) n && ltb (last (gs .forms)) n) → Held cs vs (addForm x gs) → (Held cs vs fs → EntriesOk cs fs) → (Held cs vs gs → EntriesOk cs fs → EntriesOk cs gs) → EntriesOk cs (addForm x gs))
+      two-parts : (φ ψ : Shape) (es : Entries) (x : Entry) → (let fs = addShape φ es in let gs = addShape ψ fs in let n = length (gs .forms) in entryOk cs n x ≡ (ltb (lastNumber (fs .forms)) n && ltb (lastNumber (gs .forms)) n) → EntriesHeld cs vs (addForm x gs) → (EntriesHeld cs vs fs → EntriesOk cs fs) → (EntriesHeld cs vs gs → EntriesOk cs fs → EntriesOk cs gs) → EntriesOk cs (addForm x gs))
       two-parts φ ψ es x e h p q =
           let fs = addShape φ es in
           let gs = addShape ψ fs in
-          let hg : Held cs vs gs = held-before (grows-form x gs) h in
+          let hg : EntriesHeld cs vs gs = held-before (grows-form x gs) h in
           with-form gs x (q hg (p (held-before (grows-shape ψ fs) hg))) (e ∙ and-both _ _ (form-lower φ es gs (grows-shape ψ fs)) (form-lower ψ fs gs (grows-refl gs)))
 
       -- a path or END, and a link
-      path-link : (e : Path) (p : ℕ) (es : Entries) (x : Entry) → Held cs vs (addForm x (withPath e es)) → (pathOk a e && defined a links p) ≡ true → (ltb (last (addPath e (es .paths))) (pathCount cs) && ltb p (linkCount cs)) ≡ true
+      path-link : (e : Path) (p : ℕ) (es : Entries) (x : Entry) → EntriesHeld cs vs (addForm x (withPath e es)) → (pathOk a e && defined a links p) ≡ true → (ltb (lastNumber (addPath e (es .paths))) (pathCount cs) && ltb p (linkCount cs)) ≡ true
       path-link e p es x h d = and-both _ _ (path-lower e es (addForm x (withPath e es)) (grows-form x (withPath e es)) h) (below-count links p (and-right (pathOk a e) _ d))
 
-      end-link : (f : End) (p : ℕ) (es : Entries) (x : Entry) → Held cs vs (addForm x (withEnd f es)) → (Valid.endOk a f && defined a links p) ≡ true → (endOk cs (endNumber f (withEnd f es)) && ltb p (linkCount cs)) ≡ true
+      end-link : (f : End) (p : ℕ) (es : Entries) (x : Entry) → EntriesHeld cs vs (addForm x (withEnd f es)) → (Valid.endOk a f && defined a links p) ≡ true → (endOk cs (endNumber f (withEnd f es)) && ltb p (linkCount cs)) ≡ true
       end-link f p es x h d = and-both _ _ (end-ok f es x h) (below-count links p (and-right (Valid.endOk a f) _ d))
 
-      shape-ok : (φ : Shape) (es : Entries) → Low cs a es → Held cs vs (addShape φ es) → shapeOk a φ ≡ true → EntriesOk cs es → EntriesOk cs (addShape φ es)
+      shape-ok : (φ : Shape) (es : Entries) → Low cs a es → EntriesHeld cs vs (addShape φ es) → shapeOk a φ ≡ true → EntriesOk cs es → EntriesOk cs (addShape φ es)
       unfolding addShape shapeOk entryOk
       shape-ok top es low h d o = with-form es Entry.top o refl
       shape-ok (hasShape s) es low h d o = with-form es (Entry.shape s) o (and-both _ _ (below-count shapes s d) (lt-ltb (rootAt cs s) (length (es .forms)) (low s d)))
       shape-ok (hasValue c) es low h d o = with-form es (Entry.is c) o (below-count nodes c d)
       shape-ok (conj φ ψ) es low h d o =
           let fs = addShape φ es in
-          two-parts φ ψ es (Entry.conj (last (fs .forms)) (last (addShape ψ fs .forms))) refl h (λ k. shape-ok φ es low k (and-left _ _ d) o) (λ k. shape-ok ψ fs (low-shape cs a φ es low) k (and-right (shapeOk a φ) _ d))
+          two-parts φ ψ es (Entry.conj (lastNumber (fs .forms)) (lastNumber (addShape ψ fs .forms))) refl h (λ k. shape-ok φ es low k (and-left _ _ d) o) (λ k. shape-ok ψ fs (low-shape cs a φ es low) k (and-right (shapeOk a φ) _ d))
       shape-ok (disj φ ψ) es low h d o =
           let fs = addShape φ es in
-          two-parts φ ψ es (Entry.disj (last (fs .forms)) (last (addShape ψ fs .forms))) refl h (λ k. shape-ok φ es low k (and-left _ _ d) o) (λ k. shape-ok ψ fs (low-shape cs a φ es low) k (and-right (shapeOk a φ) _ d))
+          two-parts φ ψ es (Entry.disj (lastNumber (fs .forms)) (lastNumber (addShape ψ fs .forms))) refl h (λ k. shape-ok φ es low k (and-left _ _ d) o) (λ k. shape-ok ψ fs (low-shape cs a φ es low) k (and-right (shapeOk a φ) _ d))
       shape-ok (neg φ) es low h d o =
           let fs = addShape φ es in
-          let x = Entry.neg (last (fs .forms)) in
+          let x = Entry.neg (lastNumber (fs .forms)) in
           with-form fs x (shape-ok φ es low (held-before (grows-form x fs) h) d o) (form-lower φ es fs (grows-refl fs))
       shape-ok (test t) es low h d o = test-ok t es h d o
       shape-ok (count lo hi e ψ) es low h d o =
           let ps = withPath e es in
           let fs = addShape ψ ps in
-          let x = Entry.count (last (ps .paths)) (last (fs .forms)) lo (upperNumber hi) in
-          let g : Held cs vs fs = held-before (grows-form x fs) h in
+          let x = Entry.count (lastNumber (ps .paths)) (lastNumber (fs .forms)) lo (upperNumber hi) in
+          let g : EntriesHeld cs vs fs = held-before (grows-form x fs) h in
           let bounds : (leb lo maxCount && Valid.upperOk hi) ≡ true = and-left _ _ d in
           let parts : (pathOk a e && shapeOk a ψ) ≡ true = and-right (leb lo maxCount && Valid.upperOk hi) _ d in
-          let p = ltb (last (ps .paths)) (pathCount cs) in
-          let c = ltb (last (fs .forms)) (length (fs .forms)) in
+          let p = ltb (lastNumber (ps .paths)) (pathCount cs) in
+          let c = ltb (lastNumber (fs .forms)) (length (fs .forms)) in
           with-form fs x (shape-ok ψ ps low g (and-right (pathOk a e) _ parts) (with-path e es (and-left _ _ parts) o))
           (and-both _ _ (and-both _ _ (path-lower e es fs (grows-shape ψ ps) g) (form-lower ψ ps fs (grows-refl fs)))
           (and-both (leb lo maxCount) (upperOk cs (upperNumber hi)) (and-left (leb lo maxCount) (Valid.upperOk hi) bounds) (upper-ok hi (and-right (leb lo maxCount) (Valid.upperOk hi) bounds))))
       shape-ok (forAll e ψ) es low h d o =
           let ps = withPath e es in
           let fs = addShape ψ ps in
-          let x = Entry.all (last (ps .paths)) (last (fs .forms)) in
-          let g : Held cs vs fs = held-before (grows-form x fs) h in
+          let x = Entry.all (lastNumber (ps .paths)) (lastNumber (fs .forms)) in
+          let g : EntriesHeld cs vs fs = held-before (grows-form x fs) h in
           with-form fs x (shape-ok ψ ps low g (and-right (pathOk a e) _ d) (with-path e es (and-left _ _ d) o))
           (and-both _ _ (path-lower e es fs (grows-shape ψ ps) g) (form-lower ψ ps fs (grows-refl fs)))
       shape-ok (equals f p) es low h d o = let ps = withEnd f es in let x = Entry.equal (endNumber f ps) p in with-form ps x (with-end f es (and-left _ _ d) o) (end-link f p es x h d)
@@ -294,15 +294,15 @@ module _ (cs : List ℕ) where
           with-form fs x (with-items qs es o) (items-ok links qs es d (held-before (grows-form x fs) h))
       shape-ok (lessThan e p) es low h d o =
           let ps = withPath e es in
-          let x = Entry.less (last (ps .paths)) p in
+          let x = Entry.less (lastNumber (ps .paths)) p in
           with-form ps x (with-path e es (and-left _ _ d) o) (path-link e p es x h d)
       shape-ok (lessThanEq e p) es low h d o =
           let ps = withPath e es in
-          let x = Entry.lesseq (last (ps .paths)) p in
+          let x = Entry.lesseq (lastNumber (ps .paths)) p in
           with-form ps x (with-path e es (and-left _ _ d) o) (path-link e p es x h d)
       shape-ok (uniqueLang e) es low h d o =
           let ps = withPath e es in
-          let x = Entry.onelang (last (ps .paths)) in
+          let x = Entry.onelang (lastNumber (ps .paths)) in
           with-form ps x (with-path e es d o) (path-lower e es (addForm x ps) (grows-form x ps) h)
 
 -- ---- the tables of a book

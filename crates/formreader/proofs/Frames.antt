@@ -1,4 +1,4 @@
--- FORM up to the first FORM within it: its head, its word, and what stands before that FORM.
+-- FORM up to the first FORM deeper it: its head, its word, and what stands before that FORM.
 use Prim.Native.Nat.{ℕ, zero, suc, _+_, _-_, _<_, _≤_}
 use mathlib.Core.Path.{_≡_, refl, sym, ap, _∙_}
 use mathlib.Core.List.{List, [], _∷_}
@@ -18,7 +18,7 @@ use Rattle.model.specs.Books.{Book}
 use Rattle.model.specs.Sizes.{pathEntries}
 use Rattle.model.specs.Limits.{maxForms, maxPaths}
 use Rattle.grammar.specs.Syntax.{low, high, path, form, countC, formOf, formFamily}
-use Rattle.grammar.specs.Reading.{Read, got, refused, Readers, Begun, formBegun, after, spaceAt, argAt, bodyAt, bracketAt, trueAt, noReaders, within, readersAt}
+use Rattle.grammar.specs.Reading.{Read, got, refused, Readers, Begun, formBegun, after, spaceAt, argAt, bodyAt, bracketAt, trueAt, noReaders, deeper, readersAt}
 use Rattle.stores.specs.Entries.{pathCells}
 use Rattle.itemreader.specs.declared.Head.{Head}
 use Rattle.itemreader.specs.Answers.{headAt, wordsOf, restAt}
@@ -88,7 +88,7 @@ pub all-rest : (s : List ℕ) (a : Book) (left code : ℕ) (b : Begun) (at : ℕ
 unfolding bodyAt
 all-rest s a left code b at e = rw e
 
--- all others are without a FORM within
+-- all others are without a FORM deeper
 pub leaf-code : (code : ℕ) → code < 20 → (code ≡ 2 → ⊥) → (code ≡ 3 → ⊥) → (code ≡ 4 → ⊥) → (code ≡ 12 → ⊥) → (code ≡ 13 → ⊥) → childrenOf code ≡ 0
 unfolding every
 leaf-code code h n2 n3 n4 n12 n13 =
@@ -99,14 +99,14 @@ leaf-code code h n2 n3 n4 n12 n13 =
     opens k = eqb k 2 || (eqb k 3 || (eqb k 4 || (eqb k 12 || eqb k 13)))
 
 -- ---- the head
--- the readers within a bracket, where left more may be opened
+-- the readers deeper a bracket, where left more may be opened
 abbrev inner : List ℕ → Book → ℕ → Readers
 inner s a zero = noReaders s a
 inner s a (suc left) = readersAt s a left
 
 module _ (s : List ℕ) (a : Book) (b : Begun) (at m : ℕ) (q : b .forms ≡ m) where
   form-arg : (left : ℕ) → argAt s a (readersAt s a left) form b at ≡ spaceAt s a at (λ k. bracketAt s a formFamily (inner s a left) (eqb left 0) (leb maxForms m) (λ c. true) (trueAt s a (leb maxForms m) k) (formBegun b) k)
-  unfolding argAt readersAt within
+  unfolding argAt readersAt deeper
   form-arg zero = rw (← q)
   form-arg (suc left) = rw (← q, ne-eqb (suc left) 0 (λ e. omega arith))
 

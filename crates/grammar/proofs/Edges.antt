@@ -28,7 +28,7 @@ use Rattle.model.specs.Valid.{capacity, hasRoom, isResource}
 use Rattle.grammar.specs.Writing.{spaced, bracket, writeNode, writeLine, renderFrom, render}
 use Rattle.grammar.specs.Valid.{reserved, wellNamed, newName, validFrom}
 use Rattle.grammar.specs.Syntax.{Slot, new, Args, LineCode, thingL, lineFamily}
-use Rattle.grammar.specs.Reading.{Read, got, refused, andThen, item, unknown, after, usedAt, newAt, subjectAt, literalTypeAt, kindAt, valueAt, lowAt, highAt, listAt, endAt, argAt, argsAt, closeAt, bodyAt, headed, bracketAt, linkAt, trueAt, within, readersAt, lineRoom, begunAbove, lineAt, linesFrom, reading}
+use Rattle.grammar.specs.Reading.{Read, got, refused, andThen, item, unknown, after, usedAt, newAt, subjectAt, literalTypeAt, kindAt, valueAt, lowAt, highAt, listAt, endAt, argAt, argsAt, closeAt, bodyAt, headed, bracketAt, linkAt, trueAt, deeper, readersAt, lineRoom, begunAbove, lineAt, linesFrom, reading}
 use Rattle.grammar.specs.Cases.{Case, edges}
 use Rattle.grammar.proofs.Leaves.{fresh-nothing, nothing-fresh}
 use Rattle.grammar.proofs.Rows.{line-placed}
@@ -36,7 +36,7 @@ use Rattle.grammar.proofs.Books.{refused-after}
 
 -- ---- computed
 pub edges-hold : map (λ (c : Case). reading (c .text)) edges ≡ map (λ (c : Case). c .answer) edges
-unfolding reading linesFrom lineAt bracketAt bodyAt closeAt argsAt argAt endAt after readersAt within linkAt trueAt lineRoom begunAbove usedAt newAt subjectAt literalTypeAt kindAt valueAt lowAt highAt listAt wellNamed reserved isName allb nameByte itemEnd itemLen edge eql indexOf firstFrom names builtIn collect newNames joins newTerms newTriples newShapes newRules rules hasRoom capacity isResource formsIn pathsIn itemsIn sumOver pathEntries endEntries formEntries shapePaths testItems listItems numberOf positiveOf negativeOf boundOf isMag valueFrom digit
+unfolding reading linesFrom lineAt bracketAt bodyAt closeAt argsAt argAt endAt after readersAt deeper linkAt trueAt lineRoom begunAbove usedAt newAt subjectAt literalTypeAt kindAt valueAt lowAt highAt listAt wellNamed reserved isName allb nameByte itemEnd itemLen edge eql indexOf firstFrom names builtIn collect newNames joins newTerms newTriples newShapes newRules rules hasRoom capacity isResource formsIn pathsIn itemsIn sumOver pathEntries endEntries formEntries shapePaths testItems listItems numberOf positiveOf negativeOf boundOf isMag valueFrom digit
 edges-hold = refl
 
 -- ---- a full pool

@@ -26,7 +26,7 @@ use Rattle.model.specs.Limits.{maxFacts, maxForms, maxPaths, maxItems}
 use Rattle.grammar.specs.Writing.{nameOf}
 use Rattle.grammar.specs.Valid.{wellNamed}
 use Rattle.grammar.specs.Syntax.{Slot, used, new, subject, literalType, kindWord, value, low, high, path, end, form, target, list, Arg, Args, Family, pathFamily, formFamily, targetFamily, LineCode, linkL, typeL, langL, thingL, blankL, numberL, textL, wordsL, factL, shapeL, ruleL, lineFamily}
-use Rattle.grammar.specs.Reading.{Read, got, refused, andThen, Begun, after, formBegun, pathBegun, Readers, usedAt, subjectAt, literalTypeAt, newAt, kindAt, valueAt, lowAt, highAt, endAt, argAt, argsAt, closeAt, bodyAt, headed, bracketAt, linkAt, trueAt, within, noReaders, readersAt, lineRoom, begunAbove, lineAt}
+use Rattle.grammar.specs.Reading.{Read, got, refused, andThen, Begun, after, formBegun, pathBegun, Readers, usedAt, subjectAt, literalTypeAt, newAt, kindAt, valueAt, lowAt, highAt, endAt, argAt, argsAt, closeAt, bodyAt, headed, bracketAt, linkAt, trueAt, deeper, noReaders, readersAt, lineRoom, begunAbove, lineAt}
 use Rattle.grammar.proofs.Exact.{thens, got-next, edge-of, edge-inside}
 use Rattle.grammar.proofs.Leaves.{Pools}
 use Rattle.grammar.specs.Args.{isList}
@@ -158,8 +158,8 @@ module _ (s : List ℕ) (above : Book) (start : ℕ) where
 
   module _ (N : Pools above) where
     -- with one bracket more than Q; deep: 32 are open
-    nested-step : (Q : List ℕ → Readers) (d o : ℕ) (deep : Bool) → (deep ≡ true → o ≡ 32) → (deep ≡ false → o < 32) → (deep ≡ false → Exacts s above (Q s) d) → (deep ≡ false → Nested Q (suc o)) → Nested (λ t. within t above deep (Q t)) o
-    unfolding within linkAt
+    nested-step : (Q : List ℕ → Readers) (d o : ℕ) (deep : Bool) → (deep ≡ true → o ≡ 32) → (deep ≡ false → o < 32) → (deep ≡ false → Exacts s above (Q s) d) → (deep ≡ false → Nested Q (suc o)) → Nested (λ t. deeper t above deep (Q t)) o
+    unfolding deeper linkAt
     nested-step Q d o deep most fewer X S =
         record {
           pathS = λ {q} {k} {ks} {n} P i f W sp. bracket-settled pathFamily Q deep (leb maxPaths (n .paths)) (λ c. true) (pathBegun n) (λ t. linkAt t above (leb maxPaths (n .paths)) (q + 1)) (q + 1)

@@ -28,7 +28,7 @@ use Rattle.model.specs.Limits.{maxForms, maxPaths}
 use Rattle.grammar.specs.Writing.{nameOf, writePath, writeShape, writeTarget}
 use Rattle.grammar.specs.Valid.{pathDepth, shapeDepth, reserved, wellNamed}
 use Rattle.grammar.specs.Syntax.{Slot, path, form, target, Arg, Args, Family, invC, seqC, altC, pathFamily, isC, shapeC, andC, orC, notC, kindC, datatypeC, langC, fromC, aboveC, toC, belowC, countC, allC, equalC, apartC, closedC, lessC, lesseqC, onelangC, formFamily, nodeC, subjectsC, objectsC, classC, targetFamily}
-use Rattle.grammar.specs.Reading.{Read, got, refused, andThen, Begun, after, pathBegun, formBegun, Readers, usedAt, linkAt, trueAt, bracketAt, within, noReaders, readersAt}
+use Rattle.grammar.specs.Reading.{Read, got, refused, andThen, Begun, after, pathBegun, formBegun, Readers, usedAt, linkAt, trueAt, bracketAt, deeper, noReaders, readersAt}
 use Rattle.grammar.proofs.Exact.{Exact, Edge, never-refused, passes, fails, thens, got-value, got-next, ends-of}
 use Rattle.grammar.proofs.Leaves.{Pools, used-exact, named-plain}
 use Rattle.grammar.proofs.Args.{Fit, Good, AllGood, Exacts, shrink-all}
@@ -36,7 +36,7 @@ use Rattle.grammar.proofs.Families.{Placed, Opened, bracket-sound, brac
 use Rattle.grammar.proofs.Rows.{Rows, path-rows, path-placed, form-rows, form-placed, target-rows, target-placed}
 
 -- ---- a family in general
--- k: what the family makes; d brackets are left to open, and d′ within one of this family
+-- k: what the family makes; d brackets are left to open, and d′ deeper one of this family
 module _ (s : List ℕ) (above : Book) (N : Pools above) (k : Slot) (F : Family (Arg k)) (placed : (c : F .Code) → Placed F c) (W : Arg k → List ℕ) (begun : Begun → Begun) (rows : Rows above k F W begun)
     (R : Readers) (d d′ : ℕ) (deep full : Bool) (n : Begun) (bare : ℕ → Read (Arg k))
     (none-left : deep ≡ true → d ≡ 0) (one-less : deep ≡ false → d ≡ suc d′) (X : deep ≡ false → Exacts s above R d′)
@@ -184,8 +184,8 @@ module _ (s : List ℕ) (above : Book) (N : Pools above) where
   form-view d n x (inr m) = inr m
 
   -- with one bracket more than R
-  step : (R : Readers) (d d′ : ℕ) (deep : Bool) → (deep ≡ true → d ≡ 0) → (deep ≡ false → d ≡ suc d′) → (deep ≡ false → Exacts s above R d′) → Exacts s above (within s above deep R) d
-  unfolding within
+  step : (R : Readers) (d d′ : ℕ) (deep : Bool) → (deep ≡ true → d ≡ 0) → (deep ≡ false → d ≡ suc d′) → (deep ≡ false → Exacts s above R d′) → Exacts s above (deeper s above deep R) d
+  unfolding deeper
   step R d d′ deep none one X =
       record {
         pathE = λ n f. family-exact s above N path pathFamily path-placed (writePath above) pathBegun (path-rows above) R d d′ deep (leb maxPaths (n .paths)) n (linkAt s above (leb maxPaths (n .paths))) none one X

@@ -16,10 +16,10 @@ use Rattle.model.specs.Books.{builtIn, joins, newNames, newTerms, newTriples, n
 use Rattle.model.specs.Sizes.{pathEntries, endEntries, formEntries, shapePaths, testItems, listItems, sumOver, formsIn, pathsIn, itemsIn}
 use Rattle.model.specs.Valid.{capacity, hasRoom, isResource}
 use Rattle.grammar.specs.Valid.{reserved, wellNamed}
-use Rattle.grammar.specs.Reading.{after, usedAt, newAt, subjectAt, literalTypeAt, kindAt, valueAt, lowAt, highAt, listAt, endAt, argAt, argsAt, closeAt, bodyAt, bracketAt, linkAt, trueAt, within, readersAt, lineRoom, begunAbove, lineAt, linesFrom, reading}
+use Rattle.grammar.specs.Reading.{after, usedAt, newAt, subjectAt, literalTypeAt, kindAt, valueAt, lowAt, highAt, listAt, endAt, argAt, argsAt, closeAt, bodyAt, bracketAt, linkAt, trueAt, deeper, readersAt, lineRoom, begunAbove, lineAt, linesFrom, reading}
 use Rattle.grammar.specs.Writing.{writeKind}
 use Rattle.grammar.specs.Cases.{rig, listsOf}
 
 pub rig-lists : listsOf (reading rig) ≡ (1 ∷ []) ∷ (2 ∷ []) ∷ []
-unfolding reading linesFrom lineAt bracketAt bodyAt closeAt argsAt argAt endAt after readersAt within linkAt trueAt lineRoom begunAbove usedAt newAt subjectAt literalTypeAt kindAt valueAt lowAt highAt listAt wellNamed reserved isName allb nameByte itemEnd itemLen edge eql indexOf firstFrom names builtIn collect newNames joins newTerms newTriples newShapes newRules rules hasRoom capacity isResource formsIn pathsIn itemsIn sumOver pathEntries endEntries formEntries shapePaths testItems listItems numberOf positiveOf negativeOf boundOf isMag valueFrom digit writeKind some every one size members member anyb valueOf datatypeOf languageOf holds hasTriple ends endsOf Shapes.within isKind satisfies subset noneShared allPairs sameLang less lessEq conforms expand selects violates violations graphOf schemaFrom schema listOf
+unfolding reading linesFrom lineAt bracketAt bodyAt closeAt argsAt argAt endAt after readersAt deeper linkAt trueAt lineRoom begunAbove usedAt newAt subjectAt literalTypeAt kindAt valueAt lowAt highAt listAt wellNamed reserved isName allb nameByte itemEnd itemLen edge eql indexOf firstFrom names builtIn collect newNames joins newTerms newTriples newShapes newRules rules hasRoom capacity isResource formsIn pathsIn itemsIn sumOver pathEntries endEntries formEntries shapePaths testItems listItems numberOf positiveOf negativeOf boundOf isMag valueFrom digit writeKind some every one size members member anyb valueOf datatypeOf languageOf holds hasTriple ends endsOf Shapes.within isKind satisfies subset noneShared allPairs sameLang less lessEq conforms expand selects violates violations graphOf schemaFrom schema listOf
 rig-lists = refl

@@ -158,7 +158,7 @@ module _ (s : List ℕ) (above : Book) where
   argsAt R (k ∷ ks) n at = andThen (argAt R k n at) (λ a next. andThen (argsAt R ks (after k a n) next) (λ xs last. got (a, xs) last))
 
   -- ---- brackets
-  -- the closing bracket of x; room: x is within its limit
+  -- the closing bracket of x; room: x is deeper its limit
   unfoldable pub closeAt : {A : Type 0} → Bool → A → ℕ → Read A
   closeAt room x at = cond (eqb (getD s at 0) 41) (cond room (got x (at + 1)) (refused 7)) (refused 2)
 
@@ -183,9 +183,9 @@ module _ (s : List ℕ) (above : Book) where
   unfoldable pub trueAt : Bool → ℕ → Read Shape
   trueAt full at = cond (eql (item at) (bytes "true")) (cond full (refused 7) (got top (itemEnd s at))) (refused 2)
 
-  -- the readers with one bracket more, where R reads within it; deep: no bracket more
-  unfoldable pub within : Bool → Readers → Readers
-  within deep R =
+  -- the readers with one bracket more, where R reads deeper it; deep: no bracket more
+  unfoldable pub deeper : Bool → Readers → Readers
+  deeper deep R =
       record {
         pathR = λ n at. bracketAt pathFamily R deep (leb maxPaths (n .paths)) (λ c. true) (linkAt (leb maxPaths (n .paths)) at) (pathBegun n) at;
         formR = λ n at. bracketAt formFamily R deep (leb maxForms (n .forms)) (λ c. true) (trueAt (leb maxForms (n .forms)) at) (formBegun n) at;
@@ -197,8 +197,8 @@ module _ (s : List ℕ) (above : Book) where
 
   -- with as many brackets left to open
   unfoldable pub readersAt : ℕ → Readers
-  readersAt zero = within true noReaders
-  readersAt (suc left) = within false (readersAt left)
+  readersAt zero = deeper true noReaders
+  readersAt (suc left) = deeper false (readersAt left)
 
   -- ---- lines
   -- facts and rules have their limit at the closing bracket

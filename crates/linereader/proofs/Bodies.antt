@@ -34,7 +34,7 @@ use Rattle.model.specs.declared.Counts.{Counts}
 use Rattle.itemreader.specs.declared.Item.{Item}
 use Rattle.linereader.specs.declared.LineAnswer.{LineAnswer}
 use Rattle.linereader.specs.declared.Node.{Node}
-use Rattle.linereader.specs.Storing.{named, counted, endLine, lineEnd, lineBody, endedWith, refusalOf, Done, Lone, loneCode, loneLine, Row, resourceTerm, resourceCode, put₃}
+use Rattle.linereader.specs.Storing.{named, counted, endLine, lineEnd, lineBody, endedWith, refusalOf, Done, HasNameLine, nameLineCode, nameLine, Row, resourceTerm, resourceCode, put₃}
 
 -- ---- the closing bracket and the LF
 module _ (s : List ℕ) (a : Book) (room : Bool) (l : Line) (at : ℕ) where
@@ -215,14 +215,14 @@ ended-room s a room l at next e = go (eqb (getD s at 0) 41) room e
 
 -- ---- lines that hold a name and nothing else
 module _ (s : List ℕ) (a : Book) where
-  pub lone-stop : (p : Pool) → Lone p → (at r : ℕ) → argAt s a (readersAt s a 31) (new p) (begunAbove a) at ≡ refused r → lineBody s a (loneCode p) at ≡ refused r
+  pub lone-stop : (p : Pool) → HasNameLine p → (at r : ℕ) → argAt s a (readersAt s a 31) (new p) (begunAbove a) at ≡ refused r → lineBody s a (nameLineCode p) at ≡ refused r
   lone-stop nodes o at r e = absurd o
   lone-stop links o at r e = body-is s a linkL at ∙ stop₁ s a (lineRoom s a linkL) (new links) [] (lineFamily .build linkL) (begunAbove a) at r e
   lone-stop types o at r e = body-is s a typeL at ∙ stop₁ s a (lineRoom s a typeL) (new types) [] (lineFamily .build typeL) (begunAbove a) at r e
   lone-stop langs o at r e = body-is s a langL at ∙ stop₁ s a (lineRoom s a langL) (new langs) [] (lineFamily .build langL) (begunAbove a) at r e
   lone-stop shapes o at r e = absurd o
 
-  pub lone-got : (p : Pool) → Lone p → (at : ℕ) (w : Name) (i : ℕ) → argAt s a (readersAt s a 31) (new p) (begunAbove a) at ≡ got w i → lineBody s a (loneCode p) at ≡ lineEnd s a true (loneLine p w) i
+  pub lone-got : (p : Pool) → HasNameLine p → (at : ℕ) (w : Name) (i : ℕ) → argAt s a (readersAt s a 31) (new p) (begunAbove a) at ≡ got w i → lineBody s a (nameLineCode p) at ≡ lineEnd s a true (nameLine p w) i
   unfolding lineRoom
   lone-got nodes o at w i e = absurd o
   lone-got links o at w i e = body-is s a linkL at ∙ all₁ s a true (new links) (lineFamily .build linkL) (begunAbove a) at w i e
@@ -231,7 +231,7 @@ module _ (s : List ℕ) (a : Book) where
   lone-got shapes o at w i e = absurd o
 
 module _ (a : Book) (w : Name) where
-  pub lone-names : (p : Pool) → Lone p → (k : ℕ) → k ≡ length (names p a) → (ns : List ℕ) → putName p k w ns ≡ lineNames a (loneLine p w) ns
+  pub lone-names : (p : Pool) → HasNameLine p → (k : ℕ) → k ≡ length (names p a) → (ns : List ℕ) → putName p k w ns ≡ lineNames a (nameLine p w) ns
   unfolding lineNames
   lone-names nodes o k e ns = absurd o
   lone-names links o k e ns = ap (λ (j : ℕ). putName links j w ns) e
@@ -239,7 +239,7 @@ module _ (a : Book) (w : Name) where
   lone-names langs o k e ns = ap (λ (j : ℕ). putName langs j w ns) e
   lone-names shapes o k e ns = absurd o
 
-  pub lone-cells : (p : Pool) → Lone p → (cs : List ℕ) → cs ≡ lineCells a (loneLine p w) cs
+  pub lone-cells : (p : Pool) → HasNameLine p → (cs : List ℕ) → cs ≡ lineCells a (nameLine p w) cs
   unfolding lineCells
   lone-cells nodes o cs = absurd o
   lone-cells links o cs = refl
@@ -247,7 +247,7 @@ module _ (a : Book) (w : Name) where
   lone-cells langs o cs = refl
   lone-cells shapes o cs = absurd o
 
-  pub lone-values : (p : Pool) → Lone p → (vs : List ℤ) → vs ≡ lineValues a (loneLine p w) vs
+  pub lone-values : (p : Pool) → HasNameLine p → (vs : List ℤ) → vs ≡ lineValues a (nameLine p w) vs
   unfolding lineValues
   lone-values nodes o vs = absurd o
   lone-values links o vs = refl
@@ -256,7 +256,7 @@ module _ (a : Book) (w : Name) where
   lone-values shapes o vs = absurd o
 
 -- ---- the counts with a line
-pub lone-counted : (p : Pool) → Lone p → (w : Name) (c : Counts) → named p c ≡ counted (loneLine p w) c
+pub lone-counted : (p : Pool) → HasNameLine p → (w : Name) (c : Counts) → named p c ≡ counted (nameLine p w) c
 unfolding newNames joins newTriples newShapes newRules sumOver
 lone-counted nodes o w c = absurd o
 lone-counted links o w c = simp add-zero

@@ -10,7 +10,7 @@ use Rattle.model.specs.Books.{Book, Pool, nodes, links}
 use Rattle.model.specs.Rules.{Target}
 use Rattle.encoding.specs.Rows.{targetCode, targetOperand}
 use Rattle.grammar.specs.Syntax.{Args, used, target, TargetCode, nodeC, subjectsC, objectsC, classC, targetFamily}
-use Rattle.grammar.specs.Reading.{Read, got, refused, Readers, Begun, after, argAt, bodyAt, bracketAt, within, readersAt}
+use Rattle.grammar.specs.Reading.{Read, got, refused, Readers, Begun, after, argAt, bodyAt, bracketAt, deeper, readersAt}
 use Rattle.itemreader.specs.declared.Head.{Head}
 use Rattle.itemreader.specs.Answers.{headAt, Headed, wordsOf, restAt}
 use Rattle.itemreader.proofs.Heads.{rest-none, rest-got, rest-refused, close-not, close-got, bracket-bare, bracket-refused, bracket-word}
@@ -40,7 +40,7 @@ module _ (s : List ℕ) (a : Book) (b : Begun) (at : ℕ) where
 
   module _ (z : getD s at 0 ≡ 32) where
     target-spaced : argAt s a (readersAt s a 31) target b at ≡ bracketAt s a targetFamily (readersAt s a 30) false false (λ c. true) (refused 2) b (at + 1)
-    unfolding argAt readersAt within
+    unfolding argAt readersAt deeper
     target-spaced = rw (eq-eqb (getD s at 0) 32 z)
 
     pub target-closed : headAt s (wordsOf targetFamily) false false (at + 1) ≡ Head.Bare → argAt s a (readersAt s a 31) target b at ≡ refused 2

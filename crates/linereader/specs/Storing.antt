@@ -50,7 +50,7 @@ counted l c =
     }
 
 -- facts, rules and entries within their limits
-pub record Fits (c : Counts) : Type 0 where
+pub record CountsFit (c : Counts) : Type 0 where
   pub fact-limit : c .facts ≤ maxFacts
   pub rule-limit : c .rules ≤ maxRules
   pub form-limit : c .forms ≤ maxForms
@@ -86,27 +86,27 @@ Done a c (got l next) r ns ns′ cs cs′ vs vs′ = (r ≡ LineAnswer.Next next
 Done a c (refused k) r ns ns′ cs cs′ vs vs′ = (r ≡ LineAnswer.No k) × (drop nameCount ns′ ≡ drop nameCount ns) × (drop cellCount cs′ ≡ drop cellCount cs) × (drop valueCount vs′ ≡ drop valueCount vs)
 
 -- ---- the lines that hold a name and nothing else, by their pool
-abbrev pub loneCode : Pool → LineCode
-loneCode nodes = thingL
-loneCode links = linkL
-loneCode types = typeL
-loneCode langs = langL
-loneCode shapes = shapeL
+abbrev pub nameLineCode : Pool → LineCode
+nameLineCode nodes = thingL
+nameLineCode links = linkL
+nameLineCode types = typeL
+nameLineCode langs = langL
+nameLineCode shapes = shapeL
 
 -- only links, types and langs have such lines
-abbrev pub Lone : Pool → Type 0
-Lone nodes = ⊥
-Lone links = Unit {0}
-Lone types = Unit {0}
-Lone langs = Unit {0}
-Lone shapes = ⊥
+abbrev pub HasNameLine : Pool → Type 0
+HasNameLine nodes = ⊥
+HasNameLine links = Unit {0}
+HasNameLine types = Unit {0}
+HasNameLine langs = Unit {0}
+HasNameLine shapes = ⊥
 
-abbrev pub loneLine : Pool → Name → Line
-loneLine nodes w = node w iri
-loneLine links w = link w
-loneLine types w = type w
-loneLine langs w = lang w
-loneLine shapes w = shape w top
+abbrev pub nameLine : Pool → Name → Line
+nameLine nodes w = node w iri
+nameLine links w = link w
+nameLine types w = type w
+nameLine langs w = lang w
+nameLine shapes w = shape w top
 
 -- ---- nodes
 -- thing and blank, by their kind

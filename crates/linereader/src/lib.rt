@@ -50,7 +50,7 @@ ghost use Rattle.encoding.specs.Encode.{poolBase};
 ghost use Rattle.stores.specs.Lines.{putName};
 ghost use Rattle.itemreader.specs.Answers.{poolOf};
 ghost use Rattle.itemreader.specs.Held.{countOf, Limits, Held, Kinds, Indexed};
-ghost use Rattle.linereader.specs.Storing.{named, endedWith, lineEnd, lineBody, Done, Lone, loneCode, resourceCode, Row, Fits, counted, refusalOf, operandPool, targetAnswer, Targeted, put₃};
+ghost use Rattle.linereader.specs.Storing.{named, endedWith, lineEnd, lineBody, Done, HasNameLine, nameLineCode, resourceCode, Row, CountsFit, counted, refusalOf, operandPool, targetAnswer, Targeted, put₃};
 
 // How many brackets may be open together within a line's own.
 pub const MAX_WITHIN: usize = MAX_DEPTH - 1;
@@ -150,8 +150,8 @@ pub fn name_line(
     book: &[u8],
     at: usize,
 ) -> LineAnswer
-    requires { ⌜ (at ≤ length (now book)) × (nameCount ≤ length (now names)) × Limits counts × ((a : Book) × Held (now names) counts a) × Lone (poolOf pool) × Indexed (now names) counts (now index) ⌝ }
-    ensures { λ r. ⌜ ((a : Book) (cs : List ℕ) (vs : List ℤ) → Held (now (names .entry)) counts a → Done a counts (lineBody (now (book .entry)) a (loneCode (poolOf pool)) at) r (now (names .entry)) (now (names .exit)) cs cs vs vs) ⌝ }
+    requires { ⌜ (at ≤ length (now book)) × (nameCount ≤ length (now names)) × Limits counts × ((a : Book) × Held (now names) counts a) × HasNameLine (poolOf pool) × Indexed (now names) counts (now index) ⌝ }
+    ensures { λ r. ⌜ ((a : Book) (cs : List ℕ) (vs : List ℤ) → Held (now (names .entry)) counts a → Done a counts (lineBody (now (book .entry)) a (nameLineCode (poolOf pool)) at) r (now (names .entry)) (now (names .exit)) cs cs vs vs) ⌝ }
 {
     let new = read_new(names, index, counts, pool, book, at);
     let Item::Is(_, end) = new else {
@@ -344,7 +344,7 @@ pub fn fact_line(
     book: &[u8],
     at: usize,
 ) -> LineAnswer
-    requires { ⌜ (at ≤ length (now book)) × (nameCount ≤ length (now names)) × (cellCount ≤ length (now cells)) × Limits counts × Fits counts × Indexed (now names) counts (now index) ⌝ }
+    requires { ⌜ (at ≤ length (now book)) × (nameCount ≤ length (now names)) × (cellCount ≤ length (now cells)) × Limits counts × CountsFit counts × Indexed (now names) counts (now index) ⌝ }
     ensures { λ r. ⌜ ((a : Book) (vs : List ℤ) → Held (now (names .entry)) counts a → Kinds (now (cells .entry)) a → Done a counts (lineBody (now (book .entry)) a factL at) r (now (names .entry)) (now (names .entry)) (now (cells .entry)) (now (cells .exit)) vs vs) ⌝ }
 {
     let subject = read_subject(names, index, cells, counts, book, at);
@@ -421,7 +421,7 @@ pub fn rule_line(
     book: &[u8],
     at: usize,
 ) -> LineAnswer
-    requires { ⌜ (at ≤ length (now book)) × (nameCount ≤ length (now names)) × (cellCount ≤ length (now cells)) × Limits counts × Fits counts × Indexed (now names) counts (now index) ⌝ }
+    requires { ⌜ (at ≤ length (now book)) × (nameCount ≤ length (now names)) × (cellCount ≤ length (now cells)) × Limits counts × CountsFit counts × Indexed (now names) counts (now index) ⌝ }
     ensures { λ r. ⌜ ((a : Book) (vs : List ℤ) → Held (now (names .entry)) counts a → Done a counts (lineBody (now (book .entry)) a ruleL at) r (now (names .entry)) (now (names .entry)) (now (cells .entry)) (now (cells .exit)) vs vs) ⌝ }
 {
     let shape = read_used(names, index, counts, Pool::Shapes, book, at);

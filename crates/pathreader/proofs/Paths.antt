@@ -18,7 +18,7 @@ use Rattle.model.specs.Books.{Book, links}
 use Rattle.model.specs.Sizes.{pathEntries, endEntries}
 use Rattle.model.specs.Limits.{maxPaths}
 use Rattle.grammar.specs.Syntax.{used, path, end, pathFamily}
-use Rattle.grammar.specs.Reading.{Read, got, refused, andThen, Readers, Begun, pathBegun, after, spaceAt, argAt, endAt, usedAt, closeAt, bodyAt, linkAt, noReaders, within, readersAt}
+use Rattle.grammar.specs.Reading.{Read, got, refused, andThen, Readers, Begun, pathBegun, after, spaceAt, argAt, endAt, usedAt, closeAt, bodyAt, linkAt, noReaders, deeper, readersAt}
 use Rattle.tables.specs.Layout.{cellCount, pathCodes, pathFirsts, pathSeconds}
 use Rattle.stores.specs.Entries.{putPath, pathCells, endCells}
 use Rattle.itemreader.specs.declared.Item.{Item}
@@ -92,24 +92,24 @@ module _ (s : List ℕ) (a : Book) (b : Begun) (at m : ℕ) (q : b .paths ≡ m)
     some-left left = ne-eqb (suc left) 0 (λ e. omega arith)
 
     pub path-bare : (left : ℕ) → h ≡ headAt s (wordsOf pathFamily) (eqb left 0) (leb maxPaths m) (at + 1) → h ≡ Head.Bare → argAt s a (readersAt s a left) path b at ≡ spaceAt s a at (linkAt s a (leb maxPaths m))
-    unfolding argAt readersAt within
+    unfolding argAt readersAt deeper
     path-bare zero e f = rw (eq-eqb (getD s at 0) 32 z) (bracket-bare s a pathFamily _ true (leb maxPaths (b .paths)) (λ c. true) (linkAt s a (leb maxPaths (b .paths)) (at + 1)) (pathBegun b) (at + 1) (is-head zero true refl e Head.Bare f) ∙ ap (λ (k : ℕ). linkAt s a (leb maxPaths k) (at + 1)) q)
     path-bare (suc left) e f = rw (eq-eqb (getD s at 0) 32 z) (bracket-bare s a pathFamily _ false (leb maxPaths (b .paths)) (λ c. true) (linkAt s a (leb maxPaths (b .paths)) (at + 1)) (pathBegun b) (at + 1) (is-head (suc left) false (some-left left) e Head.Bare f) ∙ ap (λ (k : ℕ). linkAt s a (leb maxPaths k) (at + 1)) q)
 
     pub path-head-refused : (left k : ℕ) → h ≡ headAt s (wordsOf pathFamily) (eqb left 0) (leb maxPaths m) (at + 1) → h ≡ Head.No k → argAt s a (readersAt s a left) path b at ≡ refused k
-    unfolding argAt readersAt within
+    unfolding argAt readersAt deeper
     path-head-refused zero k e f = rw (eq-eqb (getD s at 0) 32 z) (bracket-refused s a pathFamily _ true (leb maxPaths (b .paths)) (λ c. true) (linkAt s a (leb maxPaths (b .paths)) (at + 1)) (pathBegun b) (at + 1) k (is-head zero true refl e (Head.No k) f))
     path-head-refused (suc left) k e f = rw (eq-eqb (getD s at 0) 32 z) (bracket-refused s a pathFamily _ false (leb maxPaths (b .paths)) (λ c. true) (linkAt s a (leb maxPaths (b .paths)) (at + 1)) (pathBegun b) (at + 1) k (is-head (suc left) false (some-left left) e (Head.No k) f))
 
     pub path-word : (left k stop : ℕ) → h ≡ headAt s (wordsOf pathFamily) (eqb left 0) (leb maxPaths m) (at + 1) → h ≡ Head.Word k stop → argAt s a (readersAt s a left) path b at ≡ bodyAt s a pathFamily (readersAt s a (left - 1)) (λ c. true) (getD (pathFamily .codes) k (pathFamily .other)) (pathBegun b) stop
-    unfolding argAt readersAt within
+    unfolding argAt readersAt deeper
     path-word zero k stop e f = absurd (true≢false (bracket-word s a pathFamily (noReaders s a) true (leb maxPaths (b .paths)) (λ c. true) (linkAt s a (leb maxPaths (b .paths)) (at + 1)) (pathBegun b) (at + 1) k stop (is-head zero true refl e (Head.Word k stop) f) .0))
     path-word (suc left) k stop e f = rw (eq-eqb (getD s at 0) 32 z, sub-one) (bracket-word s a pathFamily _ false (leb maxPaths (b .paths)) (λ c. true) (linkAt s a (leb maxPaths (b .paths)) (at + 1)) (pathBegun b) (at + 1) k stop (is-head (suc left) false (some-left left) e (Head.Word k stop) f) .1)
 
 -- ---- what follows the word: one path, or two
 -- 1 is seq, 2 is alt
-abbrev pub joined : ℕ → Path → Path → Path
-joined code d e = cond (eqb code 1) (sequence d e) (alternative d e)
+abbrev pub twoPaths : ℕ → Path → Path → Path
+twoPaths code d e = cond (eqb code 1) (sequence d e) (alternative d e)
 
 module _ (s : List ℕ) (a : Book) (R : Readers) (b : Begun) (at : ℕ) where
   abbrev body : ℕ → Read Path
@@ -134,14 +134,14 @@ module _ (s : List ℕ) (a : Book) (R : Readers) (b : Begun) (at : ℕ) where
     body-second-refused (suc (suc zero)) k n l f = rest-got s a R true path _ _ b at d next e ∙ rest-refused s a R true path _ _ (after path d b) next k f
     body-second-refused (suc (suc (suc code))) k n l f = absurd (omega arith)
 
-    pub body-joined : (code : ℕ) (f : Path) (last : ℕ) → (code ≡ 0 → ⊥) → code < 3 → argAt s a R path (after path d b) next ≡ got f last → body code ≡ closeAt s a true (joined code d f) last
+    pub body-joined : (code : ℕ) (f : Path) (last : ℕ) → (code ≡ 0 → ⊥) → code < 3 → argAt s a R path (after path d b) next ≡ got f last → body code ≡ closeAt s a true (twoPaths code d f) last
     unfolding bodyAt
     body-joined zero f last n l g = absurd (n refl)
     body-joined (suc zero) f last n l g = rest-got s a R true path _ _ b at d next e ∙ (rest-got s a R true path _ _ (after path d b) next f last g ∙ rest-none s a R true _ (after path f (after path d b)) last)
     body-joined (suc (suc zero)) f last n l g = rest-got s a R true path _ _ b at d next e ∙ (rest-got s a R true path _ _ (after path d b) next f last g ∙ rest-none s a R true _ (after path f (after path d b)) last)
     body-joined (suc (suc (suc code))) f last n l g = absurd (omega arith)
 
--- how many entries have begun within the bracket, and after its first path
+-- how many entries have begun deeper the bracket, and after its first path
 pub begun-first : (b : Begun) (n up : ℕ) → b .paths ≡ n + up → pathBegun b .paths ≡ n + (up + 1)
 begun-first b n up q = omega arith
 
@@ -163,11 +163,11 @@ module _ (n m : ℕ) (d : Path) (before mid : List ℕ) (c : n + pathEntries d �
     both-count : n + suc (pathEntries d + pathEntries f) ≡ l + 1
     both-count = omega arith
 
-    pub joined-count : (code : ℕ) → n + pathEntries (joined code d f) ≡ l + 1
+    pub joined-count : (code : ℕ) → n + pathEntries (twoPaths code d f) ≡ l + 1
     unfolding pathEntries
     joined-count code = bool-cases (λ t. n + pathEntries (cond t (sequence d f) (alternative d f)) ≡ l + 1) (eqb code 1) (λ _. both-count) (λ _. both-count)
 
-    pub joined-stored : (code : ℕ) → (code ≡ 0 → ⊥) → code < 3 → putPath l (code + 1) (m - 1) (l - 1) last ≡ pathCells n (joined code d f) before
+    pub joined-stored : (code : ℕ) → (code ≡ 0 → ⊥) → code < 3 → putPath l (code + 1) (m - 1) (l - 1) last ≡ pathCells n (twoPaths code d f) before
     unfolding pathCells
     joined-stored zero n0 h = absurd (n0 refl)
     joined-stored (suc zero) n0 h = rw (c, c', ← e, e')

@@ -8,18 +8,18 @@ use Rattle.base.specs.Bounded.{every}
 use Rattle.model.specs.Limits.{maxSteps}
 use Rattle.plan.specs.Layout.{stepCount}
 use Rattle.plan.specs.WellFormed.{planWellFormed}
-use Rattle.plancheck.specs.Parts.{partCount, partOk}
+use Rattle.plancheck.specs.Parts.{partCount, planPartOk}
 use Rattle.plancheck.specs.declared.Part.{Part}
 use Rattle.plancheck.specs.declared.Part.the-variants.{Steps, Rules}
 
 module _ (cs ps : List ℕ) where
   abbrev pub allOk : Part → Bool
-  allOk part = every (partOk cs ps part) (partCount cs ps part)
+  allOk part = every (planPartOk cs ps part) (partCount cs ps part)
 
   pub steps-many : maxSteps < stepCount ps → false ≡ planWellFormed cs ps
   unfolding planWellFormed
   steps-many l = rw (lt-leb (stepCount ps) maxSteps l)
 
   pub parts-ok : stepCount ps ≤ maxSteps → (allOk Steps && allOk Rules) ≡ planWellFormed cs ps
-  unfolding planWellFormed partOk partCount
+  unfolding planWellFormed planPartOk partCount
   parts-ok l = rw (le-leb (stepCount ps) maxSteps l)

@@ -13,6 +13,6 @@ unfoldable pub partCount : List ℕ → List ℕ → Part → ℕ
 partCount cs ps Steps = stepCount ps
 partCount cs ps Rules = ruleCount cs
 
-unfoldable pub partOk : List ℕ → List ℕ → Part → ℕ → Bool
-partOk cs ps Steps i = stepOk cs i (stepAt ps i)
-partOk cs ps Rules i = ltb (ruleStepAt ps i) (stepCount ps)
+unfoldable pub planPartOk : List ℕ → List ℕ → Part → ℕ → Bool
+planPartOk cs ps Steps i = stepOk cs i (stepAt ps i)
+planPartOk cs ps Rules i = ltb (ruleStepAt ps i) (stepCount ps)

@@ -27,7 +27,7 @@ ghost use Rattle.base.specs.Bounded.{every};
 ghost use Rattle.plan.specs.Steps.{Step};
 ghost use Rattle.plan.specs.Layout.{stepAt};
 ghost use Rattle.plan.specs.WellFormed.{testOk, closedOk, stepOk, planWellFormed};
-ghost use Rattle.plancheck.specs.Parts.{partCount, partOk};
+ghost use Rattle.plancheck.specs.Parts.{partCount, planPartOk};
 ghost use Rattle.plancheck.specs.Both.{bothWellFormed};
 
 // Form entry e is there, and is a test.
@@ -92,7 +92,7 @@ fn part_count(cells: &[u16], plan: &[u16], part: Part) -> usize
 }
 
 fn part_ok(cells: &[u16], plan: &[u16], part: Part, i: usize) -> bool
-    ensures { λ r. ⌜ r ≡ partOk (now (cells .entry)) (now (plan .entry)) part i ⌝ }
+    ensures { λ r. ⌜ r ≡ planPartOk (now (cells .entry)) (now (plan .entry)) part i ⌝ }
 {
     match part {
         Part::Steps => step_ok(cells, plan, i),
@@ -101,7 +101,7 @@ fn part_ok(cells: &[u16], plan: &[u16], part: Part, i: usize) -> bool
 }
 
 fn all_ok(cells: &[u16], plan: &[u16], part: Part) -> bool
-    ensures { λ r. ⌜ r ≡ every (partOk (now (cells .entry)) (now (plan .entry)) part) (partCount (now (cells .entry)) (now (plan .entry)) part) ⌝ }
+    ensures { λ r. ⌜ r ≡ every (planPartOk (now (cells .entry)) (now (plan .entry)) part) (partCount (now (cells .entry)) (now (plan .entry)) part) ⌝ }
 {
     let n = part_count(cells, plan, part);
     for i in 0..n {

@@ -28,7 +28,7 @@ use Rattle.itemreader.proofs.Places.{pool-inside, pools-apart, count-within}
 use Rattle.linereader.specs.Storing.{counted}
 use Rattle.reader.specs.Answers.{noCounts}
 use Rattle.reader.specs.Running.{builtInCounts}
-use Rattle.reader.specs.Indexing.{joined, joinedAll}
+use Rattle.reader.specs.Indexing.{poolJoined, allJoined}
 
 -- the chains of the first k names of a pool
 abbrev Pooled : List ℕ → List ℕ → Pool → ℕ → Type 0
@@ -36,19 +36,19 @@ Pooled ns index p k = Chained (nameKey ns (poolBase p) (capacity p)) k (capacity
 
 -- ---- one pool, by what the code has
 module _ (ns : List ℕ) (n m : Counts) (p : Pool) (index : List ℕ) (i j : ℕ) (x : i ≡ countOf n p) (y : j ≡ countOf m p) where
-  pub joined-yes : (first slots h : ℕ) → first ≡ poolBase p → slots ≡ capacity p → h ≡ hashOf (place ns first i) → i < j → linked index (first / nameBytes) (namePlaces + first / nameBytes) (h % slots) i ≡ joined ns n m p index
-  unfolding joined
+  pub joined-yes : (first slots h : ℕ) → first ≡ poolBase p → slots ≡ capacity p → h ≡ hashOf (place ns first i) → i < j → linked index (first / nameBytes) (namePlaces + first / nameBytes) (h % slots) i ≡ poolJoined ns n m p index
+  unfolding poolJoined
   joined-yes first slots h f s q l = rw (q, f, s, x) (rw (lt-ltb (countOf n p) (countOf m p) (rw (← x, ← y) l)))
 
-  pub joined-no : j ≤ i → index ≡ joined ns n m p index
-  unfolding joined
+  pub joined-no : j ≤ i → index ≡ poolJoined ns n m p index
+  unfolding poolJoined
   joined-no l = rw (le-ltb (countOf n p) (countOf m p) (rw (← x, ← y) l))
 
 -- ---- what was added joins
 -- each pool has at most one name more
 module _ (ns : List ℕ) (n m : Counts) (grew : (p : Pool) → (countOf n p ≤ countOf m p) × (countOf m p ≤ countOf n p + 1)) (L : Limits m) where
-  long : (p : Pool) (index : List ℕ) → nameIndexCount ≤ length index → nameIndexCount ≤ length (joined ns n m p index)
-  unfolding joined
+  long : (p : Pool) (index : List ℕ) → nameIndexCount ≤ length index → nameIndexCount ≤ length (poolJoined ns n m p index)
+  unfolding poolJoined
   long p index h = go (ltb (countOf n p) (countOf m p))
     where
       go : (t : Bool) → nameIndexCount ≤ length (cond t (linked index (poolBase p / nameBytes) (namePlaces + poolBase p / nameBytes) (nameKey ns (poolBase p) (capacity p) (countOf n p)) (countOf n p)) index)
@@ -56,8 +56,8 @@ module _ (ns : List ℕ) (n m : Counts) (grew : (p : Pool) → (countOf n p ≤ 
       go false = h
 
   -- the pool's own chains
-  own : (p : Pool) {index : List ℕ} → nameIndexCount ≤ length index → Pooled ns index p (countOf n p) → Pooled ns (joined ns n m p index) p (countOf m p)
-  unfolding joined
+  own : (p : Pool) {index : List ℕ} → nameIndexCount ≤ length index → Pooled ns index p (countOf n p) → Pooled ns (poolJoined ns n m p index) p (countOf m p)
+  unfolding poolJoined
   own p {index} h c = go (ltb (countOf n p) (countOf m p)) refl
     where
       go : (t : Bool) → ltb (countOf n p) (countOf m p) ≡ t → Pooled ns (cond t (linked index (poolBase p / nameBytes) (namePlaces + poolBase p / nameBytes) (nameKey ns (poolBase p) (capacity p) (countOf n p)) (countOf n p)) index) p (countOf m p)
@@ -76,8 +76,8 @@ module _ (ns : List ℕ) (n m : Counts) (grew : (p : Pool) → (countOf n p ≤ 
           subst (Pooled ns index p) z c
 
   -- another pool's
-  other : (p q : Pool) {k : ℕ} {index : List ℕ} → eqb (poolNumber q) (poolNumber p) ≡ false → k ≤ capacity q → Pooled ns index q k → Pooled ns (joined ns n m p index) q k
-  unfolding joined
+  other : (p q : Pool) {k : ℕ} {index : List ℕ} → eqb (poolNumber q) (poolNumber p) ≡ false → k ≤ capacity q → Pooled ns index q k → Pooled ns (poolJoined ns n m p index) q k
+  unfolding poolJoined
   other p q {k} {index} ne w c = go (ltb (countOf n p) (countOf m p)) refl
     where
       -- away from the two places that change
@@ -102,28 +102,28 @@ module _ (ns : List ℕ) (n m : Counts) (grew : (p : Pool) → (countOf n p ≤ 
   before : (p : Pool) → countOf n p ≤ capacity p
   before p = let g = grew p .0 in omega (arith, count-within m p L)
 
-  after : (p q : Pool) {index : List ℕ} → eqb (poolNumber q) (poolNumber p) ≡ false → Pooled ns index q (countOf m q) → Pooled ns (joined ns n m p index) q (countOf m q)
+  after : (p q : Pool) {index : List ℕ} → eqb (poolNumber q) (poolNumber p) ≡ false → Pooled ns index q (countOf m q) → Pooled ns (poolJoined ns n m p index) q (countOf m q)
   after p q ne c = other p q ne (count-within m q L) c
 
-  joined-all : {index : List ℕ} → nameIndexCount ≤ length index → ((q : Pool) → Pooled ns index q (countOf n q)) → (q : Pool) → Pooled ns (joinedAll ns n m index) q (countOf m q)
-  unfolding joinedAll
+  joined-all : {index : List ℕ} → nameIndexCount ≤ length index → ((q : Pool) → Pooled ns index q (countOf n q)) → (q : Pool) → Pooled ns (allJoined ns n m index) q (countOf m q)
+  unfolding allJoined
   joined-all {index} h c nodes = after shapes nodes refl (after langs nodes refl (after types nodes refl (after links nodes refl (own nodes h (c nodes)))))
   joined-all {index} h c links = after shapes links refl (after langs links refl (after types links refl (own links (long nodes index h) (other nodes links refl (before links) (c links)))))
   joined-all {index} h c types =
-      let i = joined ns n m nodes index in
+      let i = poolJoined ns n m nodes index in
       after shapes types refl (after langs types refl (own types (long links i (long nodes index h)) (other links types refl (before types) (other nodes types refl (before types) (c types)))))
   joined-all {index} h c langs =
-      let i = joined ns n m nodes index in
-      let j = joined ns n m links i in
+      let i = poolJoined ns n m nodes index in
+      let j = poolJoined ns n m links i in
       after shapes langs refl (own langs (long types j (long links i (long nodes index h))) (other types langs refl (before langs) (other links langs refl (before langs) (other nodes langs refl (before langs) (c langs)))))
   joined-all {index} h c shapes =
-      let i = joined ns n m nodes index in
-      let j = joined ns n m links i in
-      let k = joined ns n m types j in
+      let i = poolJoined ns n m nodes index in
+      let j = poolJoined ns n m links i in
+      let k = poolJoined ns n m types j in
       own shapes (long langs k (long types j (long links i (long nodes index h)))) (other langs shapes refl (before shapes) (other types shapes refl (before shapes) (other links shapes refl (before shapes) (other nodes shapes refl (before shapes) (c shapes)))))
 
 -- ---- at the start
-pub start-indexed : (ns : List ℕ) → Indexed ns builtInCounts (joinedAll ns noCounts builtInCounts (replicate nameIndexCount 0))
+pub start-indexed : (ns : List ℕ) → Indexed ns builtInCounts (allJoined ns noCounts builtInCounts (replicate nameIndexCount 0))
 start-indexed ns = record { chains = joined-all ns noCounts builtInCounts grew limits long none }
   where
     grew : (p : Pool) → (countOf noCounts p ≤ countOf builtInCounts p) × (countOf builtInCounts p ≤ countOf noCounts p + 1)
@@ -181,7 +181,7 @@ module _ (a : Book) (l : Line) (P : Prefix a) (P′ : Prefix (a ++ (l ∷ []))) 
       ∙ ap padded (ap (λ (ws : List Name). getD ws i []) e ∙ List·getD-append (names q a) (newNames q l) [] i h))
 
   pub line-indexed : {ns ns′ index : List ℕ} {n m : Counts} → ns ≡ encodeNames a ++ t → ns′ ≡ encodeNames (a ++ (l ∷ [])) ++ t → ((p : Pool) → countOf n p ≡ length (names p a)) → m ≡ counted l n → Limits m → nameIndexCount ≤ length index
-      → Indexed ns n index → Indexed ns′ m (joinedAll ns′ n m index)
+      → Indexed ns n index → Indexed ns′ m (allJoined ns′ n m index)
   line-indexed {ns} {ns′} {index} {n} {m} e e′ c z L h I =
       record {
         chains = joined-all ns′ n m grew L h (λ q. chained-same (λ i k. ap (λ (x : List ℕ). hashOf x % capacity q) (kept q i k)) (λ _ _. refl) (λ _ _. refl) (I .chains q));

@@ -25,7 +25,7 @@ use Rattle.stores.specs.Lines.{linesNames, linesCells, linesValues, putCounts, 
 use Rattle.stores.proofs.Books.{names-after, cells-after, values-after}
 use Rattle.model.specs.declared.Counts.{Counts}
 use Rattle.itemreader.specs.Held.{Limits}
-use Rattle.linereader.specs.Storing.{Fits}
+use Rattle.linereader.specs.Storing.{CountsFit}
 use Rattle.reader.specs.declared.LinesAnswer.{LinesAnswer}
 use Rattle.reader.specs.Answers.{namesLeft, cellsLeft, valuesLeft}
 use Rattle.reader.specs.Running.{Ran}
@@ -44,7 +44,7 @@ counts-limits b v =
       shape-limit = names-within shapes b v;
     }
 
-pub counts-fit : (b : Book) → admissible b ≡ true → Fits (countsIn b)
+pub counts-fit : (b : Book) → admissible b ≡ true → CountsFit (countsIn b)
 counts-fit b v =
     record {
       fact-limit = facts-within b v;
@@ -75,7 +75,7 @@ module _ (s : List ℕ) (h : length s ≤ maxBytes) (r : LinesAnswer) (ns ns₁ 
   -- an accepted book: the counts are still to be stored
   pub record Whole (n : Counts) : Type 0 where
     pub limits : Limits n
-    pub fits : Fits n
+    pub fits : CountsFit n
     pub answer : value n ≡ mapValue countsIn (reading s)
     pub names : ns₂ ≡ namesLeft (reading s) ns
     pub cells : putCounts 0 (countList n) cs₂ ≡ cellsLeft (reading s) cs
@@ -89,7 +89,7 @@ module _ (s : List ℕ) (h : length s ≤ maxBytes) (r : LinesAnswer) (ns ns₁ 
       let ok = valid-admissible b v in
       record {
         limits = subst Limits (sym q) (counts-limits b ok);
-        fits = subst Fits (sym q) (counts-fit b ok);
+        fits = subst CountsFit (sym q) (counts-fit b ok);
         answer = ap value q ∙ ap (mapValue countsIn) (sym a);
         names = i ∙ ap (linesNames [] b) e ∙ names-after b v ns ∙ ap (λ (o : Answer Book). namesLeft o ns) (sym a);
         cells = ap (λ (l : List ℕ). putCounts 0 l cs₂) (ap countList q) ∙ ap (putCounts 0 (countsOf b)) (j ∙ ap (linesCells [] b) f) ∙ cells-after b v cs ∙ ap (λ (o : Answer Book). cellsLeft o cs) (sym a);

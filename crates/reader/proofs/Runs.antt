@@ -37,10 +37,10 @@ use Rattle.model.specs.declared.Counts.{Counts}
 use Rattle.itemreader.specs.Held.{countOf, Limits, Held, Kinds, Indexed, nameIndexCount}
 use Rattle.model.specs.declared.Counts.{Counts}
 use Rattle.linereader.specs.declared.LineAnswer.{LineAnswer}
-use Rattle.linereader.specs.Storing.{counted, Fits, Done}
+use Rattle.linereader.specs.Storing.{counted, CountsFit, Done}
 use Rattle.reader.specs.declared.LinesAnswer.{LinesAnswer}
 use Rattle.reader.specs.Running.{Started, builtInCounts, Ran}
-use Rattle.reader.specs.Indexing.{joinedAll}
+use Rattle.reader.specs.Indexing.{allJoined}
 use Rattle.reader.proofs.Indexing.{line-indexed}
 use Rattle.reader.proofs.Outcomes.{counts-limits, counts-fit}
 
@@ -174,12 +174,12 @@ module _ (s ns₀ cs₀ : List ℕ) (vs₀ : List ℤ) where
     pub runs-limits : Limits n
     runs-limits = subst Limits (sym (R .counts)) (counts-limits (R .above) (prefix .admissible-above))
 
-    pub runs-fits : Fits n
-    runs-fits = subst Fits (sym (R .counts)) (counts-fit (R .above) (prefix .admissible-above))
+    pub runs-fits : CountsFit n
+    runs-fits = subst CountsFit (sym (R .counts)) (counts-fit (R .above) (prefix .admissible-above))
 
     -- one line more
     module _ (r : LineAnswer) (ns′ cs′ : List ℕ) (vs′ : List ℤ) (h : at < length s) (d : Done (R .above) n (lineAt s (R .above) at) r ns ns′ cs cs′ vs vs′) where
-      pub runs-more : (next : ℕ) (m : Counts) → r ≡ LineAnswer.Next next m → (at < next) × Runs ns′ cs′ vs′ m next (line + 1) × ((index : List ℕ) → nameIndexCount ≤ length index → Indexed ns n index → Indexed ns′ m (joinedAll ns′ n m index))
+      pub runs-more : (next : ℕ) (m : Counts) → r ≡ LineAnswer.Next next m → (at < next) × Runs ns′ cs′ vs′ m next (line + 1) × ((index : List ℕ) → nameIndexCount ≤ length index → Indexed ns n index → Indexed ns′ m (allJoined ns′ n m index))
       runs-more next m e =
           let a = R .above in
           let S = R .sane in

@@ -16,11 +16,11 @@ use Rattle.model.specs.declared.Counts.{Counts}
 -- ns: the names; n and m: the counts before and after
 module _ (ns : List ℕ) (n m : Counts) where
   -- the next name of a pool in its chain, where there is one more
-  unfoldable pub joined : Pool → List ℕ → List ℕ
-  joined p index =
+  unfoldable pub poolJoined : Pool → List ℕ → List ℕ
+  poolJoined p index =
       cond (ltb (countOf n p) (countOf m p))
       (linked index (poolBase p / nameBytes) (namePlaces + poolBase p / nameBytes) (nameKey ns (poolBase p) (capacity p) (countOf n p)) (countOf n p))
       index
 
-  unfoldable pub joinedAll : List ℕ → List ℕ
-  joinedAll index = joined shapes (joined langs (joined types (joined links (joined nodes index))))
+  unfoldable pub allJoined : List ℕ → List ℕ
+  allJoined index = poolJoined shapes (poolJoined langs (poolJoined types (poolJoined links (poolJoined nodes index))))

@@ -38,10 +38,10 @@ ghost use Rattle.tables.specs.Sizes.{cleared};
 ghost use Rattle.stores.specs.Lines.{putName, putCounts};
 ghost use Rattle.itemreader.specs.Answers.{poolOf};
 ghost use Rattle.itemreader.specs.Held.{Limits, Indexed, nameIndexCount};
-ghost use Rattle.linereader.specs.Storing.{Fits};
+ghost use Rattle.linereader.specs.Storing.{CountsFit};
 ghost use Rattle.reader.specs.Answers.{answerOf, namesLeft, cellsLeft, valuesLeft, readAnswer, namesOf, cellsOf, valuesOf};
 ghost use Rattle.reader.specs.Running.{Started, builtInCounts, Ran};
-ghost use Rattle.reader.specs.Indexing.{joined, joinedAll};
+ghost use Rattle.reader.specs.Indexing.{poolJoined, allJoined};
 
 // The counts of an accepted book; or why it is refused.
 pub enum ReadAnswer {
@@ -93,7 +93,7 @@ fn put_built_in(names: &mut [u8])
 
 // The ten counts, from cell 0 on.
 fn put_counts(cells: &mut [u16], counts: Counts)
-    requires { ⌜ (cellCount ≤ length (now cells)) × Limits counts × Fits counts ⌝ }
+    requires { ⌜ (cellCount ≤ length (now cells)) × Limits counts × CountsFit counts ⌝ }
     ensures { λ _. ⌜ now (cells .exit) ≡ putCounts 0 (countList counts) (now (cells .entry)) ⌝ }
 {
     cells[0] = counts.nodes as u16;
@@ -111,7 +111,7 @@ fn put_counts(cells: &mut [u16], counts: Counts)
 // Where there is a name more of the pool after than before, it joins its chain in the index.
 fn index_pool(index: &mut [u16], names: &[u8], before: Counts, after: Counts, pool: Pool)
     requires { ⌜ (nameIndexCount ≤ length (now index)) × (nameCount ≤ length (now names)) × Limits after ⌝ }
-    ensures { λ _. ⌜ now (index .exit) ≡ joined (now (names .entry)) before after (poolOf pool) (now (index .entry)) ⌝ }
+    ensures { λ _. ⌜ now (index .exit) ≡ poolJoined (now (names .entry)) before after (poolOf pool) (now (index .entry)) ⌝ }
 {
     let i = count(before, pool);
     if i < count(after, pool) {
@@ -130,7 +130,7 @@ fn index_pool(index: &mut [u16], names: &[u8], before: Counts, after: Counts, po
 // The new names of all pools join their chains.
 fn index_new(index: &mut [u16], names: &[u8], before: Counts, after: Counts)
     requires { ⌜ (nameIndexCount ≤ length (now index)) × (nameCount ≤ length (now names)) × Limits after ⌝ }
-    ensures { λ _. ⌜ now (index .exit) ≡ joinedAll (now (names .entry)) before after (now (index .entry)) ⌝ }
+    ensures { λ _. ⌜ now (index .exit) ≡ allJoined (now (names .entry)) before after (now (index .entry)) ⌝ }
 {
     index_pool(index, names, before, after, Pool::Nodes);
     index_pool(index, names, before, after, Pool::Links);

@@ -40,8 +40,8 @@ use Rattle.stores.proofs.Prefixes.{prefix-valid}
 use Rattle.lists.specs.Rows.{over, withRows, withLengths, rowIn}
 use Rattle.lists.proofs.ReadOff.{length-read, nodes-read}
 use Rattle.lists.proofs.Rows.{few}
-use Rattle.report.specs.Report.{headLine, breakLines, foundLine, ruleLines, found, firstLine, lastLine, report, part, joined}
-use Rattle.report.specs.Pages.{beforeZero, nameIn, foundIn, partIn, lengthOk, rowOk, partOk}
+use Rattle.report.specs.Report.{headLine, breakLines, foundLine, ruleLines, found, firstLine, lastLine, report, part, partsJoined}
+use Rattle.report.specs.Pages.{beforeZero, nameIn, foundIn, partIn, lengthOk, rowOk, reportPartOk}
 use Rattle.report.specs.Answers.{partLong, partFormed, hasPart, text, partAnswer, partAfter}
 use Rattle.report.proofs.Report.{rule-part, last-part, next-low, next-rule, next-count, parts-joined}
 use Rattle.report.proofs.Parts.{part-rule, part-last, ok-head, ok-rule, ok-last, ok-past}
@@ -86,8 +86,8 @@ unfolding allb
 map-same f g p [] h e = refl
 map-same {A} f g p (x ∷ l) h e = ap₂ (λ (y : A) (t : List A). y ∷ t) (h x (and-left (p x) (allb p l) e)) (map-same f g p l h (and-right (p x) (allb p l) e))
 
-joined-same : (f g : ℕ → List ℕ) → ((k : ℕ) → f k ≡ g k) → (n : ℕ) → joined f n ≡ joined g n
-unfolding joined
+joined-same : (f g : ℕ → List ℕ) → ((k : ℕ) → f k ≡ g k) → (n : ℕ) → partsJoined f n ≡ partsJoined g n
+unfolding partsJoined
 joined-same f g e zero = refl
 joined-same f g e (suc n) = ap₂ (λ (x y : List ℕ). x ++ y) (joined-same f g e n) (e n)
 
@@ -186,12 +186,12 @@ module _ (b : Book) (v : valid b ≡ true) where
     lengths-ok : every (lengthOk ks) (ruleCount (encodeCells b)) ≡ true
     lengths-ok = every-all (lengthOk ks) (ruleCount (encodeCells b)) (λ r low. length-ok r (omega (arith, rules-counted b)))
 
-    part-ok : (k : ℕ) → partOk (encodeCells b) ls ks k ≡ true
+    part-ok : (k : ℕ) → reportPartOk (encodeCells b) ls ks k ≡ true
     part-ok zero = ok-head (encodeCells b) ls ks 0 refl
     part-ok (suc r) =
-        below-or (partOk (encodeCells b) ls ks (suc r) ≡ true) r (length (rules b))
+        below-or (reportPartOk (encodeCells b) ls ks (suc r) ≡ true) r (length (rules b))
         (λ low. ok-rule (encodeCells b) ls ks (suc r) r refl (omega (arith, rules-counted b)) ∙ row-ok r low)
-        (λ high. below-or (partOk (encodeCells b) ls ks (suc r) ≡ true) (length (rules b)) r
+        (λ high. below-or (reportPartOk (encodeCells b) ls ks (suc r) ≡ true) (length (rules b)) r
         (λ past. ok-past (encodeCells b) ls ks (suc r) (omega (arith, rules-counted b)))
         (λ last. ok-last (encodeCells b) ls ks (suc r) (omega (arith, rules-counted b)) ∙ lengths-ok))
 
@@ -211,7 +211,7 @@ module _ (b : Book) (v : valid b ≡ true) where
           ∙ (ap foundLine (ap (foundIn ks) (rules-counted b) ∙ (sym (found-read [] (rules b) refl) ∙ zero-add (found b (rules b)))) ∙ sym (last-part b k high)))
 
       -- the parts, one after the other, are the report
-      pub report-read : joined (partIn (encodeNames b ++ t) (encodeCells b) ls ks) (length (rules b) + 2) ≡ report b
+      pub report-read : partsJoined (partIn (encodeNames b ++ t) (encodeCells b) ls ks) (length (rules b) + 2) ≡ report b
       report-read = joined-same (partIn (encodeNames b ++ t) (encodeCells b) ls ks) (part b) part-read (length (rules b) + 2) ∙ parts-joined b
 
       -- ---- what the operation answers: of the ten refusals 8 alone
@@ -220,7 +220,7 @@ module _ (b : Book) (v : valid b ≡ true) where
         Cs = encodeCells b ++ past
 
         formed-here : partFormed (take cellCount Cs) ls ks k ≡ true
-        formed-here = ap (λ (cs : List ℕ). partFormed cs ls ks k) (cells-read past) ∙ and-both (wellFormed (encodeCells b)) (partOk (encodeCells b) ls ks k) (well-formed b ok) (part-ok k)
+        formed-here = ap (λ (cs : List ℕ). partFormed cs ls ks k) (cells-read past) ∙ and-both (wellFormed (encodeCells b)) (reportPartOk (encodeCells b) ls ks k) (well-formed b ok) (part-ok k)
 
         part-here : hasPart (take cellCount Cs) k ≡ true
         part-here = ap (λ (cs : List ℕ). hasPart cs k) (cells-read past) ∙ le-leb k (ruleCount (encodeCells b) + 1) (omega (arith, inside, rules-counted b))

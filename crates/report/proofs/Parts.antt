@@ -18,7 +18,7 @@ use Rattle.model.specs.Limits.{maxNodes}
 use Rattle.tables.specs.Layout.{nodeCount, factCount, ruleCount}
 use Rattle.lists.specs.Rows.{rowIn}
 use Rattle.report.specs.Report.{headLine, breakLine, breakLines, foundLine}
-use Rattle.report.specs.Pages.{nameIn, foundIn, partIn, lengthOk, rowOk, partOk}
+use Rattle.report.specs.Pages.{nameIn, foundIn, partIn, lengthOk, rowOk, reportPartOk}
 
 -- ---- how many nodes are listed: one rule more
 pub found-none : (ks : List ℕ) → 0 ≡ foundIn ks 0
@@ -73,20 +73,20 @@ module _ (ns cs ls ks : List ℕ) where
 
 -- ---- its tests
 module _ (cs ls ks : List ℕ) where
-  pub ok-head : (k : ℕ) → k ≡ 0 → partOk cs ls ks k ≡ true
-  unfolding partOk
-  ok-head k e = ap (partOk cs ls ks) e
+  pub ok-head : (k : ℕ) → k ≡ 0 → reportPartOk cs ls ks k ≡ true
+  unfolding reportPartOk
+  ok-head k e = ap (reportPartOk cs ls ks) e
 
-  pub ok-rule : (k r : ℕ) → k ≡ suc r → r < ruleCount cs → partOk cs ls ks k ≡ rowOk cs ls ks r
-  unfolding partOk
-  ok-rule k r e h = ap (partOk cs ls ks) e ∙ rw (lt-ltb r (ruleCount cs) h, ne-eqb r (ruleCount cs) (λ q. omega arith)) (and-true (rowOk cs ls ks r))
+  pub ok-rule : (k r : ℕ) → k ≡ suc r → r < ruleCount cs → reportPartOk cs ls ks k ≡ rowOk cs ls ks r
+  unfolding reportPartOk
+  ok-rule k r e h = ap (reportPartOk cs ls ks) e ∙ rw (lt-ltb r (ruleCount cs) h, ne-eqb r (ruleCount cs) (λ q. omega arith)) (and-true (rowOk cs ls ks r))
 
-  pub ok-last : (k : ℕ) → k ≡ suc (ruleCount cs) → partOk cs ls ks k ≡ every (lengthOk ks) (ruleCount cs)
-  unfolding partOk
-  ok-last k e = ap (partOk cs ls ks) e ∙ rw (le-ltb (ruleCount cs) (ruleCount cs) (omega arith), eq-eqb (ruleCount cs) (ruleCount cs) refl)
+  pub ok-last : (k : ℕ) → k ≡ suc (ruleCount cs) → reportPartOk cs ls ks k ≡ every (lengthOk ks) (ruleCount cs)
+  unfolding reportPartOk
+  ok-last k e = ap (reportPartOk cs ls ks) e ∙ rw (le-ltb (ruleCount cs) (ruleCount cs) (omega arith), eq-eqb (ruleCount cs) (ruleCount cs) refl)
 
-  pub ok-past : (k : ℕ) → ruleCount cs + 1 < k → partOk cs ls ks k ≡ true
-  unfolding partOk
+  pub ok-past : (k : ℕ) → ruleCount cs + 1 < k → reportPartOk cs ls ks k ≡ true
+  unfolding reportPartOk
   ok-past zero h = absurd (omega arith)
   ok-past (suc r) h = rw (le-ltb r (ruleCount cs) (omega arith), ne-eqb r (ruleCount cs) (λ q. omega arith))
 

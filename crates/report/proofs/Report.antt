@@ -17,7 +17,7 @@ use Rattle.model.specs.Books.{Book, newTerms, newTriples, newShapes, newNames, 
 use Rattle.model.specs.Cases.{bookB}
 use Rattle.grammar.specs.Writing.{spaced, bracket, nameOf}
 use Rattle.grammar.specs.Cases.{textOf}
-use Rattle.report.specs.Report.{line, breakLines, ruleLines, linesFrom, found, firstLine, lastLine, report, refusalReport, part, joined}
+use Rattle.report.specs.Report.{line, breakLines, ruleLines, linesFrom, found, firstLine, lastLine, report, refusalReport, part, partsJoined}
 
 -- ---- document 01's reports
 pub report-of-B : report bookB ≡ textOf ("(book 4 3 1)" ∷ "(breaks 0 left)" ∷ "(found 1)" ∷ [])
@@ -54,21 +54,21 @@ module _ (b : Book) where
     pub next-count : length (above ++ (r ∷ [])) ≡ suc (length above)
     next-count = length-append above (r ∷ []) ∙ omega arith
 
-  rules-joined : (above rs : List Rule) → rules b ≡ above ++ rs → joined (part b) (suc (length above)) ++ linesFrom b (length above) rs ≡ joined (part b) (suc (length (rules b)))
-  unfolding linesFrom joined
-  rules-joined above [] e = append-nil (joined (part b) (suc (length above))) ∙ ap (λ (l : List Rule). joined (part b) (suc (length l))) (sym (e ∙ append-nil above))
+  rules-joined : (above rs : List Rule) → rules b ≡ above ++ rs → partsJoined (part b) (suc (length above)) ++ linesFrom b (length above) rs ≡ partsJoined (part b) (suc (length (rules b)))
+  unfolding linesFrom partsJoined
+  rules-joined above [] e = append-nil (partsJoined (part b) (suc (length above))) ∙ ap (λ (l : List Rule). partsJoined (part b) (suc (length l))) (sym (e ∙ append-nil above))
   rules-joined above (r ∷ rs) e =
       let k : ℕ = length above in
-      sym (append-assoc (joined (part b) (suc k)) (ruleLines b k r) (linesFrom b (suc k) rs))
-      ∙ ap (λ (t : List ℕ). (joined (part b) (suc k) ++ t) ++ linesFrom b (suc k) rs) (sym (rule-part k (next-low above rs r e) ∙ ap (ruleLines b k) (next-rule above rs r e)))
-      ∙ ap (λ (n : ℕ). joined (part b) (suc n) ++ linesFrom b n rs) (sym (next-count above rs r e))
+      sym (append-assoc (partsJoined (part b) (suc k)) (ruleLines b k r) (linesFrom b (suc k) rs))
+      ∙ ap (λ (t : List ℕ). (partsJoined (part b) (suc k) ++ t) ++ linesFrom b (suc k) rs) (sym (rule-part k (next-low above rs r e) ∙ ap (ruleLines b k) (next-rule above rs r e)))
+      ∙ ap (λ (n : ℕ). partsJoined (part b) (suc n) ++ linesFrom b n rs) (sym (next-count above rs r e))
       ∙ rules-joined (above ++ (r ∷ [])) rs (e ∙ sym (append-snoc above r rs))
 
-  pub parts-joined : joined (part b) (length (rules b) + 2) ≡ report b
-  unfolding joined part report
+  pub parts-joined : partsJoined (part b) (length (rules b) + 2) ≡ report b
+  unfolding partsJoined part report
   parts-joined =
       let n : ℕ = length (rules b) in
       let two : n + 2 ≡ suc (suc n) = omega arith in
-      ap (joined (part b)) two
+      ap (partsJoined (part b)) two
       ∙ ap₂ (λ (x y : List ℕ). x ++ y) (sym (rules-joined [] (rules b) refl)) (last-part n (omega arith))
       ∙ append-assoc (firstLine b) (linesFrom b 0 (rules b)) (lastLine b)

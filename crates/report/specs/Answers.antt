@@ -11,7 +11,7 @@ use Rattle.tables.specs.Sizes.{longEnough}
 use Rattle.tables.specs.WellFormed.{wellFormed}
 use Rattle.lists.specs.Rows.{listCount, lengthCount, over}
 use Rattle.report.specs.Report.{refusalReport}
-use Rattle.report.specs.Pages.{pageCount, refusalCount, partIn, partOk}
+use Rattle.report.specs.Pages.{pageCount, refusalCount, partIn, reportPartOk}
 use Rattle.report.specs.declared.Page.{Page}
 use Rattle.report.specs.declared.Page.the-variants.{Bytes, Refused}
 
@@ -26,7 +26,7 @@ partLong ns cs vs ls ks page = longEnough ns cs vs && (leb listCount (length ls)
 
 -- the tables are well formed, and the lists that part k looks at
 abbrev pub partFormed : (cs ls ks : List ℕ) → ℕ → Bool
-partFormed cs ls ks k = wellFormed cs && partOk cs ls ks k
+partFormed cs ls ks k = wellFormed cs && reportPartOk cs ls ks k
 
 -- the report has part k
 abbrev pub hasPart : List ℕ → ℕ → Bool

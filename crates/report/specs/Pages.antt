@@ -55,9 +55,9 @@ unfoldable pub rowOk : (cs ls ks : List ℕ) → ℕ → Bool
 rowOk cs ls ks r = lengthOk ks r && allb (λ v. ltb v (nodeCount cs)) (rowIn ls ks r)
 
 -- of the lists, a rule's part looks at its own row, the last part at the length of each
-unfoldable pub partOk : (cs ls ks : List ℕ) → ℕ → Bool
-partOk cs ls ks zero = true
-partOk cs ls ks (suc k) = (ltb k (ruleCount cs) ⇒ rowOk cs ls ks k) && (eqb k (ruleCount cs) ⇒ every (lengthOk ks) (ruleCount cs))
+unfoldable pub reportPartOk : (cs ls ks : List ℕ) → ℕ → Bool
+reportPartOk cs ls ks zero = true
+reportPartOk cs ls ks (suc k) = (ltb k (ruleCount cs) ⇒ rowOk cs ls ks k) && (eqb k (ruleCount cs) ⇒ every (lengthOk ks) (ruleCount cs))
 
 -- ---- writing: the text stands on the page from `at` to `end`, and nothing else changed
 pub record Put (before after : List ℕ) (at : ℕ) (text : List ℕ) (end : ℕ) : Type 0 where

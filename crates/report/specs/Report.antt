@@ -66,6 +66,6 @@ part b zero = firstLine b
 part b (suc k) = cond (ltb k (length (rules b))) (ruleLines b k (getD (rules b) k noRule)) (lastLine b)
 
 -- the first n parts, one after the other
-unfoldable pub joined : (ℕ → List ℕ) → ℕ → List ℕ
-joined f zero = []
-joined f (suc n) = joined f n ++ f n
+unfoldable pub partsJoined : (ℕ → List ℕ) → ℕ → List ℕ
+partsJoined f zero = []
+partsJoined f (suc n) = partsJoined f n ++ f n

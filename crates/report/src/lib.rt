@@ -31,7 +31,7 @@ ghost use Rattle.tables.specs.Layout.{nameCount};
 ghost use Rattle.tables.specs.WellFormed.{wellFormed};
 ghost use Rattle.lists.specs.Rows.{listCount, lengthCount, rowIn};
 ghost use Rattle.report.specs.Report.{headLine, breakLine, breakLines, foundLine, refusalReport};
-ghost use Rattle.report.specs.Pages.{pageCount, nameIn, foundIn, partIn, lengthOk, rowOk, partOk, Put, breakBytes};
+ghost use Rattle.report.specs.Pages.{pageCount, nameIn, foundIn, partIn, lengthOk, rowOk, reportPartOk, Put, breakBytes};
 ghost use Rattle.report.specs.Answers.{answerOf, partLong, partFormed, partAnswer, partAfter, refusalAnswer, refusalAfter};
 
 // The longest line of a node: its word, two digits of a rule, a name, two spaces, two brackets and LF; a page for as many as
@@ -204,7 +204,7 @@ fn put_part(
     lengths: &[u16],
     k: usize,
 ) -> usize
-    requires { ⌜ (pageCount ≤ length (now page)) × (nameCount ≤ length (now names)) × (listCount ≤ length (now lists)) × (lengthCount ≤ length (now lengths)) × (wellFormed (now cells) ≡ true) × (partOk (now cells) (now lists) (now lengths) k ≡ true) ⌝ }
+    requires { ⌜ (pageCount ≤ length (now page)) × (nameCount ≤ length (now names)) × (listCount ≤ length (now lists)) × (lengthCount ≤ length (now lengths)) × (wellFormed (now cells) ≡ true) × (reportPartOk (now cells) (now lists) (now lengths) k ≡ true) ⌝ }
     ensures { λ end. ⌜ Put (now (page .entry)) (now (page .exit)) 0 (partIn (now (names .entry)) (now (cells .entry)) (now (lists .entry)) (now (lengths .entry)) k) end ⌝ }
 {
     let rules = rule_count(cells);

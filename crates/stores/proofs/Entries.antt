@@ -15,7 +15,7 @@ use Rattle.tables.specs.Layout as Layout
 use Rattle.tables.specs.Entries.{PathEntry, inv, seq, alt, Entry}
 use Rattle.tables.specs.Entries as E
 use Rattle.encoding.specs.Rows.{pathRow, formRow, plainRow, valueRow}
-use Rattle.encoding.specs.Flatten.{last, addPath, Entries, addForm, withPath, withItems, withEnd, endNumber, kindCode, addTest, addShape}
+use Rattle.encoding.specs.Flatten.{lastNumber, addPath, Entries, addForm, withPath, withItems, withEnd, endNumber, kindCode, addTest, addShape}
 use Rattle.encoding.specs.Encode.{Content, cellColumns, valueColumns}
 use Rattle.encoding.proofs.Counts.{path-size, end-size, shape-size}
 use Rattle.grammar.specs.Syntax.{path, end, form}
@@ -46,7 +46,7 @@ pub record Within (es : Entries) : Type 0 where
   pub paths : length (es .paths) ≤ maxPaths
   pub items : length (es .items) ≤ maxItems
 
--- room for the form entry that is last, and for what came before it
+-- room for the form entry that is lastNumber, and for what came before it
 form-room : (x : Entry) (es : Entries) → Within (addForm x es) → length (es .forms) < maxForms
 form-room x es w = omega (arith, w .forms, length-append (es .forms) (x ∷ []))
 
@@ -130,19 +130,19 @@ module _ (C : Content) (t : List ℕ) where
   path-cells (inverse d) es h =
       let ds = withPath d es in
       let n = path-size d (es .paths) in
-      rw (path-cells d es (omega arith), ← path-size d (es .paths)) (path-row ds (inv (last (ds .paths))) (omega arith))
+      rw (path-cells d es (omega arith), ← path-size d (es .paths)) (path-row ds (inv (lastNumber (ds .paths))) (omega arith))
   path-cells (sequence d e) es h =
       let ds = withPath d es in
       let fs = withPath e ds in
       let n = path-size d (es .paths) in
       let m = path-size e (ds .paths) in
-      rw (path-cells d es (omega arith), ← path-size d (es .paths), path-cells e ds (omega arith), ← path-size e (ds .paths)) (path-row fs (seq (last (ds .paths)) (last (fs .paths))) (omega arith))
+      rw (path-cells d es (omega arith), ← path-size d (es .paths), path-cells e ds (omega arith), ← path-size e (ds .paths)) (path-row fs (seq (lastNumber (ds .paths)) (lastNumber (fs .paths))) (omega arith))
   path-cells (alternative d e) es h =
       let ds = withPath d es in
       let fs = withPath e ds in
       let n = path-size d (es .paths) in
       let m = path-size e (ds .paths) in
-      rw (path-cells d es (omega arith), ← path-size d (es .paths), path-cells e ds (omega arith), ← path-size e (ds .paths)) (path-row fs (alt (last (ds .paths)) (last (fs .paths))) (omega arith))
+      rw (path-cells d es (omega arith), ← path-size d (es .paths), path-cells e ds (omega arith), ← path-size e (ds .paths)) (path-row fs (alt (lastNumber (ds .paths)) (lastNumber (fs .paths))) (omega arith))
 
   -- ---- shapes
   end-cells : (f : End) (es : Entries) → Within (withEnd f es) → endCells (length (es .paths)) f (at es) ≡ at (withEnd f es)
@@ -180,13 +180,13 @@ module _ (C : Content) (t : List ℕ) where
   shape-cells (conj φ ψ) es w =
       let fs = addShape φ es in
       let gs = addShape ψ fs in
-      let x = Entry.conj (last (fs .forms)) (last (gs .forms)) in
+      let x = Entry.conj (lastNumber (fs .forms)) (lastNumber (gs .forms)) in
       let wg = without-form x gs w in
       rw (after-shape φ es, shape-cells φ es (without-shape ψ fs wg), after-shape ψ fs, shape-cells ψ fs wg) (form-row gs x w)
   shape-cells (disj φ ψ) es w =
       let fs = addShape φ es in
       let gs = addShape ψ fs in
-      let x = Entry.disj (last (fs .forms)) (last (gs .forms)) in
+      let x = Entry.disj (lastNumber (fs .forms)) (lastNumber (gs .forms)) in
       let wg = without-form x gs w in
       rw (after-shape φ es, shape-cells φ es (without-shape ψ fs wg), after-shape ψ fs, shape-cells ψ fs wg) (form-row gs x w)
   shape-cells (neg φ) es w =
@@ -262,13 +262,13 @@ module _ (C : Content) (t : List ℤ) where
   shape-values (conj φ ψ) es w =
       let fs = addShape φ es in
       let gs = addShape ψ fs in
-      let x = Entry.conj (last (fs .forms)) (last (gs .forms)) in
+      let x = Entry.conj (lastNumber (fs .forms)) (lastNumber (gs .forms)) in
       let wg = without-form x gs w in
       rw (after-shape φ es, shape-values φ es (without-shape ψ fs wg), shape-values ψ fs wg) (no-value gs x refl)
   shape-values (disj φ ψ) es w =
       let fs = addShape φ es in
       let gs = addShape ψ fs in
-      let x = Entry.disj (last (fs .forms)) (last (gs .forms)) in
+      let x = Entry.disj (lastNumber (fs .forms)) (lastNumber (gs .forms)) in
       let wg = without-form x gs w in
       rw (after-shape φ es, shape-values φ es (without-shape ψ fs wg), shape-values ψ fs wg) (no-value gs x refl)
   shape-values (neg φ) es w =
@@ -286,6 +286,6 @@ module _ (C : Content) (t : List ℤ) where
   shape-values (equals f p) es w = end-values f es ∙ no-value (withEnd f es) (Entry.equal (endNumber f (withEnd f es)) p) refl
   shape-values (disjoint f p) es w = end-values f es ∙ no-value (withEnd f es) (Entry.apart (endNumber f (withEnd f es)) p) refl
   shape-values (closed ks) es w = no-value (withItems ks es) (Entry.closed (length (es .items)) (length ks)) refl
-  shape-values (lessThan e p) es w = no-value (withPath e es) (Entry.less (last (withPath e es .paths)) p) refl
-  shape-values (lessThanEq e p) es w = no-value (withPath e es) (Entry.lesseq (last (withPath e es .paths)) p) refl
-  shape-values (uniqueLang e) es w = no-value (withPath e es) (Entry.onelang (last (withPath e es .paths))) refl
+  shape-values (lessThan e p) es w = no-value (withPath e es) (Entry.less (lastNumber (withPath e es .paths)) p) refl
+  shape-values (lessThanEq e p) es w = no-value (withPath e es) (Entry.lesseq (lastNumber (withPath e es .paths)) p) refl
+  shape-values (uniqueLang e) es w = no-value (withPath e es) (Entry.onelang (lastNumber (withPath e es .paths))) refl

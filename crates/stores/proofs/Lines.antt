@@ -20,7 +20,7 @@ use Rattle.model.specs.Valid.{capacity, defined, hasRoom, factOk, shapeOk, targ
 use Rattle.model.proofs.Lines.{collect-snoc, terms-counted, shapes-counted}
 use Rattle.tables.specs.Layout as Layout
 use Rattle.encoding.specs.Rows.{nodeRow, targetCode, targetOperand}
-use Rattle.encoding.specs.Flatten.{last, Entries, addShape, addShapes, rootsOf, noEntries}
+use Rattle.encoding.specs.Flatten.{lastNumber, Entries, addShape, addShapes, rootsOf, noEntries}
 use Rattle.encoding.specs.Encode.{Content, cellColumns, valueColumns, entriesOf}
 use Rattle.encoding.proofs.Counts.{shape-size, entries-size}
 use Rattle.encoding.proofs.Schema.{entries-snoc, roots-snoc, roots-length}
@@ -57,7 +57,7 @@ addLine (type n) C = C
 addLine (lang n) C = C
 addLine (node n x) C = addTerm x C
 addLine (fact x) C = addFact x C
-addLine (shape n φ) C = let es = addShape φ (C .entries) in addRoot (last (es .forms)) (withEntries C es)
+addLine (shape n φ) C = let es = addShape φ (C .entries) in addRoot (lastNumber (es .forms)) (withEntries C es)
 addLine (rule x) C = addRule x C
 
 line-added : (ts : List Term) (fs : List Triple) (φs : List Shape) (rs : List Rule) (l : Line) → gathered (ts ++ newTerms l) (fs ++ newTriples l) (φs ++ newShapes l) (rs ++ newRules l) ≡ addLine l (gathered ts fs φs rs)
@@ -160,7 +160,7 @@ module _ (a : Book) where
         let r = and-right (hasRoom a shapes) _ e in
         let C = withEntries (soFar a) (addShape φ above) in
         rw (ended-sizes, after-shape φ above, shape-cells (soFar a) t φ above (within-more φ (and-right (shapeOk a φ) _ r)), root-number)
-        (root-row C t (last (addShape φ above .forms)) (root-room (and-left _ _ e)))
+        (root-row C t (lastNumber (addShape φ above .forms)) (root-room (and-left _ _ e)))
     cells-added (rule x) e = rule-row (soFar a) t x (ltb-true (length (rules a)) maxRules (and-right (defined a shapes (x .shape) && targetOk a (x .target)) _ e))
 
   module _ (t : List ℤ) where

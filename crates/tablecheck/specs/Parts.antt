@@ -20,8 +20,8 @@ partCount cs Forms = formCount cs
 partCount cs Shapes = shapeCount cs
 partCount cs Rules = ruleCount cs
 
-unfoldable pub partOk : List ℕ → Part → ℕ → Bool
-partOk cs Paths i = pathEntryOk cs i (pathEntryAt cs i)
-partOk cs Forms i = entryOk cs i (entryAt cs [] i)
-partOk cs Shapes i = ltb (rootAt cs i) (formCount cs)
-partOk cs Rules i = ruleOk cs i
+unfoldable pub tablePartOk : List ℕ → Part → ℕ → Bool
+tablePartOk cs Paths i = pathEntryOk cs i (pathEntryAt cs i)
+tablePartOk cs Forms i = entryOk cs i (entryAt cs [] i)
+tablePartOk cs Shapes i = ltb (rootAt cs i) (formCount cs)
+tablePartOk cs Rules i = ruleOk cs i

@@ -17,7 +17,7 @@ ghost use Rattle.tables.specs.Layout.{rootAt, nodeCount, shapeCount, factCount}
 ghost use Rattle.tables.specs.Decode.{pathEntryAt, entryAt};
 ghost use Rattle.tables.specs.Entries.{Entry};
 ghost use Rattle.tables.specs.WellFormed.{countsOk, nodeOk, factOk, pathEntryOk, itemOk, itemsOk, endOk, entryOk, ruleOk, wellFormed};
-ghost use Rattle.tablecheck.specs.Parts.{placeBelow, partCount, partOk};
+ghost use Rattle.tablecheck.specs.Parts.{placeBelow, partCount, tablePartOk};
 
 fn below(x: u16, n: usize) -> bool
     ensures { λ r. ⌜ r ≡ ltb x n ⌝ }
@@ -230,7 +230,7 @@ fn part_count(cells: &[u16], part: Part) -> usize
 }
 
 fn part_ok(cells: &[u16], part: Part, i: usize) -> bool
-    ensures { λ r. ⌜ r ≡ partOk (now (cells .entry)) part i ⌝ }
+    ensures { λ r. ⌜ r ≡ tablePartOk (now (cells .entry)) part i ⌝ }
 {
     match part {
         Part::Paths => path_ok(cells, i),
@@ -241,7 +241,7 @@ fn part_ok(cells: &[u16], part: Part, i: usize) -> bool
 }
 
 fn all_ok(cells: &[u16], part: Part) -> bool
-    ensures { λ r. ⌜ r ≡ every (partOk (now (cells .entry)) part) (partCount (now (cells .entry)) part) ⌝ }
+    ensures { λ r. ⌜ r ≡ every (tablePartOk (now (cells .entry)) part) (partCount (now (cells .entry)) part) ⌝ }
 {
     let n = part_count(cells, part);
     for i in 0..n {

@@ -6,7 +6,7 @@ use lib.ListN.{length, getD, drop}
 use lib.Dec.{ltb, leb, eqb}
 use lib.IntN.{ℤ, pos, negsuc, negℤ}
 use Rattle.base.specs.Lists.{allb}
-use Rattle.text.specs.Items.{within}
+use Rattle.text.specs.Items.{isBetween}
 use Rattle.text.specs.declared.Number.{Number}
 use Rattle.text.specs.declared.Bound.{Bound}
 use Rattle.text.specs.declared.Mag.{Mag}
@@ -30,7 +30,7 @@ signed (negsuc n) = 45 ∷ decimal (suc n)
 
 -- ---- reading
 unfoldable pub digit : ℕ → Bool
-digit b = within 48 57 b
+digit b = isBetween 48 57 b
 
 -- the number that decimal digits write, after v
 unfoldable pub valueFrom : ℕ → List ℕ → ℕ

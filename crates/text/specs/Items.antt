@@ -21,12 +21,12 @@ unfoldable pub itemEnd : List ℕ → ℕ → ℕ
 itemEnd s at = at + itemLen (drop at s)
 
 -- from lo to hi, both included
-abbrev pub within : ℕ → ℕ → ℕ → Bool
-within lo hi b = leb lo b && leb b hi
+abbrev pub isBetween : ℕ → ℕ → ℕ → Bool
+isBetween lo hi b = leb lo b && leb b hi
 
 -- a-z, 0-9, - and _
 unfoldable pub nameByte : ℕ → Bool
-nameByte b = within 97 122 b || (within 48 57 b || (eqb b 45 || eqb b 95))
+nameByte b = isBetween 97 122 b || (isBetween 48 57 b || (eqb b 45 || eqb b 95))
 
 -- at least one of them, and not more than the limit
 unfoldable pub isName : List ℕ → Bool

@@ -73,7 +73,7 @@ module _ (cs : List ℕ) (ok : wellFormed cs ≡ true) where
       unfolding setAt
       plan-keeps e l = entry-sets cs fine vs (stepAt plan) plan-has e l .keeps
 
-      pub plan-breaks : (e : ℕ) → e < formCount cs → setAt cs vs plan (made cs (formCount cs) .brk e) ≡ (λ v. not (conforms (graphAt cs vs) (shapeAt cs vs e) v))
+      pub plan-breaks : (e : ℕ) → e < formCount cs → setAt cs vs plan (made cs (formCount cs) .breaking e) ≡ (λ v. not (conforms (graphAt cs vs) (shapeAt cs vs e) v))
       unfolding setAt
       plan-breaks e l = entry-sets cs fine vs (stepAt plan) plan-has e l .breaks
 

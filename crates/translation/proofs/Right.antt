@@ -79,8 +79,8 @@ module _ (cs : List ℕ) (vs : List ℤ) (at : ℕ → Step) where
       set-either h = set-at k (Step.either i j) h ∙ ap₂ (λ (f h : ℕ → Bool). λ v. f v || h v) (set-low k i li ∙ ei) (set-low k j lj ∙ ej)
 
   -- entry e, whose steps stand from s on; sh: the shapes of the earlier entries, which are right
-  module _ (keep brk : ℕ → ℕ) (s e : ℕ) (sh : ℕ → Shape) (h : (j : ℕ) → j < e → Sets cs vs at s (keep j) (brk j) (conforms g (sh j))) where
-    before : (a : ℕ) → ltb a e ≡ true → Sets cs vs at s (keep a) (brk a) (conforms g (sh a))
+  module _ (keep breaking : ℕ → ℕ) (s e : ℕ) (sh : ℕ → Shape) (h : (j : ℕ) → j < e → Sets cs vs at s (keep j) (breaking j) (conforms g (sh j))) where
+    before : (a : ℕ) → ltb a e ≡ true → Sets cs vs at s (keep a) (breaking a) (conforms g (sh a))
     before a l = h a (ltb-true a e l)
 
     -- two steps, the second the contrary of the first
@@ -90,8 +90,8 @@ module _ (cs : List ℕ) (vs : List ℤ) (at : ℕ → Step) where
     right-test : (t : Test) → testOf cs (entryAt cs vs e) ≡ Option.some t → Has at s (Step.test e ∷ Step.untest e ∷ []) → Sets cs vs at (s + 2) s (s + 1) (λ v. satisfies t (g .term v))
     right-test t q st = right-two (Step.test e) (Step.untest e) (λ v. satisfies t (g .term v)) st (test-set cs vs (lower s) (lower (s + 1)) e t q) (test-untest cs vs (lower s) (lower (s + 1)) e t q)
 
-    right-count : (p a lo hi : ℕ) → Sets cs vs at s (keep a) (brk a) (conforms g (sh a)) → lo ≤ maxCount → Has at s (countPart s p (keep a) lo hi .steps)
-        → Sets cs vs at (s + length (countPart s p (keep a) lo hi .steps)) (countPart s p (keep a) lo hi .keep) (countPart s p (keep a) lo hi .brk) (λ v. within lo (upperOf hi) (counted p (conforms g (sh a)) v))
+    right-count : (p a lo hi : ℕ) → Sets cs vs at s (keep a) (breaking a) (conforms g (sh a)) → lo ≤ maxCount → Has at s (countPart s p (keep a) lo hi .steps)
+        → Sets cs vs at (s + length (countPart s p (keep a) lo hi .steps)) (countPart s p (keep a) lo hi .keep) (countPart s p (keep a) lo hi .breaking) (λ v. within lo (upperOf hi) (counted p (conforms g (sh a)) v))
     unfolding countPart countWay inStep
     right-count p a lo hi r low st = go (eqb lo 0) refl (eqb hi noNumber) refl st
       where
@@ -105,7 +105,7 @@ module _ (cs : List ℕ) (vs : List ℤ) (at : ℕ → Step) where
         later : (k lo hi : ℕ) → s ≤ k → at k ≡ Step.count p (keep a) lo hi → setBy cs vs at k ≡ (λ v. within lo (upperOf hi) (n v))
         later k lo hi l x = set-count k (keep a) (conforms g (sh a)) (let m : keep a < s = r .keepLow in omega arith) (r .keeps) p lo hi x
 
-        go : (z : Bool) → eqb lo 0 ≡ z → (t : Bool) → eqb hi noNumber ≡ t → Has at s (countWay s z t p (keep a) lo hi .steps) → Sets cs vs at (s + length (countWay s z t p (keep a) lo hi .steps)) (countWay s z t p (keep a) lo hi .keep) (countWay s z t p (keep a) lo hi .brk) (λ v. within lo (upperOf hi) (n v))
+        go : (z : Bool) → eqb lo 0 ≡ z → (t : Bool) → eqb hi noNumber ≡ t → Has at s (countWay s z t p (keep a) lo hi .steps) → Sets cs vs at (s + length (countWay s z t p (keep a) lo hi .steps)) (countWay s z t p (keep a) lo hi .keep) (countWay s z t p (keep a) lo hi .breaking) (λ v. within lo (upperOf hi) (n v))
         go true ez true et st = record { keepLow = omega arith; breakLow = omega arith; keeps = first (st .0); breaks = set-at (s + 1) Step.none (st .1 .0) ∙ ext (λ v. sym (broken-none lo hi (n v) (eqb-true lo 0 ez) (eqb-true hi noNumber et))) }
         go true ez false et st = record { keepLow = omega arith; breakLow = omega arith; keeps = first (st .0); breaks = later (s + 1) (hi + 1) noNumber (omega arith) (st .1 .0) ∙ ext (λ v. sym (broken-high lo hi (n v) (eqb-true lo 0 ez) (eqb-false hi noNumber et))) }
         go false ez true et st = record { keepLow = omega arith; breakLow = omega arith; keeps = first (st .0); breaks = later (s + 1) 0 (lo - 1) (omega arith) (st .1 .0) ∙ ext (λ v. sym (broken-low lo hi (n v) (eqb-false lo 0 ez) low (eqb-true hi noNumber et))) }
@@ -116,24 +116,24 @@ module _ (cs : List ℕ) (vs : List ℤ) (at : ℕ → Step) where
           breaks = set-either (s + 3) (s + 1) (λ v. within 0 (upperOf (lo - 1)) (n v)) (omega arith) (later (s + 1) 0 (lo - 1) (omega arith) (st .1 .0)) (s + 2) (λ v. within (hi + 1) (upperOf noNumber) (n v)) (omega arith) (later (s + 2) (hi + 1) noNumber (omega arith) (ap at (let z : s + 2 ≡ s + 1 + 1 = omega arith in z) ∙ st .1 .1 .0)) (ap at (let z : s + 3 ≡ s + 1 + 1 + 1 = omega arith in z) ∙ st .1 .1 .1 .0) ∙ ext (λ v. sym (broken-both lo hi (n v) (eqb-false lo 0 ez) low (eqb-false hi noNumber et)));
         }
 
-    pub entry-right : (x : Entry) → entryAt cs vs e ≡ x → entryOk cs e x ≡ true → Has at s (entryPart cs keep brk s e x .steps) → Sets cs vs at (s + length (entryPart cs keep brk s e x .steps)) (entryPart cs keep brk s e x .keep) (entryPart cs keep brk s e x .brk) (conforms g (shapeOf cs x sh))
+    pub entry-right : (x : Entry) → entryAt cs vs e ≡ x → entryOk cs e x ≡ true → Has at s (entryPart cs keep breaking s e x .steps) → Sets cs vs at (s + length (entryPart cs keep breaking s e x .steps)) (entryPart cs keep breaking s e x .keep) (entryPart cs keep breaking s e x .breaking) (conforms g (shapeOf cs x sh))
     unfolding entryPart shapeOf conforms entryOk inStep testOf linksOf holds
     entry-right Entry.top z ok st = right-two Step.all Step.none (λ v. true) st refl (all-none cs vs (lower s) (lower (s + 1)))
     entry-right (Entry.is c) z ok st = right-two (Step.is c) (Step.isnot c) (λ v. eqb v c) st refl (is-isnot cs vs (lower s) (lower (s + 1)) c)
     entry-right (Entry.shape n) z ok st =
         let r = before (rootAt cs n) (and-right (ltb n (shapeCount cs)) (ltb (rootAt cs n) e) ok) in
-        record { keepLow = let l : keep (rootAt cs n) < s = r .keepLow in omega arith; breakLow = let l : brk (rootAt cs n) < s = r .breakLow in omega arith; keeps = r .keeps; breaks = r .breaks }
+        record { keepLow = let l : keep (rootAt cs n) < s = r .keepLow in omega arith; breakLow = let l : breaking (rootAt cs n) < s = r .breakLow in omega arith; keeps = r .keeps; breaks = r .breaks }
     entry-right (Entry.conj a b) z ok st =
         let r = before a (and-left (ltb a e) (ltb b e) ok) in
         let q = before b (and-right (ltb a e) (ltb b e) ok) in
-        record { keepLow = omega arith; breakLow = omega arith; keeps = set-both s (keep a) (conforms g (sh a)) (r .keepLow) (r .keeps) (keep b) (conforms g (sh b)) (q .keepLow) (q .keeps) (st .0); breaks = set-either (s + 1) (brk a) (λ v. not (conforms g (sh a) v)) (let l : brk a < s = r .breakLow in omega arith) (r .breaks) (brk b) (λ v. not (conforms g (sh b) v)) (let l : brk b < s = q .breakLow in omega arith) (q .breaks) (st .1 .0) ∙ ext (λ v. sym (not-and (conforms g (sh a) v) (conforms g (sh b) v))) }
+        record { keepLow = omega arith; breakLow = omega arith; keeps = set-both s (keep a) (conforms g (sh a)) (r .keepLow) (r .keeps) (keep b) (conforms g (sh b)) (q .keepLow) (q .keeps) (st .0); breaks = set-either (s + 1) (breaking a) (λ v. not (conforms g (sh a) v)) (let l : breaking a < s = r .breakLow in omega arith) (r .breaks) (breaking b) (λ v. not (conforms g (sh b) v)) (let l : breaking b < s = q .breakLow in omega arith) (q .breaks) (st .1 .0) ∙ ext (λ v. sym (not-and (conforms g (sh a) v) (conforms g (sh b) v))) }
     entry-right (Entry.disj a b) z ok st =
         let r = before a (and-left (ltb a e) (ltb b e) ok) in
         let q = before b (and-right (ltb a e) (ltb b e) ok) in
-        record { keepLow = omega arith; breakLow = omega arith; keeps = set-either s (keep a) (conforms g (sh a)) (r .keepLow) (r .keeps) (keep b) (conforms g (sh b)) (q .keepLow) (q .keeps) (st .0); breaks = set-both (s + 1) (brk a) (λ v. not (conforms g (sh a) v)) (let l : brk a < s = r .breakLow in omega arith) (r .breaks) (brk b) (λ v. not (conforms g (sh b) v)) (let l : brk b < s = q .breakLow in omega arith) (q .breaks) (st .1 .0) ∙ ext (λ v. sym (not-or (conforms g (sh a) v) (conforms g (sh b) v))) }
+        record { keepLow = omega arith; breakLow = omega arith; keeps = set-either s (keep a) (conforms g (sh a)) (r .keepLow) (r .keeps) (keep b) (conforms g (sh b)) (q .keepLow) (q .keeps) (st .0); breaks = set-both (s + 1) (breaking a) (λ v. not (conforms g (sh a) v)) (let l : breaking a < s = r .breakLow in omega arith) (r .breaks) (breaking b) (λ v. not (conforms g (sh b) v)) (let l : breaking b < s = q .breakLow in omega arith) (q .breaks) (st .1 .0) ∙ ext (λ v. sym (not-or (conforms g (sh a) v) (conforms g (sh b) v))) }
     entry-right (Entry.neg a) z ok st =
         let r = before a ok in
-        record { keepLow = let l : brk a < s = r .breakLow in omega arith; breakLow = let l : keep a < s = r .keepLow in omega arith; keeps = r .breaks; breaks = r .keeps ∙ ext (λ v. sym (Bool·not-not (conforms g (sh a) v))) }
+        record { keepLow = let l : breaking a < s = r .breakLow in omega arith; breakLow = let l : keep a < s = r .keepLow in omega arith; keeps = r .breaks; breaks = r .keeps ∙ ext (λ v. sym (Bool·not-not (conforms g (sh a) v))) }
     entry-right (Entry.kind k) z ok st = right-test _ (ap (testOf cs) z) st
     entry-right (Entry.datatype t) z ok st = right-test _ (ap (testOf cs) z) st
     entry-right (Entry.lang i n) z ok st = right-test _ (ap (testOf cs) z) st
@@ -147,7 +147,7 @@ module _ (cs : List ℕ) (vs : List ℤ) (at : ℕ → Step) where
         right-count p a lo hi (before a (and-right (ltb p (pathCount cs)) (ltb a e) l)) (leb-true lo maxCount (and-left (leb lo maxCount) (upperOk cs hi) m)) st
     entry-right (Entry.all p a) z ok st =
         let r = before a (and-right (ltb p (pathCount cs)) (ltb a e) ok) in
-        record { keepLow = omega arith; breakLow = omega arith; keeps = set-every s (keep a) (conforms g (sh a)) (r .keepLow) (r .keeps) p (st .0); breaks = set-count (s + 1) (brk a) (λ v. not (conforms g (sh a) v)) (let l : brk a < s = r .breakLow in omega arith) (r .breaks) p 1 noNumber (st .1 .0) ∙ ext (λ v. sym (not-all (g .nodes) (from g (pathAt cs p) v) (conforms g (sh a)))) }
+        record { keepLow = omega arith; breakLow = omega arith; keeps = set-every s (keep a) (conforms g (sh a)) (r .keepLow) (r .keeps) p (st .0); breaks = set-count (s + 1) (breaking a) (λ v. not (conforms g (sh a) v)) (let l : breaking a < s = r .breakLow in omega arith) (r .breaks) p 1 noNumber (st .1 .0) ∙ ext (λ v. sym (not-all (g .nodes) (from g (pathAt cs p) v) (conforms g (sh a)))) }
     entry-right (Entry.equal f l) z ok st = right-two (Step.equal f l) (Step.unequal f l) _ st refl (equal-unequal cs vs (lower s) (lower (s + 1)) f l)
     entry-right (Entry.apart f l) z ok st = right-two (Step.apart f l) (Step.meet f l) _ st refl (apart-meet cs vs (lower s) (lower (s + 1)) f l)
     entry-right (Entry.closed i n) z ok st = right-two (Step.closed e) (Step.opened e) _ st (closed-set cs vs (lower s) (lower (s + 1)) e (itemsAt cs i n) (ap (linksOf cs) z)) (closed-opened cs vs (lower s) (lower (s + 1)) e (itemsAt cs i n) (ap (linksOf cs) z))

@@ -21,40 +21,40 @@ use Rattle.tables.proofs.WellFormed.{Sound}
 use Rattle.plan.specs.Steps.{Step}
 use Rattle.plan.specs.Sets.{testOf, linksOf}
 use Rattle.plan.specs.WellFormed.{testOk, closedOk, stepOk}
-use Rattle.translation.specs.Compile.{countWay, countPart, entryPart, more, made, targetStep, ruleSteps, stepsTo, stepsOf}
+use Rattle.translation.specs.Compile.{countWay, countPart, entryPart, more, made, targetStep, stepsOfRule, stepsTo, stepsOf}
 use Rattle.translation.proofs.Whole.{has-all, start, own, start-more, right, length-to, forms-first, rule-shape}
 
 -- an entry has at most four steps
-pub entry-four : (cs : List ℕ) (keep brk : ℕ → ℕ) (s e : ℕ) (x : Entry) → length (entryPart cs keep brk s e x .steps) ≤ 4
+pub entry-four : (cs : List ℕ) (keep breaking : ℕ → ℕ) (s e : ℕ) (x : Entry) → length (entryPart cs keep breaking s e x .steps) ≤ 4
 unfolding entryPart countPart countWay
-entry-four cs keep brk s e Entry.top = omega arith
-entry-four cs keep brk s e (Entry.is c) = omega arith
-entry-four cs keep brk s e (Entry.shape n) = omega arith
-entry-four cs keep brk s e (Entry.conj a b) = omega arith
-entry-four cs keep brk s e (Entry.disj a b) = omega arith
-entry-four cs keep brk s e (Entry.neg a) = omega arith
-entry-four cs keep brk s e (Entry.kind k) = omega arith
-entry-four cs keep brk s e (Entry.datatype t) = omega arith
-entry-four cs keep brk s e (Entry.lang i n) = omega arith
-entry-four cs keep brk s e (Entry.from x) = omega arith
-entry-four cs keep brk s e (Entry.above x) = omega arith
-entry-four cs keep brk s e (Entry.to x) = omega arith
-entry-four cs keep brk s e (Entry.under x) = omega arith
-entry-four cs keep brk s e (Entry.count p a lo hi) = ways (eqb lo 0) (eqb hi noNumber)
+entry-four cs keep breaking s e Entry.top = omega arith
+entry-four cs keep breaking s e (Entry.is c) = omega arith
+entry-four cs keep breaking s e (Entry.shape n) = omega arith
+entry-four cs keep breaking s e (Entry.conj a b) = omega arith
+entry-four cs keep breaking s e (Entry.disj a b) = omega arith
+entry-four cs keep breaking s e (Entry.neg a) = omega arith
+entry-four cs keep breaking s e (Entry.kind k) = omega arith
+entry-four cs keep breaking s e (Entry.datatype t) = omega arith
+entry-four cs keep breaking s e (Entry.lang i n) = omega arith
+entry-four cs keep breaking s e (Entry.from x) = omega arith
+entry-four cs keep breaking s e (Entry.above x) = omega arith
+entry-four cs keep breaking s e (Entry.to x) = omega arith
+entry-four cs keep breaking s e (Entry.under x) = omega arith
+entry-four cs keep breaking s e (Entry.count p a lo hi) = ways (eqb lo 0) (eqb hi noNumber)
   where
     ways : (z t : Bool) → length (countWay s z t p (keep a) lo hi .steps) ≤ 4
     ways true true = omega arith
     ways true false = omega arith
     ways false true = omega arith
     ways false false = omega arith
-entry-four cs keep brk s e (Entry.all p a) = omega arith
-entry-four cs keep brk s e (Entry.equal f l) = omega arith
-entry-four cs keep brk s e (Entry.apart f l) = omega arith
-entry-four cs keep brk s e (Entry.closed i n) = omega arith
-entry-four cs keep brk s e (Entry.less p l) = omega arith
-entry-four cs keep brk s e (Entry.lesseq p l) = omega arith
-entry-four cs keep brk s e (Entry.onelang p) = omega arith
-entry-four cs keep brk s e Entry.bad = omega arith
+entry-four cs keep breaking s e (Entry.all p a) = omega arith
+entry-four cs keep breaking s e (Entry.equal f l) = omega arith
+entry-four cs keep breaking s e (Entry.apart f l) = omega arith
+entry-four cs keep breaking s e (Entry.closed i n) = omega arith
+entry-four cs keep breaking s e (Entry.less p l) = omega arith
+entry-four cs keep breaking s e (Entry.lesseq p l) = omega arith
+entry-four cs keep breaking s e (Entry.onelang p) = omega arith
+entry-four cs keep breaking s e Entry.bad = omega arith
 
 module _ (cs : List ℕ) where
   no-steps : start cs 0 ≤ 4 * 0
@@ -63,7 +63,7 @@ module _ (cs : List ℕ) where
 
   pub start-four : (n : ℕ) → start cs n ≤ 4 * n
   start-four zero = no-steps
-  start-four (suc n) = omega (arith, start-four n, start-more cs n, entry-four cs (made cs n .keep) (made cs n .brk) (start cs n) n (entryAt cs [] n))
+  start-four (suc n) = omega (arith, start-four n, start-more cs n, entry-four cs (made cs n .keep) (made cs n .breaking) (start cs n) n (entryAt cs [] n))
 
   no-rules : length (stepsTo cs 0) ≤ 4 * formCount cs + 2 * 0
   unfolding stepsTo
@@ -92,8 +92,8 @@ module _ (cs : List ℕ) where
   fine-at s (x ∷ xs) h (suc i) l = ap (λ (k : ℕ). stepOk cs k (getD xs i Step.all)) (let z : s + suc i ≡ s + 1 + i = omega arith in z) ∙ fine-at (s + 1) xs (h .1) i (le-of-suc-le-suc l)
 
   -- entry e, where the earlier entries' steps are below s
-  module _ (keep brk : ℕ → ℕ) (s e : ℕ) (here : e < formCount cs) (h : (j : ℕ) → j < e → (keep j < s) × (brk j < s)) where
-    low : (a : ℕ) → ltb a e ≡ true → (keep a < s) × (brk a < s)
+  module _ (keep breaking : ℕ → ℕ) (s e : ℕ) (here : e < formCount cs) (h : (j : ℕ) → j < e → (keep j < s) × (breaking j < s)) where
+    low : (a : ℕ) → ltb a e ≡ true → (keep a < s) × (breaking a < s)
     low a l = h a (ltb-true a e l)
 
     lower : (t i j : ℕ) → i < t → j < t → (ltb i t && ltb j t) ≡ true
@@ -142,7 +142,7 @@ module _ (cs : List ℕ) where
         ways false true et = (first, (under, tt))
         ways false false et = (first, (under, (above (s + 1 + 1) (omega arith) (eqb-false hi noNumber et), (lower (s + 1 + 1 + 1) (s + 1) (s + 2) (omega arith) (omega arith), tt))))
 
-    pub entry-fine : (x : Entry) → entryAt cs [] e ≡ x → entryOk cs e x ≡ true → Fine s (entryPart cs keep brk s e x .steps)
+    pub entry-fine : (x : Entry) → entryAt cs [] e ≡ x → entryOk cs e x ≡ true → Fine s (entryPart cs keep breaking s e x .steps)
     unfolding entryPart entryOk stepOk testOf linksOf
     entry-fine Entry.top z ok = (refl, (refl, tt))
     entry-fine (Entry.is c) z ok = (ok, (ok, tt))
@@ -150,11 +150,11 @@ module _ (cs : List ℕ) where
     entry-fine (Entry.conj a b) z ok =
         let x = low a (and-left (ltb a e) (ltb b e) ok) in
         let y = low b (and-right (ltb a e) (ltb b e) ok) in
-        (lower s (keep a) (keep b) (x .0) (y .0), (lower (s + 1) (brk a) (brk b) (omega (arith, x .1)) (omega (arith, y .1)), tt))
+        (lower s (keep a) (keep b) (x .0) (y .0), (lower (s + 1) (breaking a) (breaking b) (omega (arith, x .1)) (omega (arith, y .1)), tt))
     entry-fine (Entry.disj a b) z ok =
         let x = low a (and-left (ltb a e) (ltb b e) ok) in
         let y = low b (and-right (ltb a e) (ltb b e) ok) in
-        (lower s (keep a) (keep b) (x .0) (y .0), (lower (s + 1) (brk a) (brk b) (omega (arith, x .1)) (omega (arith, y .1)), tt))
+        (lower s (keep a) (keep b) (x .0) (y .0), (lower (s + 1) (breaking a) (breaking b) (omega (arith, x .1)) (omega (arith, y .1)), tt))
     entry-fine (Entry.neg a) z ok = tt
     entry-fine (Entry.kind k) z ok = test-fine _ (ap (testOf cs) z)
     entry-fine (Entry.datatype t) z ok = test-fine _ (ap (testOf cs) z)
@@ -170,7 +170,7 @@ module _ (cs : List ℕ) where
     entry-fine (Entry.all p a) z ok =
         let x = low a (and-right (ltb p (pathCount cs)) (ltb a e) ok) in
         let o = and-left (ltb p (pathCount cs)) (ltb a e) ok in
-        (and-both (ltb p (pathCount cs)) (ltb (keep a) s) o (lt-ltb (keep a) s (x .0)), (count-fine (s + 1) p (brk a) 1 noNumber o (omega (arith, x .1)) (omega arith) high-star, tt))
+        (and-both (ltb p (pathCount cs)) (ltb (keep a) s) o (lt-ltb (keep a) s (x .0)), (count-fine (s + 1) p (breaking a) 1 noNumber o (omega (arith, x .1)) (omega arith) high-star, tt))
     entry-fine (Entry.equal f l) z ok = (ok, (ok, tt))
     entry-fine (Entry.apart f l) z ok = (ok, (ok, tt))
     entry-fine (Entry.closed i n) z ok = closed-fine _ (ap (linksOf cs) z)
@@ -190,7 +190,7 @@ module _ (cs : List ℕ) where
 
   module _ (ok : Sound cs) where
     -- the two steps of each entry below n are before entry n's
-    lows : (n : ℕ) → n ≤ formCount cs → (j : ℕ) → j < n → (made cs n .keep j < start cs n) × (made cs n .brk j < start cs n)
+    lows : (n : ℕ) → n ≤ formCount cs → (j : ℕ) → j < n → (made cs n .keep j < start cs n) × (made cs n .breaking j < start cs n)
     lows n l j lj =
         let r = right cs [] (λ k. getD (made cs n .steps) k Step.all) n (λ e le. ok .entry [] e (omega arith)) (has-all (λ k. getD (made cs n .steps) k Step.all) 0 (made cs n .steps) (λ i l. ap (λ (k : ℕ). getD (made cs n .steps) k Step.all) (let z : 0 + i ≡ i = omega arith in z))) j lj in
         (r .keepLow, r .breakLow)
@@ -198,21 +198,21 @@ module _ (cs : List ℕ) where
     made-fine : (n : ℕ) → n ≤ formCount cs → Fine 0 (made cs n .steps)
     unfolding made more
     made-fine zero l = tt
-    made-fine (suc n) l = fine-more (made cs n .steps) (own cs n .steps) (made-fine n (omega arith)) (entry-fine (made cs n .keep) (made cs n .brk) (start cs n) n (omega arith) (lows n (omega arith)) (entryAt cs [] n) refl (ok .entry [] n (omega arith)))
+    made-fine (suc n) l = fine-more (made cs n .steps) (own cs n .steps) (made-fine n (omega arith)) (entry-fine (made cs n .keep) (made cs n .breaking) (start cs n) n (omega arith) (lows n (omega arith)) (entryAt cs [] n) refl (ok .entry [] n (omega arith)))
 
     -- the two steps of a rule
-    rule-fine : (r : ℕ) → r < ruleCount cs → Fine (length (stepsTo cs r)) (ruleSteps cs r (length (stepsTo cs r)))
-    unfolding ruleSteps ruleOk stepOk ruleAt
+    rule-fine : (r : ℕ) → r < ruleCount cs → Fine (length (stepsTo cs r)) (stepsOfRule cs r (length (stepsTo cs r)))
+    unfolding stepsOfRule ruleOk stepOk ruleAt
     rule-fine r l =
         let n : ℕ = length (stepsTo cs r) in
-        let b : ℕ = made cs (formCount cs) .brk (rootAt cs (ruleShapeAt cs r)) in
+        let b : ℕ = made cs (formCount cs) .breaking (rootAt cs (ruleShapeAt cs r)) in
         let m = lows (formCount cs) (omega arith) (rootAt cs (ruleShapeAt cs r)) (ok .root (ruleShapeAt cs r) (rule-shape cs ok r l)) in
         (target-fine (ruleTargetAt cs r) (ruleOperandAt cs r) n (and-right (ltb (ruleShapeAt cs r) (shapeCount cs)) _ (ok .rule r l)), (and-both (ltb n (n + 1)) (ltb b (n + 1)) (lt-ltb n (n + 1) (omega arith)) (lt-ltb b (n + 1) (omega (arith, forms-first cs r, m .1))), tt))
 
     rules-fine : (r : ℕ) → r ≤ ruleCount cs → Fine 0 (stepsTo cs r)
     unfolding stepsTo
     rules-fine zero l = made-fine (formCount cs) (omega arith)
-    rules-fine (suc r) l = fine-more (stepsTo cs r) (ruleSteps cs r (length (stepsTo cs r))) (rules-fine r (omega arith)) (rule-fine r l)
+    rules-fine (suc r) l = fine-more (stepsTo cs r) (stepsOfRule cs r (length (stepsTo cs r))) (rules-fine r (omega arith)) (rule-fine r l)
 
     -- every step is well formed
     pub steps-fine : (k : ℕ) → k < length (stepsOf cs) → stepOk cs k (getD (stepsOf cs) k Step.all) ≡ true

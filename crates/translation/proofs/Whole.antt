@@ -24,7 +24,7 @@ use Rattle.tables.proofs.WellFormed.{Sound}
 use Rattle.tables.proofs.Decode.{shape-number}
 use Rattle.plan.specs.Steps.{Step}
 use Rattle.plan.specs.Sets.{inStep, setBy}
-use Rattle.translation.specs.Compile.{Part, entryPart, putAt, more, made, targetStep, ruleSteps, stepsTo, stepsOf, ruleStep}
+use Rattle.translation.specs.Compile.{Part, entryPart, putAt, more, made, targetStep, stepsOfRule, stepsTo, stepsOf, ruleStep}
 use Rattle.translation.proofs.Right.{Has, Sets, entry-right, set-at, set-both}
 
 -- the steps of two lists, one after the other
@@ -69,7 +69,7 @@ module _ (cs : List ℕ) where
   start n = length (made cs n .steps)
 
   abbrev pub own : ℕ → Part
-  own n = entryPart cs (made cs n .keep) (made cs n .brk) (start n) n (entryAt cs [] n)
+  own n = entryPart cs (made cs n .keep) (made cs n .breaking) (start n) n (entryAt cs [] n)
 
   pub start-more : (n : ℕ) → start (suc n) ≡ start n + length (own n .steps)
   unfolding made more
@@ -81,13 +81,13 @@ module _ (cs : List ℕ) where
     shapes n = below Shape.top (λ e at. shapeOf cs (entryAt cs vs e) at) n
 
     abbrev pub RightAt : ℕ → ℕ → Type 0
-    RightAt n e = Sets cs vs at (start n) (made cs n .keep e) (made cs n .brk e) (conforms (graphAt cs vs) (shapeAt cs vs e))
+    RightAt n e = Sets cs vs at (start n) (made cs n .keep e) (made cs n .breaking e) (conforms (graphAt cs vs) (shapeAt cs vs e))
 
     -- V makes no difference to the steps
-    own-free : (n : ℕ) → entryPart cs (made cs n .keep) (made cs n .brk) (start n) n (entryAt cs vs n) ≡ own n
+    own-free : (n : ℕ) → entryPart cs (made cs n .keep) (made cs n .breaking) (start n) n (entryAt cs vs n) ≡ own n
     unfolding entryPart entryAt entryOf
     own-free n =
-        let part : Entry → Part = entryPart cs (made cs n .keep) (made cs n .brk) (start n) n in
+        let part : Entry → Part = entryPart cs (made cs n .keep) (made cs n .breaking) (start n) n in
         let list : ℤ → List Entry = byCode (formFirstAt cs n) (formSecondAt cs n) (formThirdAt cs n) (formFourthAt cs n) in
         sym (List·getD-map part (list (limitAt vs n)) (formCodeAt cs n) Entry.bad) ∙ List·getD-map part (list (limitAt [] n)) (formCodeAt cs n) Entry.bad
 
@@ -96,17 +96,17 @@ module _ (cs : List ℕ) where
     unfolding made more shapeAt
     right-more n ok st ih e l = ⊎-elim here earlier (eq-or-lt-of-le (le-of-suc-le-suc l))
       where
-        new : Sets cs vs at (start n + length (own n .steps)) (own n .keep) (own n .brk) (conforms (graphAt cs vs) (shapeOf cs (entryAt cs vs n) (shapes n)))
+        new : Sets cs vs at (start n + length (own n .steps)) (own n .keep) (own n .breaking) (conforms (graphAt cs vs) (shapeOf cs (entryAt cs vs n) (shapes n)))
         new =
-            subst (λ (x : Part). Has at (start n) (x .steps) → Sets cs vs at (start n + length (x .steps)) (x .keep) (x .brk) (conforms (graphAt cs vs) (shapeOf cs (entryAt cs vs n) (shapes n)))) (own-free n)
-            (entry-right cs vs at (made cs n .keep) (made cs n .brk) (start n) n (shapes n) (λ j lj. subst (λ (φ : Shape). Sets cs vs at (start n) (made cs n .keep j) (made cs n .brk j) (conforms (graphAt cs vs) φ)) (sym (below-number Shape.top (λ e at. shapeOf cs (entryAt cs vs e) at) n j lj)) (ih j lj)) (entryAt cs vs n) refl ok)
+            subst (λ (x : Part). Has at (start n) (x .steps) → Sets cs vs at (start n + length (x .steps)) (x .keep) (x .breaking) (conforms (graphAt cs vs) (shapeOf cs (entryAt cs vs n) (shapes n)))) (own-free n)
+            (entry-right cs vs at (made cs n .keep) (made cs n .breaking) (start n) n (shapes n) (λ j lj. subst (λ (φ : Shape). Sets cs vs at (start n) (made cs n .keep j) (made cs n .breaking j) (conforms (graphAt cs vs) φ)) (sym (below-number Shape.top (λ e at. shapeOf cs (entryAt cs vs e) at) n j lj)) (ih j lj)) (entryAt cs vs n) refl ok)
             (has-rest at (made cs n .steps) (own n .steps) st)
 
         here : e ≡ n → RightAt (suc n) e
-        here q = moved cs vs at (start n + length (own n .steps)) (start (suc n)) _ _ _ _ _ _ new (le-of-eq (sym (start-more n))) (put-same (made cs n .keep) n _ e q) (put-same (made cs n .brk) n _ e q) (ap (conforms (graphAt cs vs)) (sym (shape-number cs n vs) ∙ ap (shapeAt cs vs) (sym q)))
+        here q = moved cs vs at (start n + length (own n .steps)) (start (suc n)) _ _ _ _ _ _ new (le-of-eq (sym (start-more n))) (put-same (made cs n .keep) n _ e q) (put-same (made cs n .breaking) n _ e q) (ap (conforms (graphAt cs vs)) (sym (shape-number cs n vs) ∙ ap (shapeAt cs vs) (sym q)))
 
         earlier : e < n → RightAt (suc n) e
-        earlier l′ = moved cs vs at (start n) (start (suc n)) _ _ _ _ _ _ (ih e l′) (let z : start (suc n) ≡ start n + length (own n .steps) = start-more n in omega arith) (put-other (made cs n .keep) n _ e (λ q. let z : ⊥ = omega arith in z)) (put-other (made cs n .brk) n _ e (λ q. let z : ⊥ = omega arith in z)) refl
+        earlier l′ = moved cs vs at (start n) (start (suc n)) _ _ _ _ _ _ (ih e l′) (let z : start (suc n) ≡ start n + length (own n .steps) = start-more n in omega arith) (put-other (made cs n .keep) n _ e (λ q. let z : ⊥ = omega arith in z)) (put-other (made cs n .breaking) n _ e (λ q. let z : ⊥ = omega arith in z)) refl
 
     -- every entry below n is right in a plan that has its steps
     pub right : (n : ℕ) → ((e : ℕ) → e < n → entryOk cs e (entryAt cs vs e) ≡ true) → Has at 0 (made cs n .steps) → (e : ℕ) → e < n → RightAt n e
@@ -116,8 +116,8 @@ module _ (cs : List ℕ) where
 
   -- the steps of the rules come after
   pub length-to : (r : ℕ) → length (stepsTo cs (suc r)) ≡ length (stepsTo cs r) + 2
-  unfolding stepsTo ruleSteps
-  length-to r = length-append (stepsTo cs r) (ruleSteps cs r (length (stepsTo cs r)))
+  unfolding stepsTo stepsOfRule
+  length-to r = length-append (stepsTo cs r) (stepsOfRule cs r (length (stepsTo cs r)))
 
   pub forms-first : (r : ℕ) → start (formCount cs) ≤ length (stepsTo cs r)
   unfolding stepsTo
@@ -136,7 +136,7 @@ module _ (cs : List ℕ) where
   has-to : (at : ℕ → Step) (n r : ℕ) → r ≤ n → Has at 0 (stepsTo cs n) → Has at 0 (stepsTo cs r)
   unfolding stepsTo
   has-to at zero r l h = subst (λ (k : ℕ). Has at 0 (stepsTo cs k)) (let z : 0 ≡ r = omega arith in z) h
-  has-to at (suc n) r l h = ⊎-elim (λ e. subst (λ (k : ℕ). Has at 0 (stepsTo cs k)) (sym e) h) (λ l′. has-to at n r (le-of-suc-le-suc l′) (has-left at 0 (stepsTo cs n) (ruleSteps cs n (length (stepsTo cs n))) h)) (eq-or-lt-of-le l)
+  has-to at (suc n) r l h = ⊎-elim (λ e. subst (λ (k : ℕ). Has at 0 (stepsTo cs k)) (sym e) h) (λ l′. has-to at n r (le-of-suc-le-suc l′) (has-left at 0 (stepsTo cs n) (stepsOfRule cs n (length (stepsTo cs n))) h)) (eq-or-lt-of-le l)
 
   target-set : (vs : List ℤ) (at : ℕ → Step) (k : ℕ) (t : Target) → at k ≡ targetStep t → setBy cs vs at k ≡ selects (graphAt cs vs) t
   unfolding targetStep inStep conforms selects
@@ -162,12 +162,12 @@ module _ (cs : List ℕ) where
     entry-sets e l = right vs at (formCount cs) (ok .entry vs) (has-to at (ruleCount cs) 0 (omega arith) st) e l
 
     pub rule-set : (r : ℕ) → r < ruleCount cs → setBy cs vs at (ruleStep cs r) ≡ violates (graphAt cs vs) (schemaAt cs vs) (ruleAt cs r)
-    unfolding stepsOf stepsTo ruleSteps ruleStep violates ruleAt
+    unfolding stepsOf stepsTo stepsOfRule ruleStep violates ruleAt
     rule-set r l =
         let h : Has at 0 (stepsTo cs (suc r)) = has-to at (ruleCount cs) (suc r) l st in
         let n : ℕ = length (stepsTo cs r) in
-        let two : Has at (length (stepsTo cs r)) (ruleSteps cs r (length (stepsTo cs r))) = has-rest at (stepsTo cs r) (ruleSteps cs r (length (stepsTo cs r))) h in
+        let two : Has at (length (stepsTo cs r)) (stepsOfRule cs r (length (stepsTo cs r))) = has-rest at (stepsTo cs r) (stepsOfRule cs r (length (stepsTo cs r))) h in
         let root : ℕ = rootAt cs (ruleShapeAt cs r) in
         let q = entry-sets root (ok .root (ruleShapeAt cs r) (rule-shape ok r l)) in
-        set-both cs vs at (n + 1) n (selects (graphAt cs vs) (ruleAt cs r .target)) (omega arith) (target-set vs at n (ruleAt cs r .target) (two .0)) (made cs (formCount cs) .brk root) (λ v. not (conforms (graphAt cs vs) (shapeAt cs vs root) v)) (omega (arith, q .breakLow, forms-first r)) (q .breaks) (two .1 .0)
+        set-both cs vs at (n + 1) n (selects (graphAt cs vs) (ruleAt cs r .target)) (omega arith) (target-set vs at n (ruleAt cs r .target) (two .0)) (made cs (formCount cs) .breaking root) (λ v. not (conforms (graphAt cs vs) (shapeAt cs vs root) v)) (omega (arith, q .breakLow, forms-first r)) (q .breaks) (two .1 .0)
         ∙ ap (λ (φ : Shape). λ v. selects (graphAt cs vs) (ruleAt cs r .target) v && not (conforms (graphAt cs vs) φ v)) (sym (schema-at vs (ruleShapeAt cs r) (rule-shape ok r l)))

@@ -17,17 +17,17 @@ use Rattle.plan.specs.Layout.{planCells}
 pub record Part : Type 0 where
   pub steps : List Step
   pub keep : ℕ
-  pub brk : ℕ
+  pub breaking : ℕ
 
 -- no step of its own: the numbers of two earlier ones
 abbrev pub taken : ℕ → ℕ → Part
-taken k b = record { steps = []; keep = k; brk = b }
+taken k b = record { steps = []; keep = k; breaking = b }
 
 -- s: the number of the next step
 module _ (s : ℕ) where
   -- a keeping step and a breaking one
   abbrev pub two : Step → Step → Part
-  two x y = record { steps = x ∷ y ∷ []; keep = s; brk = s + 1 }
+  two x y = record { steps = x ∷ y ∷ []; keep = s; breaking = s + 1 }
 
   -- a count of the members of step j and how it breaks, by whether LO is 0 and whether HI is `*`: never; above HI; below LO;
   -- below LO or above HI
@@ -38,22 +38,22 @@ module _ (s : ℕ) where
   countWay false false p j lo hi = record {
     steps = Step.count p j lo hi ∷ Step.count p j 0 (lo - 1) ∷ Step.count p j (hi + 1) noNumber ∷ Step.either (s + 1) (s + 2) ∷ [];
     keep = s;
-    brk = s + 3;
+    breaking = s + 3;
   }
 
   unfoldable pub countPart : ℕ → ℕ → ℕ → ℕ → Part
   countPart p j lo hi = countWay (eqb lo 0) (eqb hi noNumber) p j lo hi
 
--- keep and brk: the two step numbers of each earlier entry; s: the number of the next step; e: the entry's own number
-module _ (cs : List ℕ) (keep brk : ℕ → ℕ) (s e : ℕ) where
+-- keep and breaking: the two step numbers of each earlier entry; s: the number of the next step; e: the entry's own number
+module _ (cs : List ℕ) (keep breaking : ℕ → ℕ) (s e : ℕ) where
   -- a line for each row of the table; `not` swaps its child's two, and `shape` takes that shape's
   unfoldable pub entryPart : Entry → Part
   entryPart Entry.top = two s Step.all Step.none
   entryPart (Entry.is c) = two s (Step.is c) (Step.isnot c)
-  entryPart (Entry.shape n) = taken (keep (rootAt cs n)) (brk (rootAt cs n))
-  entryPart (Entry.conj a b) = two s (Step.both (keep a) (keep b)) (Step.either (brk a) (brk b))
-  entryPart (Entry.disj a b) = two s (Step.either (keep a) (keep b)) (Step.both (brk a) (brk b))
-  entryPart (Entry.neg a) = taken (brk a) (keep a)
+  entryPart (Entry.shape n) = taken (keep (rootAt cs n)) (breaking (rootAt cs n))
+  entryPart (Entry.conj a b) = two s (Step.both (keep a) (keep b)) (Step.either (breaking a) (breaking b))
+  entryPart (Entry.disj a b) = two s (Step.either (keep a) (keep b)) (Step.both (breaking a) (breaking b))
+  entryPart (Entry.neg a) = taken (breaking a) (keep a)
   entryPart (Entry.kind k) = two s (Step.test e) (Step.untest e)
   entryPart (Entry.datatype t) = two s (Step.test e) (Step.untest e)
   entryPart (Entry.lang i n) = two s (Step.test e) (Step.untest e)
@@ -62,7 +62,7 @@ module _ (cs : List ℕ) (keep brk : ℕ → ℕ) (s e : ℕ) where
   entryPart (Entry.to x) = two s (Step.test e) (Step.untest e)
   entryPart (Entry.under x) = two s (Step.test e) (Step.untest e)
   entryPart (Entry.count p a lo hi) = countPart s p (keep a) lo hi
-  entryPart (Entry.all p a) = two s (Step.every p (keep a)) (Step.count p (brk a) 1 noNumber)
+  entryPart (Entry.all p a) = two s (Step.every p (keep a)) (Step.count p (breaking a) 1 noNumber)
   entryPart (Entry.equal f l) = two s (Step.equal f l) (Step.unequal f l)
   entryPart (Entry.apart f l) = two s (Step.apart f l) (Step.meet f l)
   entryPart (Entry.closed i n) = two s (Step.closed e) (Step.opened e)
@@ -75,7 +75,7 @@ module _ (cs : List ℕ) (keep brk : ℕ → ℕ) (s e : ℕ) where
 pub record Made : Type 0 where
   pub steps : List Step
   pub keep : ℕ → ℕ
-  pub brk : ℕ → ℕ
+  pub breaking : ℕ → ℕ
 
 -- f with x at n
 unfoldable pub putAt : (ℕ → ℕ) → ℕ → ℕ → ℕ → ℕ
@@ -83,12 +83,12 @@ putAt f n x j = cond (eqb j n) x (f j)
 
 -- the part of entry n is added
 unfoldable pub more : Made → ℕ → Part → Made
-more m n x = record { steps = m .steps ++ x .steps; keep = putAt (m .keep) n (x .keep); brk = putAt (m .brk) n (x .brk) }
+more m n x = record { steps = m .steps ++ x .steps; keep = putAt (m .keep) n (x .keep); breaking = putAt (m .breaking) n (x .breaking) }
 
 -- the entries below n; V is not looked at
 unfoldable pub made : List ℕ → ℕ → Made
-made cs zero = record { steps = []; keep = λ j. 0; brk = λ j. 0 }
-made cs (suc n) = more (made cs n) n (entryPart cs (made cs n .keep) (made cs n .brk) (length (made cs n .steps)) n (entryAt cs [] n))
+made cs zero = record { steps = []; keep = λ j. 0; breaking = λ j. 0 }
+made cs (suc n) = more (made cs n) n (entryPart cs (made cs n .keep) (made cs n .breaking) (length (made cs n .steps)) n (entryAt cs [] n))
 
 unfoldable pub targetStep : Target → Step
 targetStep (targetNode c) = Step.is c
@@ -97,13 +97,13 @@ targetStep (objectsOf l) = Step.into l
 targetStep (targetClass c) = Step.typed c
 
 -- the two steps of rule r; s is the number of the first
-unfoldable pub ruleSteps : List ℕ → ℕ → ℕ → List Step
-ruleSteps cs r s = targetStep (ruleAt cs r .target) ∷ Step.both s (made cs (formCount cs) .brk (rootAt cs (ruleShapeAt cs r))) ∷ []
+unfoldable pub stepsOfRule : List ℕ → ℕ → ℕ → List Step
+stepsOfRule cs r s = targetStep (ruleAt cs r .target) ∷ Step.both s (made cs (formCount cs) .breaking (rootAt cs (ruleShapeAt cs r))) ∷ []
 
 -- the steps of all entries and of the rules below r
 unfoldable pub stepsTo : List ℕ → ℕ → List Step
 stepsTo cs zero = made cs (formCount cs) .steps
-stepsTo cs (suc r) = stepsTo cs r ++ ruleSteps cs r (length (stepsTo cs r))
+stepsTo cs (suc r) = stepsTo cs r ++ stepsOfRule cs r (length (stepsTo cs r))
 
 -- all steps of the plan, and the step whose set is the list of rule r: its Both
 unfoldable pub stepsOf : List ℕ → List Step

@@ -18,13 +18,13 @@ use Rattle.validation.specs.Lent.{Lent, validateLong}
 use Rattle.validation.specs.Whole.{left, after}
 use Rattle.validation.proofs.Books.{few-rules}
 use Rattle.validation.proofs.Whole.{Room, room}
-use Rattle.report.specs.Report.{report, joined}
+use Rattle.report.specs.Report.{report, partsJoined}
 use Rattle.report.specs.Pages.{partIn}
 use Rattle.report.proofs.Book.{holds-rows, report-read}
 
 -- the parts by the slices m, one after the other; n rules
 abbrev pub written : Lent → ℕ → List ℕ
-written m n = joined (partIn (m .names) (take cellCount (m .cells)) (m .lists) (m .lengths)) (n + 2)
+written m n = partsJoined (partIn (m .names) (take cellCount (m .cells)) (m .lists) (m .lengths)) (n + 2)
 
 pub program-report : (s : List ℕ) (l : Lent) → validateLong l ≡ true → (b : Book) → valid b ≡ true → render b ≡ s → written (after s l) (length (rules b)) ≡ report b
 unfolding after
@@ -33,5 +33,5 @@ program-report s l e b v r =
     (let fits : Room l = room l e in
     let few = few-rules b (valid-admissible b v) in
     let m : Lent = left (value b) l in
-    ap (λ c. joined (partIn (m .names) c (m .lists) (m .lengths)) (length (rules b) + 2)) (take-at (encodeCells b) (drop cellCount (l .cells)) cellCount (cells-length b))
+    ap (λ c. partsJoined (partIn (m .names) c (m .lists) (m .lengths)) (length (rules b) + 2)) (take-at (encodeCells b) (drop cellCount (l .cells)) cellCount (cells-length b))
     ∙ report-read b v (m .lists) (m .lengths) (holds-rows b v (l .lists) (l .lengths) (omega (arith, fits .lists, few)) (omega (arith, fits .lengths, few))) (drop nameCount (l .names)))

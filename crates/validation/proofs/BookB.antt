@@ -12,12 +12,12 @@ use Rattle.encoding.specs.Rows.{nodeRow, pathRow, plainRow, formRow, targetCode
 use Rattle.encoding.specs.Flatten.{addPath, withEnd, endNumber, addShape, addShapes, rootsOf}
 use Rattle.encoding.specs.Encode.{entriesOf, countsOf, contentOf, encodeCells}
 use Rattle.plan.specs.Steps.{Step}
-use Rattle.translation.specs.Compile.{entryPart, putAt, more, made, targetStep, ruleSteps, stepsTo, stepsOf, ruleStep}
+use Rattle.translation.specs.Compile.{entryPart, putAt, more, made, targetStep, stepsOfRule, stepsTo, stepsOf, ruleStep}
 
 pub plan-B : stepsOf (encodeCells bookB) ≡ Step.equal 2 1 ∷ Step.unequal 2 1 ∷ Step.from 2 ∷ Step.both 2 1 ∷ []
-unfolding valuesFrom pad flat builtIn joins newNames newTerms newTriples newShapes newRules collect names rules pathEntries endEntries formEntries shapePaths testItems listItems sumOver formsIn pathsIn itemsIn entryOf entryAt targetOf ruleAt nodeRow pathRow plainRow formRow targetCode targetOperand addPath withEnd endNumber addShape addShapes rootsOf entriesOf countsOf contentOf encodeCells entryPart putAt more made targetStep ruleSteps stepsTo stepsOf
+unfolding valuesFrom pad flat builtIn joins newNames newTerms newTriples newShapes newRules collect names rules pathEntries endEntries formEntries shapePaths testItems listItems sumOver formsIn pathsIn itemsIn entryOf entryAt targetOf ruleAt nodeRow pathRow plainRow formRow targetCode targetOperand addPath withEnd endNumber addShape addShapes rootsOf entriesOf countsOf contentOf encodeCells entryPart putAt more made targetStep stepsOfRule stepsTo stepsOf
 plan-B = refl
 
 pub rule-B : ruleStep (encodeCells bookB) 0 ≡ 3
-unfolding valuesFrom pad flat builtIn joins newNames newTerms newTriples newShapes newRules collect names rules pathEntries endEntries formEntries shapePaths testItems listItems sumOver formsIn pathsIn itemsIn entryOf entryAt targetOf ruleAt nodeRow pathRow plainRow formRow targetCode targetOperand addPath withEnd endNumber addShape addShapes rootsOf entriesOf countsOf contentOf encodeCells entryPart putAt more made targetStep ruleSteps stepsTo ruleStep
+unfolding valuesFrom pad flat builtIn joins newNames newTerms newTriples newShapes newRules collect names rules pathEntries endEntries formEntries shapePaths testItems listItems sumOver formsIn pathsIn itemsIn entryOf entryAt targetOf ruleAt nodeRow pathRow plainRow formRow targetCode targetOperand addPath withEnd endNumber addShape addShapes rootsOf entriesOf countsOf contentOf encodeCells entryPart putAt more made targetStep stepsOfRule stepsTo ruleStep
 rule-B = refl

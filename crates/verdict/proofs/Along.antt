@@ -27,14 +27,14 @@ use Rattle.stepsets.specs.declared.Condition.the-variants.{Count, Every, Equal,
 use Rattle.stepsets.proofs.Conditions.{one-tagged}
 use Rattle.stepsets.proofs.Rows.{ends-low}
 use Rattle.verdict.specs.Memo.{yesPlace, Ready}
-use Rattle.verdict.specs.Parts.{partsCode, firstPart, PartsKnown, Tells, Enough}
+use Rattle.verdict.specs.Parts.{partsCode, firstPart, PartsKnown, ConformingSet, Enough}
 use Rattle.verdict.proofs.Parts.{first-by, parts-by, parts-lower}
 use Rattle.verdict.proofs.Settling.{entry-lt}
 use Rattle.verdict.proofs.Holds.{holds-count, holds-all}
 
 module _ {cs index : List ℕ} {vs : List ℤ} {memo : List ℕ} {e : ℕ} (r : Ready cs index vs memo e) where
   -- the set of the nodes that have p tells, where p does
-  tells : (p : ℕ → Bool) {ws : List ℕ} → ws ≡ nodesOf p (nodeCount cs) → ((v : ℕ) → v < nodeCount cs → PartsKnown cs e memo v → p v ≡ conforms (graphAt cs vs) (shapeAt cs vs e) v) → Tells cs vs memo e ws
+  tells : (p : ℕ → Bool) {ws : List ℕ} → ws ≡ nodesOf p (nodeCount cs) → ((v : ℕ) → v < nodeCount cs → PartsKnown cs e memo v → p v ≡ conforms (graphAt cs vs) (shapeAt cs vs e) v) → ConformingSet cs vs memo e ws
   unfolding nodesOf
   tells p ew h v l k = has-of (λ v. ltb v (nodeCount cs) && p v) 16 ew v (omega (arith, nodes-le cs (r .tables))) ∙ ap (λ (b : Bool). b && p v) (lt-ltb v (nodeCount cs) l) ∙ h v l k
 
@@ -80,14 +80,14 @@ module _ {cs index : List ℕ} {vs : List ℤ} {memo : List ℕ} {e : ℕ} (r : 
       abbrev onPath : Condition → ℕ → Bool
       onPath condition v = holdsOf cs vs condition (from (graphAt cs vs) (pathAt cs p) v) (has (drop (16 * j) memo)) v
 
-      pub count-tells : {lo hi : ℕ} → lo ≡ formThirdAt cs e → hi ≡ formFourthAt cs e → formCodeAt cs e ≡ 13 → {ws : List ℕ} → ws ≡ nodesOf (onPath (Count lo hi)) (nodeCount cs) → Tells cs vs memo e ws
+      pub count-tells : {lo hi : ℕ} → lo ≡ formThirdAt cs e → hi ≡ formFourthAt cs e → formCodeAt cs e ≡ 13 → {ws : List ℕ} → ws ≡ nodesOf (onPath (Count lo hi)) (nodeCount cs) → ConformingSet cs vs memo e ws
       unfolding holdsOf graphAt
       count-tells {lo} {hi} el eh q ew = tells (onPath (Count lo hi)) ew λ v l k.
           (λ i. within (el i) (upperOf (eh i)) (size (λ w. ends (nodeCount cs) (triplesAt cs) (pathAt cs (ep i)) v w && has (drop (16 * j) memo) w) maxNodes))
           ∙ ap (within (formThirdAt cs e) (upperOf (formFourthAt cs e))) (part-size 13 q (first-by cs e 13 q) j ej v l)
           ∙ holds-count (enough v l k) (firstPart cs e) refl refl q
 
-      pub all-tells : formCodeAt cs e ≡ 14 → {ws : List ℕ} → ws ≡ nodesOf (onPath Every) (nodeCount cs) → Tells cs vs memo e ws
+      pub all-tells : formCodeAt cs e ≡ 14 → {ws : List ℕ} → ws ≡ nodesOf (onPath Every) (nodeCount cs) → ConformingSet cs vs memo e ws
       unfolding holdsOf graphAt subset
       all-tells q ew = tells (onPath Every) ew λ v l k.
           ap (λ (p : ℕ). every (λ w. ends (nodeCount cs) (triplesAt cs) (pathAt cs p) v w ⇒ has (drop (16 * j) memo) w) (nodeCount cs)) ep
@@ -104,11 +104,11 @@ module _ {cs index : List ℕ} {vs : List ℤ} {memo : List ℕ} {e : ℕ} (r : 
       unfolding graphAt
       by-operands condition v = λ i. holdsOf cs vs condition (endsOf (nodeCount cs) (triplesAt cs) (endAt cs (ep i)) v) (ends (nodeCount cs) (triplesAt cs) (predicate (el i)) v) v
 
-      pub equal-tells : formCodeAt cs e ≡ 15 → {ws : List ℕ} → ws ≡ nodesOf (onEnds Equal) (nodeCount cs) → Tells cs vs memo e ws
+      pub equal-tells : formCodeAt cs e ≡ 15 → {ws : List ℕ} → ws ≡ nodesOf (onEnds Equal) (nodeCount cs) → ConformingSet cs vs memo e ws
       unfolding holdsOf entryOf shapeOf conforms graphAt
       equal-tells q ew = tells (onEnds Equal) ew (λ v m k. by-operands Equal v ∙ conforms-by cs (r .tables) vs e (r .entry) 15 q v)
 
-      pub apart-tells : formCodeAt cs e ≡ 16 → {ws : List ℕ} → ws ≡ nodesOf (onEnds Apart) (nodeCount cs) → Tells cs vs memo e ws
+      pub apart-tells : formCodeAt cs e ≡ 16 → {ws : List ℕ} → ws ≡ nodesOf (onEnds Apart) (nodeCount cs) → ConformingSet cs vs memo e ws
       unfolding holdsOf entryOf shapeOf conforms graphAt
       apart-tells q ew = tells (onEnds Apart) ew (λ v m k. by-operands Apart v ∙ conforms-by cs (r .tables) vs e (r .entry) 16 q v)
 
@@ -117,15 +117,15 @@ module _ {cs index : List ℕ} {vs : List ℤ} {memo : List ℕ} {e : ℕ} (r : 
       unfolding endsOf
       on-path condition v h = by-operands condition v ∙ ap (λ (x : End). holdsOf cs vs condition (endsOf (nodeCount cs) (triplesAt cs) x v) (ends (nodeCount cs) (triplesAt cs) (predicate (formSecondAt cs e)) v) v) (path-along cs (r .tables) vs e (r .entry) h)
 
-      pub less-tells : formCodeAt cs e ≡ 18 → {ws : List ℕ} → ws ≡ nodesOf (onEnds Less) (nodeCount cs) → Tells cs vs memo e ws
+      pub less-tells : formCodeAt cs e ≡ 18 → {ws : List ℕ} → ws ≡ nodesOf (onEnds Less) (nodeCount cs) → ConformingSet cs vs memo e ws
       unfolding holdsOf entryOf shapeOf conforms graphAt
       less-tells q ew = tells (onEnds Less) ew (λ v m k. on-path Less v (less-path cs (r .tables) vs e (r .entry) q) ∙ conforms-by cs (r .tables) vs e (r .entry) 18 q v)
 
-      pub lesseq-tells : formCodeAt cs e ≡ 19 → {ws : List ℕ} → ws ≡ nodesOf (onEnds LessEq) (nodeCount cs) → Tells cs vs memo e ws
+      pub lesseq-tells : formCodeAt cs e ≡ 19 → {ws : List ℕ} → ws ≡ nodesOf (onEnds LessEq) (nodeCount cs) → ConformingSet cs vs memo e ws
       unfolding holdsOf entryOf shapeOf conforms graphAt
       lesseq-tells q ew = tells (onEnds LessEq) ew (λ v m k. on-path LessEq v (lesseq-path cs (r .tables) vs e (r .entry) q) ∙ conforms-by cs (r .tables) vs e (r .entry) 19 q v)
 
-    pub lang-tells : formCodeAt cs e ≡ 20 → {ws : List ℕ} → ws ≡ nodesOf (λ v. holdsOf cs vs OneLang (from (graphAt cs vs) (pathAt cs p) v) (tagged cs) v) (nodeCount cs) → Tells cs vs memo e ws
+    pub lang-tells : formCodeAt cs e ≡ 20 → {ws : List ℕ} → ws ≡ nodesOf (λ v. holdsOf cs vs OneLang (from (graphAt cs vs) (pathAt cs p) v) (tagged cs) v) (nodeCount cs) → ConformingSet cs vs memo e ws
     unfolding entryOf shapeOf conforms graphAt
     lang-tells q ew = tells (λ v. holdsOf cs vs OneLang (ends (nodeCount cs) (triplesAt cs) (pathAt cs p) v) (tagged cs) v) ew (λ v m k.
         one-tagged cs vs (ends (nodeCount cs) (triplesAt cs) (pathAt cs p) v) v

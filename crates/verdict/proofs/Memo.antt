@@ -17,7 +17,7 @@ use Rattle.model.specs.Shapes.{conforms}
 use Rattle.model.specs.Limits.{maxNodes, maxForms}
 use Rattle.tables.specs.Layout.{nodeCount}
 use Rattle.tables.specs.Decode.{graphAt, shapeAt}
-use Rattle.verdict.specs.Memo.{yesPlace, noPlace, settled, Right, memoCount}
+use Rattle.verdict.specs.Memo.{yesPlace, noPlace, settled, MemoRight, memoCount}
 
 -- ---- words with one number more
 within : (ws : List ℕ) (m : ℕ) → has ws m ≡ true → m < 64 * length ws
@@ -47,7 +47,7 @@ settled-grows before after e v g h = ⊎-elim
 
 module _ (cs : List ℕ) (vs : List ℤ) where
   -- what is known is the verdict
-  pub known-right : (memo : List ℕ) (e v : ℕ) → Right cs vs memo → v < maxNodes → settled memo e v ≡ true → has memo (yesPlace e v) ≡ conforms (graphAt cs vs) (shapeAt cs vs e) v
+  pub known-right : (memo : List ℕ) (e v : ℕ) → MemoRight cs vs memo → v < maxNodes → settled memo e v ≡ true → has memo (yesPlace e v) ≡ conforms (graphAt cs vs) (shapeAt cs vs e) v
   unfolding settled
   known-right memo e v r l h = ⊎-elim (λ a. a ∙ sym (r .yes e v l a)) (λ a. no a (has memo (yesPlace e v)) refl ∙ sym (r .no e v l a)) (or-cases (has memo (yesPlace e v)) (has memo (noPlace e v)) h)
     where
@@ -56,7 +56,7 @@ module _ (cs : List ℕ) (vs : List ℤ) where
       no a false q = refl
 
   -- nothing is known
-  pub right-none : (k : ℕ) → Right cs vs (replicate k 0)
+  pub right-none : (k : ℕ) → MemoRight cs vs (replicate k 0)
   right-none k = record {
     low = λ e v l h. absurd (never-both h (has-zeros k (yesPlace e v)));
     yes = λ e v l h. absurd (never-both h (has-zeros k (yesPlace e v)));
@@ -64,7 +64,7 @@ module _ (cs : List ℕ) (vs : List ℤ) where
   }
 
   -- one verdict more
-  module _ (memo new : List ℕ) (e v : ℕ) (b : Bool) (r : Right cs vs memo) (l : v < nodeCount cs) (room : nodeCount cs ≤ maxNodes) (eb : b ≡ conforms (graphAt cs vs) (shapeAt cs vs e) v) (en : new ≡ with memo (cond b (yesPlace e v) (noPlace e v))) where
+  module _ (memo new : List ℕ) (e v : ℕ) (b : Bool) (r : MemoRight cs vs memo) (l : v < nodeCount cs) (room : nodeCount cs ≤ maxNodes) (eb : b ≡ conforms (graphAt cs vs) (shapeAt cs vs e) v) (en : new ≡ with memo (cond b (yesPlace e v) (noPlace e v))) where
     -- a number of the memo afterwards: an old one, or the new one
     old-or-new : (m : ℕ) → has new m ≡ true → (has memo m ≡ true) ⊎ (m ≡ cond b (yesPlace e v) (noPlace e v))
     old-or-new m h = has-with memo (cond b (yesPlace e v) (noPlace e v)) m (ap (λ (ws : List ℕ). has ws m) (sym en) ∙ h)
@@ -81,7 +81,7 @@ module _ (cs : List ℕ) (vs : List ℤ) where
     at : {f w : ℕ} {c : Bool} → f ≡ e → w ≡ v → b ≡ c → conforms (graphAt cs vs) (shapeAt cs vs f) w ≡ c
     at p q h = ap₂ (λ (f w : ℕ). conforms (graphAt cs vs) (shapeAt cs vs f) w) p q ∙ sym eb ∙ h
 
-    pub right-more : Right cs vs new
+    pub right-more : MemoRight cs vs new
     right-more = record {
       low = λ f w k h. ⊎-elim (λ a. r .low f w k a) (λ m. let n = new-yes f w k b refl m in subst (λ (x : ℕ). x < nodeCount cs) (sym (n .1)) l) (old-or-new (yesPlace f w) h);
       yes = λ f w k h. ⊎-elim (λ a. r .yes f w k a) (λ m. let n = new-yes f w k b refl m in at (n .0) (n .1) (n .2)) (old-or-new (yesPlace f w) h);

@@ -20,7 +20,7 @@ use Rattle.tables.specs.Decode.{graphAt, shapeAt}
 use Rattle.conditions.proofs.Members.{Passed, passed-none, passed-more, passed-all}
 use Rattle.paths.specs.Facts.{Tables}
 use Rattle.entries.proofs.Codes.{nodes-le, sound-of}
-use Rattle.verdict.specs.Memo.{yesPlace, noPlace, settled, Right, Ready, Settled, memoCount}
+use Rattle.verdict.specs.Memo.{yesPlace, noPlace, settled, MemoRight, Ready, Settled, memoCount}
 use Rattle.verdict.specs.Parts.{firstPart, secondPart, looksAt, PartsKnown}
 use Rattle.verdict.proofs.Memo.{with-new, settled-grows, known-right, right-none, right-more, grows-more, settled-more}
 
@@ -28,7 +28,7 @@ use Rattle.verdict.proofs.Memo.{with-new, settled-grows, known-right, r
 pub record Filling (cs : List ℕ) (vs : List ℤ) (start memo : List ℕ) (e : ℕ) (nodes : List ℕ) (n v : ℕ) : Type 0 where
   pub count : n ≡ nodeCount cs
   pub size : length memo ≡ memoCount
-  pub right : Right cs vs memo
+  pub right : MemoRight cs vs memo
   pub grows : (m : ℕ) → has start m ≡ true → has memo m ≡ true
   pub passed : Passed (has nodes) (settled memo e) n v
 

@@ -29,7 +29,7 @@ unfoldable pub settled : List ℕ → ℕ → ℕ → Bool
 settled memo e v = has memo (yesPlace e v) || has memo (noPlace e v)
 
 -- what is known is right, and is of nodes
-pub record Right (cs : List ℕ) (vs : List ℤ) (memo : List ℕ) : Type 0 where
+pub record MemoRight (cs : List ℕ) (vs : List ℤ) (memo : List ℕ) : Type 0 where
   pub low : (e v : ℕ) → v < maxNodes → has memo (yesPlace e v) ≡ true → v < nodeCount cs
   pub yes : (e v : ℕ) → v < maxNodes → has memo (yesPlace e v) ≡ true → conforms (graphAt cs vs) (shapeAt cs vs e) v ≡ true
   pub no : (e v : ℕ) → v < maxNodes → has memo (noPlace e v) ≡ true → conforms (graphAt cs vs) (shapeAt cs vs e) v ≡ false
@@ -38,7 +38,7 @@ pub record Right (cs : List ℕ) (vs : List ℤ) (memo : List ℕ) : Type 0 wher
 pub record Ready (cs index : List ℕ) (vs : List ℤ) (memo : List ℕ) (e : ℕ) : Type 0 where
   pub tables : Tables cs index
   pub size : length memo ≡ memoCount
-  pub right : Right cs vs memo
+  pub right : MemoRight cs vs memo
   pub entry : e < formCount cs
 
 -- a set has, of the nodes of another, those that conform to e
@@ -47,6 +47,6 @@ Decided cs vs e nodes set = (v : ℕ) → v < nodeCount cs → has nodes v ≡ t
 
 -- afterwards nothing that was known is lost, and the verdict on e is known of all nodes of a set
 pub record Settled (cs : List ℕ) (vs : List ℤ) (before after : List ℕ) (e : ℕ) (nodes : List ℕ) : Type 0 where
-  pub right : Right cs vs after
+  pub right : MemoRight cs vs after
   pub grows : (m : ℕ) → has before m ≡ true → has after m ≡ true
   pub all : (v : ℕ) → v < nodeCount cs → has nodes v ≡ true → settled after e v ≡ true

@@ -50,8 +50,8 @@ module _ (cs : List ℕ) (e : ℕ) where
   PartsKnown memo v = hasParts ≡ true → (w : ℕ) → w < nodeCount cs → looksAt v w ≡ true → (settled memo firstPart w ≡ true) × (settled memo secondPart w ≡ true)
 
 -- a set has the nodes that conform to entry e, of those where what is known is enough to tell
-abbrev pub Tells : List ℕ → List ℤ → List ℕ → ℕ → List ℕ → Type 0
-Tells cs vs memo e set = (v : ℕ) → v < nodeCount cs → PartsKnown cs e memo v → has set v ≡ conforms (graphAt cs vs) (shapeAt cs vs e) v
+abbrev pub ConformingSet : List ℕ → List ℤ → List ℕ → ℕ → List ℕ → Type 0
+ConformingSet cs vs memo e set = (v : ℕ) → v < nodeCount cs → PartsKnown cs e memo v → has set v ≡ conforms (graphAt cs vs) (shapeAt cs vs e) v
 
 -- what is known is enough to tell whether node v conforms to entry e
 pub record Enough (cs index : List ℕ) (vs : List ℤ) (memo : List ℕ) (e v : ℕ) : Type 0 where

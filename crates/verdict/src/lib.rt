@@ -62,7 +62,7 @@ ghost use Rattle.paths.specs.Facts.{Tables};
 ghost use Rattle.stepsets.specs.Ends.{Held};
 ghost use Rattle.verdict.specs.Answers.{answerOf, answerOn, verdictAnswer, tallied};
 ghost use Rattle.verdict.specs.Memo.{yesPlace, noPlace, Ready, Decided, Settled, memoCount};
-ghost use Rattle.verdict.specs.Parts.{looksAtEnds, hasParts, firstPart, secondPart, looksAt, PartsKnown, Tells, Enough};
+ghost use Rattle.verdict.specs.Parts.{looksAtEnds, hasParts, firstPart, secondPart, looksAt, PartsKnown, ConformingSet, Enough};
 
 // How long the memo is: 32 words for each entry; and the rows of ends: sixteen for each node.
 const MEMO_WORDS: usize = 32 * MAX_FORMS;
@@ -213,7 +213,7 @@ fn set_of_rows(
     e: usize,
 ) -> NodeSet
     requires { ⌜ Ready (now cells) (now index) (now values) (now memo) e × (codes.formCount ≤ formCodeAt (now cells) e) × (formCodeAt (now cells) e ≡ codes.formClosed → ⊥) × Held (now cells) (now end) (now first) × Held (now cells) (now link) (now second) ⌝ }
-    ensures { λ r. ⌜ Tells (now (cells .entry)) (now (values .entry)) (now (memo .entry)) e (r .words) ⌝ }
+    ensures { λ r. ⌜ ConformingSet (now (cells .entry)) (now (values .entry)) (now (memo .entry)) e (r .words) ⌝ }
 {
     let p = wide(form_first(cells, e));
     let l = form_link(cells, e);
@@ -287,7 +287,7 @@ fn set_of_rows(
 // The same, with rows of its own.
 fn set_along(memo: &[u64], cells: &[u16], index: &[u16], values: &[i64], e: usize) -> NodeSet
     requires { ⌜ Ready (now cells) (now index) (now values) (now memo) e × (codes.formCount ≤ formCodeAt (now cells) e) × (formCodeAt (now cells) e ≡ codes.formClosed → ⊥) ⌝ }
-    ensures { λ r. ⌜ Tells (now (cells .entry)) (now (values .entry)) (now (memo .entry)) e (r .words) ⌝ }
+    ensures { λ r. ⌜ ConformingSet (now (cells .entry)) (now (values .entry)) (now (memo .entry)) e (r .words) ⌝ }
 {
     let mut first = [0u64; ROWS_WORDS];
     let mut second = [0u64; ROWS_WORDS];
@@ -404,8 +404,8 @@ fn conforming(cells: &[u16], values: &[i64], e: usize, v: usize) -> bool
     let mut index = [0u16; INDEX_CELLS];
     index_table(&mut index, cells);
     let mut memo = [0u64; MEMO_WORDS];
-    let nobody = NodeSet::EMPTY;
-    settle(&mut memo, e, nobody.with(v), cells, &index, values);
+    let none = NodeSet::EMPTY;
+    settle(&mut memo, e, none.with(v), cells, &index, values);
     known(&memo, e, v)
 }
 
@@ -466,7 +466,7 @@ fn counted(given: bool, tally: u32) -> u32
 }
 
 // The answer with the tally afterwards.
-fn told(answer: Judged, tally: u32) -> Outcome
+fn with_tally(answer: Judged, tally: u32) -> Outcome
     ensures { λ r. ⌜ (r .answer ≡ answer) × (r .tally ≡ tallied (answerOf answer) tally) ⌝ }
 {
     let after = counted(is_given(answer), tally);
@@ -490,9 +490,9 @@ pub fn verdict(
     ensures counted { λ r. ⌜ r .tally ≡ tallied (verdictAnswer (now (names .entry)) (now (cells .entry)) (now (values .entry)) node shape) tally ⌝ }
 {
     if !tables::lent::enough(names, cells, values) {
-        return told(Judged::Refused(Refusal::Short), tally);
+        return with_tally(Judged::Refused(Refusal::Short), tally);
     }
-    told(
+    with_tally(
         answer_on(&cells[..CELLS], &values[..VALUES], node, shape),
         tally,
     )

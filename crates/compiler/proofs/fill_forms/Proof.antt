@@ -51,7 +51,7 @@ loop-less : tie.Need-loop-less Inv-loop μ-loop
 loop-less c = search needs
 
 loop-again : tie.Need-loop-again Inv-loop μ-loop
-loop-again c = let a = c .before .before .before .before .before .before .before .before .before .before .before .before .args in let l = c .before .before .before .before .before .before .before .loop in (omega arith, l .inv .1, c .before .before .compile-entry .kept .0 ∙ l .inv .2, length-set (l .breaks) _ _ ∙ l .inv .3, length-set (l .keeps) _ _ ∙ l .inv .4, forms-more (now (a .cells)) (now (a .plan)) (l .plan) (c .before .before .compile-entry .last .0) (l .keeps) (l .breaks) (l .e) (l .n) (c .before .before .compile-entry .result .next) (c .before .before .compile-entry .result .keep) (c .before .before .compile-entry .result .brk) (l .inv .5) (l .inv .6) (c .before .before .compile-entry .ensures) (omega (arith, c .before .before .before .before .before .before .before .before .before .before .before .before .pre .0 .forms)), keeps-more (now (a .cells)) (now (a .plan)) (l .plan) (c .before .before .compile-entry .last .0) (l .keeps) (l .breaks) (l .e) (l .n) (c .before .before .compile-entry .result .next) (c .before .before .compile-entry .result .keep) (c .before .before .compile-entry .result .brk) (l .inv .5) (l .inv .6) (c .before .before .compile-entry .ensures) (omega (arith, c .before .before .before .before .before .before .before .before .before .before .before .before .pre .0 .forms)))
+loop-again c = let a = c .before .before .before .before .before .before .before .before .before .before .before .before .args in let l = c .before .before .before .before .before .before .before .loop in (omega arith, l .inv .1, c .before .before .compile-entry .kept .0 ∙ l .inv .2, length-set (l .breaks) _ _ ∙ l .inv .3, length-set (l .keeps) _ _ ∙ l .inv .4, forms-more (now (a .cells)) (now (a .plan)) (l .plan) (c .before .before .compile-entry .last .0) (l .keeps) (l .breaks) (l .e) (l .n) (c .before .before .compile-entry .result .next) (c .before .before .compile-entry .result .keep) (c .before .before .compile-entry .result .breaking) (l .inv .5) (l .inv .6) (c .before .before .compile-entry .ensures) (omega (arith, c .before .before .before .before .before .before .before .before .before .before .before .before .pre .0 .forms)), keeps-more (now (a .cells)) (now (a .plan)) (l .plan) (c .before .before .compile-entry .last .0) (l .keeps) (l .breaks) (l .e) (l .n) (c .before .before .compile-entry .result .next) (c .before .before .compile-entry .result .keep) (c .before .before .compile-entry .result .breaking) (l .inv .5) (l .inv .6) (c .before .before .compile-entry .ensures) (omega (arith, c .before .before .before .before .before .before .before .before .before .before .before .before .pre .0 .forms)))
 
 same-length : tie.Need-same-length Inv-loop μ-loop
 same-length c = search needs

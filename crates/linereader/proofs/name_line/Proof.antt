@@ -11,7 +11,7 @@ use Rattle.grammar.specs.Reading.{begunAbove}
 use Rattle.linereader.specs.declared.LineAnswer.{LineAnswer}
 use Rattle.model.specs.declared.Counts.{Counts}
 use native.Mathlib.Omega.{arith}
-use Rattle.linereader.specs.Storing.{lineBody, lineEnd, loneCode, loneLine}
+use Rattle.linereader.specs.Storing.{lineBody, lineEnd, nameLineCode, nameLine}
 use Rattle.linereader.proofs.Bodies.{item-stop, new-got, new-facts, new-place, done-no, done-yes, ended-no, ended-yes, lone-stop, lone-got, lone-names, lone-cells, lone-values, lone-counted}
 use borrow.Author.Needs.{needs}
 use Rattle.linereader.proofs.name_line.Statement.{statement}
@@ -38,7 +38,7 @@ returns c =
     let p = poolOf (s .pool) in
     let r = c .before .before .before .read-new in
     let k = c .before .enum-told .given in
-    λ a cs vs h. done-no a (s .counts) (lineBody (s .book .now) a (loneCode p) (s .at)) _ (c .refusal .result) (s .names .now) cs vs
+    λ a cs vs h. done-no a (s .counts) (lineBody (s .book .now) a (nameLineCode p) (s .at)) _ (c .refusal .result) (s .names .now) cs vs
     (lone-stop (s .book .now) a p (c .before .before .before .before .before .before .before .before .pre .4) (s .at) (c .refusal .result)
     (item-stop (s .book .now) a (new p) length (begunAbove a) (s .at) (r .result) (k .0 .0) (c .refusal .result) (r .ensures .0 a h) (k .1) (c .refusal .ensures)))
     refl
@@ -69,8 +69,8 @@ returns-2 c =
     λ a cs vs h.
     let w = slice (s .at + 1) (u .0 .1 .0) (s .book .now) in
     let e = lone-got (s .book .now) a p (c .before .before .before .before .before .before .before .before .before .before .before .before .pre .4) (s .at) w (u .0 .1 .0) (new-got (s .book .now) a p (begunAbove a) (s .at) (r .result) (u .0 .0) (u .0 .1 .0) (r .ensures .0 a h) (u .1)) in
-    done-no a (s .counts) (lineBody (s .book .now) a (loneCode p) (s .at)) _ (k .0 .0) (s .names .now) cs vs
-    (e ∙ ended-no (c .before .before .before .with-name .result) (lineEnd (s .book .now) a true (loneLine p w) (u .0 .1 .0)) (o .result) (k .0 .0) (o .ensures a (loneLine p w)) (k .1))
+    done-no a (s .counts) (lineBody (s .book .now) a (nameLineCode p) (s .at)) _ (k .0 .0) (s .names .now) cs vs
+    (e ∙ ended-no (c .before .before .before .with-name .result) (lineEnd (s .book .now) a true (nameLine p w) (u .0 .1 .0)) (o .result) (k .0 .0) (o .ensures a (nameLine p w)) (k .1))
     (k .1)
 
 put-new-requires : tie.Need-put-new-requires
@@ -100,8 +100,8 @@ returns-3 c =
     λ a cs vs h.
     let w = slice (s .at + 1) (u .0 .1 .0) (s .book .now) in
     let e = lone-got (s .book .now) a p lone (s .at) w (u .0 .1 .0) (new-got (s .book .now) a p (begunAbove a) (s .at) (r .result) (u .0 .0) (u .0 .1 .0) (r .ensures .0 a h) (u .1)) in
-    let y = ended-yes (s .book .now) a true (loneLine p w) (u .0 .1 .0) (c .before .before .before .before .before .before .before .with-name .result) (o .result) (k .0 .0) (k .0 .1 .0) (o .ensures a (loneLine p w)) (k .1) in
-    done-yes a (s .counts) (lineBody (s .book .now) a (loneCode p) (s .at)) (loneLine p w) (k .0 .0) _ (s .names .now) _ cs cs vs vs
+    let y = ended-yes (s .book .now) a true (nameLine p w) (u .0 .1 .0) (c .before .before .before .before .before .before .before .with-name .result) (o .result) (k .0 .0) (k .0 .1 .0) (o .ensures a (nameLine p w)) (k .1) in
+    done-yes a (s .counts) (lineBody (s .book .now) a (nameLineCode p) (s .at)) (nameLine p w) (k .0 .0) _ (s .names .now) _ cs cs vs vs
     (e ∙ y .0)
     (y .1 ∙ ap (λ (n : Counts). LineAnswer.Next (k .0 .0) n) (c .before .before .before .before .before .before .before .with-name .ensures ∙ lone-counted p lone w (s .counts)))
     (c .before .before .put-new .ensures ∙ lone-names a w p lone (countOf (s .counts) p) (h .name-count p) (s .names .now))

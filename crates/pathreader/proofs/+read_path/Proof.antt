@@ -12,7 +12,7 @@ use Rattle.grammar.specs.Syntax.{path}
 use Rattle.grammar.specs.Reading.{pathBegun, after, readersAt}
 use Rattle.stores.specs.Entries.{putPath}
 use Rattle.itemreader.proofs.Heads.{headed-word}
-use Rattle.pathreader.proofs.Paths.{done-no, done-is, path-got, done-refused, path-unspaced, path-bare, path-head-refused, path-word, joined, body-refused, body-inverse, body-second-refused, body-joined, begun-first, begun-second, inverse-count, inverse-stored, joined-count, joined-stored, closed-read, closed-grown, grown-is}
+use Rattle.pathreader.proofs.Paths.{done-no, done-is, path-got, done-refused, path-unspaced, path-bare, path-head-refused, path-word, twoPaths, body-refused, body-inverse, body-second-refused, body-joined, begun-first, begun-second, inverse-count, inverse-stored, joined-count, joined-stored, closed-read, closed-grown, grown-is}
 use borrow.Fn.Kinds.{In}
 use borrow.Fn.PlainCycle.{Measures, is, falls, and}
 use Rattle.pathreader.proofs.read_path.Reads as read-path
@@ -281,7 +281,7 @@ read-path-returns-7 t c =
           let g = path-got m next (r .ensures .0 a h (pathBegun b) (begun-first b (s .n) (s .up) q)) (f .1) in
           let g2 = path-got l stop (r2 .ensures .0 a h (after path (g .tree) (pathBegun b)) (begun-second b (s .n) (s .up) m (g .tree) q (g .count))) (f2 .1) in
           done-is (path-word (s .book .now) a b (s .at) (s .n + s .up) q z (hd .result) (s .left) (w .0 .0) (w .0 .1 .0) (hd .ensures .0) (w .1) ∙ body-joined (s .book .now) a (readersAt (s .book .now) a (s .left - 1)) (pathBegun b) (w .0 .1 .0) (g .tree) next (g .is) code (g2 .tree) stop (c .before .before .before .before .before .before .before .before .before .before .before .if2 .left) hw (g2 .is))
-          (closed-read (s .book .now) stop l a (joined code (g .tree) (g2 .tree)) (s .n) (s .cells .now) (putPath l (code + 1) (m - 1) (l - 1) last) last (o .last .0) (o .result) (joined-count (s .n) m (g .tree) (s .cells .now) mid (g .count) (g .cells) l (g2 .tree) last (g2 .count) (g2 .cells) code) (joined-stored (s .n) m (g .tree) (s .cells .now) mid (g .count) (g .cells) l (g2 .tree) last (g2 .count) (g2 .cells) code (c .before .before .before .before .before .before .before .before .before .before .before .if2 .left) hw) (o .ensures .0) (o .ensures .1 .0)),
+          (closed-read (s .book .now) stop l a (twoPaths code (g .tree) (g2 .tree)) (s .n) (s .cells .now) (putPath l (code + 1) (m - 1) (l - 1) last) last (o .last .0) (o .result) (joined-count (s .n) m (g .tree) (s .cells .now) mid (g .count) (g .cells) l (g2 .tree) last (g2 .count) (g2 .cells) code) (joined-stored (s .n) m (g .tree) (s .cells .now) mid (g .count) (g .cells) l (g2 .tree) last (g2 .count) (g2 .cells) code (c .before .before .before .before .before .before .before .before .before .before .before .if2 .left) hw) (o .ensures .0) (o .ensures .1 .0)),
       (rw (o .ensures .0) (closed-grown (s .book .now) stop l (s .n + 1) (s .up) (omega arith) (omega arith)), o .ensures .1 .1 ∙ (r2 .ensures .1 .1 ∙ r .ensures .1 .1)),
     )
 

@@ -8,12 +8,12 @@ use borrow.Author.Needs.{needs}
 use Rattle.base.specs.Bounded.{every}
 use Rattle.base.proofs.Bounded.{every-more, every-fails}
 use Rattle.tablecheck.proofs.Items.{every-none, every-to}
-use Rattle.plancheck.specs.Parts.{partOk, partCount}
+use Rattle.plancheck.specs.Parts.{planPartOk, partCount}
 use Rattle.plancheck.proofs.all_ok.Statement.{statement}
 use Rattle.plancheck.proofs.all_ok.Tie as tie
 
 abbrev Inv-loop : tie.InvT-loop
-Inv-loop cells plan part n i₀ i = (i ≤ n) × (every (partOk cells plan part) i ≡ true)
+Inv-loop cells plan part n i₀ i = (i ≤ n) × (every (planPartOk cells plan part) i ≡ true)
 
 abbrev μ-loop : tie.MeasureT-loop
 μ-loop cells plan part n i₀ i = n - i
@@ -28,7 +28,7 @@ part-ok-requires : tie.Need-part-ok-requires Inv-loop μ-loop
 part-ok-requires c κs = search needs
 
 returns : tie.Need-returns Inv-loop μ-loop
-returns c = sym (every-fails (partOk (now (c .before .before .before .before .before .before .before .args .cells)) (now (c .before .before .before .before .before .before .before .args .plan)) (c .before .before .before .before .before .before .before .args .part)) (partCount (now (c .before .before .before .before .before .before .before .args .cells)) (now (c .before .before .before .before .before .before .before .args .plan)) (c .before .before .before .before .before .before .before .args .part)) (c .before .before .before .loop .i) (omega (arith, c .before .before .before .before .part-count .ensures)) (sym (c .before .part-ok .ensures) ∙ not-true _ (c .if1 .taken)))
+returns c = sym (every-fails (planPartOk (now (c .before .before .before .before .before .before .before .args .cells)) (now (c .before .before .before .before .before .before .before .args .plan)) (c .before .before .before .before .before .before .before .args .part)) (partCount (now (c .before .before .before .before .before .before .before .args .cells)) (now (c .before .before .before .before .before .before .before .args .plan)) (c .before .before .before .before .before .before .before .args .part)) (c .before .before .before .loop .i) (omega (arith, c .before .before .before .before .part-count .ensures)) (sym (c .before .part-ok .ensures) ∙ not-true _ (c .if1 .taken)))
 
 add-i : tie.Need-add-i Inv-loop μ-loop
 add-i c = omega arith
@@ -40,7 +40,7 @@ loop-again : tie.Need-loop-again Inv-loop μ-loop
 loop-again c = (omega arith, every-more _ _ (c .before .before .before .loop .inv .1) (sym (c .before .part-ok .ensures) ∙ not-false _ (c .if1 .left)))
 
 returns-2 : tie.Need-returns-2 Inv-loop μ-loop
-returns-2 c = sym (every-to (partOk (now (c .before .before .before .before .before .args .cells)) (now (c .before .before .before .before .before .args .plan)) (c .before .before .before .before .before .args .part)) (c .before .loop .i) (partCount (now (c .before .before .before .before .before .args .cells)) (now (c .before .before .before .before .before .args .plan)) (c .before .before .before .before .before .args .part)) (omega (arith, c .before .before .part-count .ensures)) (c .before .loop .inv .1))
+returns-2 c = sym (every-to (planPartOk (now (c .before .before .before .before .before .args .cells)) (now (c .before .before .before .before .before .args .plan)) (c .before .before .before .before .before .args .part)) (c .before .loop .i) (partCount (now (c .before .before .before .before .before .args .cells)) (now (c .before .before .before .before .before .args .plan)) (c .before .before .before .before .before .args .part)) (omega (arith, c .before .before .part-count .ensures)) (c .before .loop .inv .1))
 
 pub all-ok-spec : {M : Type 1} → statement M
 all-ok-spec =

@@ -1,4 +1,4 @@
-use Rattle.plancheck.specs.Parts.{partOk}
+use Rattle.plancheck.specs.Parts.{planPartOk}
 use borrow.Author.Needs.{needs}
 use Rattle.plancheck.proofs.part_ok.Statement.{statement}
 use Rattle.plancheck.proofs.part_ok.Tie as tie
@@ -19,11 +19,11 @@ step-count-requires : tie.Need-step-count-requires
 step-count-requires c κs = search needs
 
 returns : tie.Need-returns
-unfolding partOk
+unfolding planPartOk
 returns c = rw (c .before .enum-told .given .1) (c .step-ok .ensures)
 
 returns-2 : tie.Need-returns-2
-unfolding partOk
+unfolding planPartOk
 returns-2 c = rw (c .before .before .enum-told2 .given .1) (cc)
 
 pub part-ok-spec : {M : Type 1} → statement M

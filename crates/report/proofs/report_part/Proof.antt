@@ -14,7 +14,7 @@ use Rattle.tables.specs.Layout.{ruleCount, cellCount}
 use Rattle.model.specs.Limits.{maxRules}
 use Rattle.tables.specs.WellFormed.{wellFormed}
 use Rattle.tables.proofs.WellFormed as tables
-use Rattle.report.specs.Pages.{partOk}
+use Rattle.report.specs.Pages.{reportPartOk}
 use Rattle.report.proofs.Answers.{part-answers, part-room, refused-on, written-on}
 use Rattle.report.proofs.report_part.Statement.{statement}
 use Rattle.report.proofs.report_part.Tie as tie
@@ -46,7 +46,7 @@ rule-count-requires c κs = search needs
 add-if3 : tie.Need-add-if3
 add-if3 c =
     let cs : List ℕ = take cellCount (now (c .before .before .before .before .before .before .before .before .before .before .before .before .args .cells)) in
-    let few : ruleCount cs ≤ maxRules = tables.sound cs (and-left (wellFormed cs) (partOk cs (now (c .before .before .before .before .before .before .before .before .before .before .before .before .args .lists)) (now (c .before .before .before .before .before .before .before .before .before .before .before .before .args .lengths)) (c .before .before .before .before .before .before .before .before .before .before .before .before .args .k)) (sym (c .before .before .part-ok .ensures) ∙ not-false (c .before .before .part-ok .result) (c .before .if2 .left))) .rules in
+    let few : ruleCount cs ≤ maxRules = tables.sound cs (and-left (wellFormed cs) (reportPartOk cs (now (c .before .before .before .before .before .before .before .before .before .before .before .before .args .lists)) (now (c .before .before .before .before .before .before .before .before .before .before .before .before .args .lengths)) (c .before .before .before .before .before .before .before .before .before .before .before .before .args .k)) (sym (c .before .before .part-ok .ensures) ∙ not-false (c .before .before .part-ok .result) (c .before .if2 .left))) .rules in
     omega (arith, few, c .rule-count .ensures)
 
 same-length-3 : tie.Need-same-length-3
@@ -61,7 +61,7 @@ put-part-requires : tie.Need-put-part-requires
 put-part-requires c κs =
     let l = part-room (now (c .before .before .before .before .before .before .before .before .before .before .before .before .before .before .args .names)) (now (c .before .before .before .before .before .before .before .before .before .before .before .before .before .before .args .cells)) (now (c .before .before .before .before .before .before .before .before .before .before .before .before .before .before .args .values)) (now (c .before .before .before .before .before .before .before .before .before .before .before .before .before .before .args .lists)) (now (c .before .before .before .before .before .before .before .before .before .before .before .before .before .before .args .lengths)) (now (c .before .before .before .before .before .before .before .before .before .before .before .before .before .before .args .page)) (sym (c .before .before .before .before .before .before .before .long-enough .ensures) ∙ not-false (c .before .before .before .before .before .before .before .long-enough .result) (c .before .before .before .before .before .before .if1 .left)) in
     let cs = take cellCount (now (c .before .before .before .before .before .before .before .before .before .before .before .before .before .before .args .cells)) in
-    let ok = partOk cs (now (c .before .before .before .before .before .before .before .before .before .before .before .before .before .before .args .lists)) (now (c .before .before .before .before .before .before .before .before .before .before .before .before .before .before .args .lengths)) (c .before .before .before .before .before .before .before .before .before .before .before .before .before .before .args .k) in
+    let ok = reportPartOk cs (now (c .before .before .before .before .before .before .before .before .before .before .before .before .before .before .args .lists)) (now (c .before .before .before .before .before .before .before .before .before .before .before .before .before .before .args .lengths)) (c .before .before .before .before .before .before .before .before .before .before .before .before .before .before .args .k) in
     (l .third, l .tables .names, l .first, l .second, and-left (wellFormed cs) ok (sym (c .before .before .before .before .part-ok .ensures) ∙ not-false (c .before .before .before .before .part-ok .result) (c .before .before .before .if2 .left)), and-right (wellFormed cs) ok (sym (c .before .before .before .before .part-ok .ensures) ∙ not-false (c .before .before .before .before .part-ok .result) (c .before .before .before .if2 .left)))
 
 same-length-4 : tie.Need-same-length-4

@@ -1,4 +1,4 @@
-use Rattle.tablecheck.specs.Parts.{partOk}
+use Rattle.tablecheck.specs.Parts.{tablePartOk}
 use borrow.Author.Needs.{needs}
 use Rattle.tablecheck.proofs.part_ok.Statement.{statement}
 use Rattle.tablecheck.proofs.part_ok.Tie as tie
@@ -31,19 +31,19 @@ rule-ok-requires : tie.Need-rule-ok-requires
 rule-ok-requires c κs = search needs
 
 returns : tie.Need-returns
-unfolding partOk
+unfolding tablePartOk
 returns c = rw (c .before .enum-told .given .1) (c .path-ok .ensures)
 
 returns-2 : tie.Need-returns-2
-unfolding partOk
+unfolding tablePartOk
 returns-2 c = rw (c .before .enum-told2 .given .1) (c .entry-ok .ensures)
 
 returns-3 : tie.Need-returns-3
-unfolding partOk
+unfolding tablePartOk
 returns-3 c = rw (c .before .before .enum-told3 .given .1) (cc)
 
 returns-4 : tie.Need-returns-4
-unfolding partOk
+unfolding tablePartOk
 returns-4 c = rw (c .before .enum-told4 .given .1) (c .rule-ok .ensures)
 
 pub part-ok-spec : {M : Type 1} → statement M

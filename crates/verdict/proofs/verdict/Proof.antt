@@ -16,13 +16,13 @@ use Rattle.verdict.proofs.verdict.Tie as tie
 enough-requires : tie.Need-enough-requires
 enough-requires c κs = search needs
 
-told-requires : tie.Need-told-requires
-told-requires c κs = search needs
+with-tally-requires : tie.Need-with-tally-requires
+with-tally-requires c κs = search needs
 
 returns : tie.Need-returns
 returns c =
     let a = c .before .before .before .before .before .args in
-    answered (a .tally) (c .told .ensures .0) (c .told .ensures .1) (verdict-short (now (a .names)) (now (a .cells)) (now (a .values)) (a .node) (a .shape) (sym (c .before .before .enough .ensures) ∙ not-true (c .before .before .enough .result) (c .before .if1 .taken)))
+    answered (a .tally) (c .with-tally .ensures .0) (c .with-tally .ensures .1) (verdict-short (now (a .names)) (now (a .cells)) (now (a .values)) (a .node) (a .shape) (sym (c .before .before .enough .ensures) ∙ not-true (c .before .before .enough .result) (c .before .if1 .taken)))
 
 slice-aggregate-answer-on : tie.Need-slice-aggregate-answer-on
 slice-aggregate-answer-on c =
@@ -42,24 +42,24 @@ answer-on-requires c κs =
     let e : longEnough (now (a .names)) (now (a .cells)) (now (a .values)) ≡ true = sym (c .before .before .before .enough .ensures) ∙ not-false (c .before .before .before .enough .result) (c .before .before .if1 .left) in
     omega (arith, length-take-le cellCount (now (a .cells)) (long (now (a .names)) (now (a .cells)) (now (a .values)) e .cells))
 
-told-requires-2 : tie.Need-told-requires-2
-told-requires-2 c κs = search needs
+with-tally-requires-2 : tie.Need-with-tally-requires-2
+with-tally-requires-2 c κs = search needs
 
 returns-2 : tie.Need-returns-2
 returns-2 c =
     let a = c .before .before .before .before .before .before .before .before .args in
     let e : longEnough (now (a .names)) (now (a .cells)) (now (a .values)) ≡ true = sym (c .before .before .before .before .before .enough .ensures) ∙ not-false (c .before .before .before .before .before .enough .result) (c .before .before .before .before .if1 .left) in
-    answered (a .tally) (c .told2 .ensures .0) (c .told2 .ensures .1) (c .before .answer-on .ensures ∙ verdict-long (now (a .names)) (now (a .cells)) (now (a .values)) (a .node) (a .shape) e)
+    answered (a .tally) (c .with-tally2 .ensures .0) (c .with-tally2 .ensures .1) (c .before .answer-on .ensures ∙ verdict-long (now (a .names)) (now (a .cells)) (now (a .values)) (a .node) (a .shape) e)
 
 pub verdict-spec : {M : Type 1} → statement M
 verdict-spec =
     tie.close
     (tie.spec
     enough-requires
-    told-requires
+    with-tally-requires
     returns
     slice-aggregate-answer-on
     slice-aggregate-answer-on-2
     answer-on-requires
-    told-requires-2
+    with-tally-requires-2
     returns-2)
