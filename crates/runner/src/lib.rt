@@ -3,10 +3,12 @@
 //
 // It sees neither reader nor compiler nor verdict: any tables and any plan may be handed in, and are checked before the first
 // word is written.
+use entries::end_at;
 use model::LinkNo;
 use model::Refusal;
 use nodeset::NodeSet;
 use nodeset::store;
+use paths::End;
 use paths::INDEX_CELLS;
 use paths::index_table;
 use plan::PLAN_CELLS;
@@ -21,7 +23,7 @@ use plancheck::reads::step_second;
 use plancheck::reads::step_second_link;
 use plancheck::reads::step_third;
 use stepsets::Condition;
-use stepsets::NO_END;
+use stepsets::Kept;
 use stepsets::Target;
 use stepsets::both_set;
 use stepsets::either_set;
@@ -45,7 +47,7 @@ ghost use Rattle.paths.specs.Facts.{Tables};
 ghost use Rattle.stepsets.specs.Ends.{Held, RowsFor};
 ghost use Rattle.plan.specs.Layout.{stepAt};
 ghost use Rattle.plan.specs.WellFormed.{stepOk, planWellFormed};
-ghost use Rattle.runner.specs.Kinds.{kindOf};
+ghost use Rattle.runner.specs.Kinds.{kindOf, firstAfter, secondAfter};
 ghost use Rattle.runner.specs.Run.{workCount, saidOf, filled, lentLong, runSaid, workAfter};
 ghost use Rattle.runner.specs.Steps.{stepFrom, put};
 
@@ -66,7 +68,7 @@ enum Kind {
     Both(usize, usize),
     Either(usize, usize),
     Path(Condition, usize, usize),
-    Ends(Condition, usize, LinkNo),
+    Ends(Condition, End, LinkNo),
     Lang(Condition, usize),
     Facts(Target),
 }
@@ -82,6 +84,7 @@ fn step_kind(plan: &[u16], k: usize) -> Kind
     let c = step_node(plan, k);
     let p = step_link(plan, k);
     let l = step_second_link(plan, k);
+    let end = end_at(a);
     match step_code(plan, k) {
         0 => Kind::Whole, // All
         1 => Kind::Empty, // None
@@ -93,16 +96,16 @@ fn step_kind(plan: &[u16], k: usize) -> Kind
         7 => Kind::Either(a, b), // Either
         8 => Kind::Path(Condition::Count(lo, hi), a, b), // Count
         9 => Kind::Path(Condition::Every, a, b), // Every
-        10 => Kind::Ends(Condition::Equal, a, l), // Equal
-        11 => Kind::Ends(Condition::Unequal, a, l), // Unequal
-        12 => Kind::Ends(Condition::Apart, a, l), // Apart
-        13 => Kind::Ends(Condition::Meet, a, l), // Meet
+        10 => Kind::Ends(Condition::Equal, end, l), // Equal
+        11 => Kind::Ends(Condition::Unequal, end, l), // Unequal
+        12 => Kind::Ends(Condition::Apart, end, l), // Apart
+        13 => Kind::Ends(Condition::Meet, end, l), // Meet
         14 => Kind::Node(Condition::Closed(a)), // Closed
         15 => Kind::Node(Condition::Open(a)), // Open
-        16 => Kind::Ends(Condition::Less, a, l), // Less
-        17 => Kind::Ends(Condition::NotLess, a, l), // Notless
-        18 => Kind::Ends(Condition::LessEq, a, l), // Lesseq
-        19 => Kind::Ends(Condition::NotLessEq, a, l), // Notlesseq
+        16 => Kind::Ends(Condition::Less, End::Path(a), l), // Less
+        17 => Kind::Ends(Condition::NotLess, End::Path(a), l), // Notless
+        18 => Kind::Ends(Condition::LessEq, End::Path(a), l), // Lesseq
+        19 => Kind::Ends(Condition::NotLessEq, End::Path(a), l), // Notlesseq
         20 => Kind::Lang(Condition::OneLang, a), // Onelang
         21 => Kind::Lang(Condition::ManyLang, a), // Manylang
         22 => Kind::Facts(Target::From(p)), // From
@@ -112,13 +115,45 @@ fn step_kind(plan: &[u16], k: usize) -> Kind
     }
 }
 
-// The set of step k, from the sets of the steps before it. The rows of ends that it looks at are kept for the next step: first
-// holds those of number end, and second those of number link.
+// What the first rows hold after a step, and what the second hold.
+fn first_after(kind: Kind, kept: Kept) -> Kept
+    ensures { λ r. ⌜ r ≡ firstAfter kind kept ⌝ }
+{
+    match kind {
+        Kind::Whole => kept,
+        Kind::Empty => kept,
+        Kind::Node(_) => kept,
+        Kind::Both(_, _) => kept,
+        Kind::Either(_, _) => kept,
+        Kind::Path(_, p, _) => Kept::RowsOf(End::Path(p)),
+        Kind::Ends(_, end, _) => Kept::RowsOf(end),
+        Kind::Lang(_, p) => Kept::RowsOf(End::Path(p)),
+        Kind::Facts(_) => kept,
+    }
+}
+
+fn second_after(kind: Kind, kept: Kept) -> Kept
+    ensures { λ r. ⌜ r ≡ secondAfter kind kept ⌝ }
+{
+    match kind {
+        Kind::Whole => kept,
+        Kind::Empty => kept,
+        Kind::Node(_) => kept,
+        Kind::Both(_, _) => kept,
+        Kind::Either(_, _) => kept,
+        Kind::Path(_, _, _) => kept,
+        Kind::Ends(_, _, l) => Kept::RowsOf(End::Link(l)),
+        Kind::Lang(_, _) => kept,
+        Kind::Facts(_) => kept,
+    }
+}
+
+// The set of step k, from the sets of the steps before it. The rows of ends that it looks at are kept for the next step.
 fn step_set(
     first: &mut [u64],
-    end: &mut usize,
     second: &mut [u64],
-    link: &mut usize,
+    kept: Kept,
+    links: Kept,
     cells: &[u16],
     index: &[u16],
     values: &[i64],
@@ -126,10 +161,10 @@ fn step_set(
     work: &[u64],
     k: usize,
 ) -> NodeSet
-    requires { ⌜ Tables (now cells) (now index) × (k < 512) × (stepOk (now cells) k (stepAt (now plan) k) ≡ true) × Held (now cells) (now end) (now first) × Held (now cells) (now link) (now second) ⌝ }
+    requires { ⌜ Tables (now cells) (now index) × (k < 512) × (stepOk (now cells) k (stepAt (now plan) k) ≡ true) × Held (now cells) kept (now first) × Held (now cells) links (now second) ⌝ }
     ensures { λ r. ⌜ r .words ≡ stepFrom (now (cells .entry)) (now (values .entry)) (now (plan .entry)) (now (work .entry)) k ⌝ }
-    ensures { λ _. ⌜ Held (now (cells .entry)) (now (end .exit)) (now (first .exit)) ⌝ }
-    ensures { λ _. ⌜ Held (now (cells .entry)) (now (link .exit)) (now (second .exit)) ⌝ }
+    ensures { λ _. ⌜ Held (now (cells .entry)) (firstAfter (kindOf (stepAt (now (plan .entry)) k)) kept) (now (first .exit)) ⌝ }
+    ensures { λ _. ⌜ Held (now (cells .entry)) (secondAfter (kindOf (stepAt (now (plan .entry)) k)) links) (now (second .exit)) ⌝ }
 {
     let n = node_count(cells);
     match step_kind(plan, k) {
@@ -139,23 +174,23 @@ fn step_set(
         Kind::Both(i, j) => both_set(work, i, j, n),
         Kind::Either(i, j) => either_set(work, i, j, n),
         Kind::Path(condition, p, j) => {
-            path_set(first, end, condition, cells, index, values, p, work, j)
-        },
-        Kind::Ends(condition, f, l) => {
+            path_set(first, kept, condition, cells, index, values, p, work, j)
+        }
+        Kind::Ends(condition, end, l) => {
             ends_set(
                 first,
-                end,
                 second,
-                link,
+                kept,
+                links,
                 condition,
                 cells,
                 index,
                 values,
-                f,
+                end,
                 l,
             )
         }
-        Kind::Lang(condition, p) => lang_set(first, end, condition, cells, index, values, p),
+        Kind::Lang(condition, p) => lang_set(first, kept, condition, cells, index, values, p),
         Kind::Facts(target) => facts_set(target, cells, index),
     }
 }
@@ -164,25 +199,25 @@ fn step_set(
 fn run_step(
     work: &mut [u64],
     first: &mut [u64],
-    end: &mut usize,
     second: &mut [u64],
-    link: &mut usize,
+    kept: Kept,
+    links: Kept,
     cells: &[u16],
     index: &[u16],
     values: &[i64],
     plan: &[u16],
     k: usize,
 )
-    requires { ⌜ Tables (now cells) (now index) × (k < 512) × (stepOk (now cells) k (stepAt (now plan) k) ≡ true) × Held (now cells) (now end) (now first) × Held (now cells) (now link) (now second) × (workCount ≤ length (now work)) ⌝ }
+    requires { ⌜ Tables (now cells) (now index) × (k < 512) × (stepOk (now cells) k (stepAt (now plan) k) ≡ true) × Held (now cells) kept (now first) × Held (now cells) links (now second) × (workCount ≤ length (now work)) ⌝ }
     ensures { λ _. ⌜ now (work .exit) ≡ put (now (work .entry)) k (stepFrom (now (cells .entry)) (now (values .entry)) (now (plan .entry)) (now (work .entry)) k) ⌝ }
-    ensures { λ _. ⌜ Held (now (cells .entry)) (now (end .exit)) (now (first .exit)) ⌝ }
-    ensures { λ _. ⌜ Held (now (cells .entry)) (now (link .exit)) (now (second .exit)) ⌝ }
+    ensures { λ _. ⌜ Held (now (cells .entry)) (firstAfter (kindOf (stepAt (now (plan .entry)) k)) kept) (now (first .exit)) ⌝ }
+    ensures { λ _. ⌜ Held (now (cells .entry)) (secondAfter (kindOf (stepAt (now (plan .entry)) k)) links) (now (second .exit)) ⌝ }
 {
     let set = step_set(
         first,
-        end,
         second,
-        link,
+        kept,
+        links,
         cells,
         index,
         values,
@@ -207,22 +242,25 @@ fn run_all(
     requires { ⌜ Tables (now cells) (now index) × (planWellFormed (now cells) (now plan) ≡ true) × (workCount ≤ length (now work)) × RowsFor (now cells) (now first) × RowsFor (now cells) (now second) ⌝ }
     ensures { λ _. ⌜ now (work .exit) ≡ filled (now (cells .entry)) (now (values .entry)) (now (plan .entry)) (now (work .entry)) ⌝ }
 {
-    let mut end = NO_END;
-    let mut link = NO_END;
+    let mut kept = Kept::Unfilled;
+    let mut links = Kept::Unfilled;
     let count = step_count(plan);
     for k in 0..count {
         run_step(
             work,
             first,
-            &mut end,
             second,
-            &mut link,
+            kept,
+            links,
             cells,
             index,
             values,
             plan,
             k,
         );
+        let kind = step_kind(plan, k);
+        kept = first_after(kind, kept);
+        links = second_after(kind, links);
     }
 }
 

@@ -10,6 +10,7 @@ use conditions::insert_if;
 use conditions::test_holds;
 use entries::all_holds;
 use entries::count_holds;
+use entries::end_at;
 use entries::ends_from;
 use entries::lang_holds;
 use entries::sets_hold;
@@ -24,7 +25,7 @@ use paths::INDEX_CELLS;
 use paths::index_table;
 use paths::pick;
 use stepsets::Condition;
-use stepsets::NO_END;
+use stepsets::Kept;
 use stepsets::ends_set;
 use stepsets::lang_set;
 use stepsets::path_set;
@@ -53,7 +54,7 @@ ghost use Rattle.tables.specs.Layout.{cellCount, nodeCount, formCount, formCode
 ghost use Rattle.tables.specs.Decode.{graphAt, shapeAt};
 ghost use Rattle.tables.specs.WellFormed.{wellFormed};
 ghost use Rattle.paths.specs.Facts.{Tables};
-ghost use Rattle.stepsets.specs.Ends.{Held};
+ghost use Rattle.stepsets.specs.Ends.{RowsFor};
 ghost use Rattle.verdict.specs.Answers.{decisionOf, judgedOn, judged, isGiven, tallied};
 ghost use Rattle.verdict.specs.Memo.{yesPlace, noPlace, Ready, Decided, Settled};
 ghost use Rattle.verdict.specs.Parts.{looksAtEnds, hasParts, firstPart, secondPart, looksAt, PartsKnown, Tells, Enough};
@@ -181,33 +182,88 @@ fn entry_holds(
 }
 
 // The nodes that conform to entry e, which looks along a path, all at once. Of a node where what is known of the parts is not
-// enough nothing is said. f and s are rows for the ends of all nodes, of the numbers x and y.
+// enough nothing is said. first and second are rows for the ends of all nodes.
 fn set_of_rows(
-    f: &mut [u64],
-    x: &mut usize,
-    s: &mut [u64],
-    y: &mut usize,
+    first: &mut [u64],
+    second: &mut [u64],
     memo: &[u64],
     cells: &[u16],
     index: &[u16],
     values: &[i64],
     e: usize,
 ) -> NodeSet
-    requires { ⌜ Ready (now cells) (now index) (now values) (now memo) e × (13 ≤ formCodeAt (now cells) e) × (formCodeAt (now cells) e ≡ 17 → ⊥) × Held (now cells) (now x) (now f) × Held (now cells) (now y) (now s) ⌝ }
+    requires { ⌜ Ready (now cells) (now index) (now values) (now memo) e × (13 ≤ formCodeAt (now cells) e) × (formCodeAt (now cells) e ≡ 17 → ⊥) × RowsFor (now cells) (now first) × RowsFor (now cells) (now second) ⌝ }
     ensures { λ r. ⌜ Tells (now (cells .entry)) (now (values .entry)) (now (memo .entry)) e (r .words) ⌝ }
 {
     let p = wide(form_first(cells, e));
     let l = form_link(cells, e);
     let count = Condition::Count(wide(form_third(cells, e)), wide(form_fourth(cells, e)));
     let j = 2 * wide(form_second(cells, e));
+    let end = end_at(p);
+    let path = End::Path(p);
+    let none = Kept::Unfilled;
     match form_code(cells, e) {
-        13 => path_set(f, x, count, cells, index, values, p, memo, j),
-        14 => path_set(f, x, Condition::Every, cells, index, values, p, memo, j),
-        15 => ends_set(f, x, s, y, Condition::Equal, cells, index, values, p, l),
-        16 => ends_set(f, x, s, y, Condition::Apart, cells, index, values, p, l),
-        18 => ends_set(f, x, s, y, Condition::Less, cells, index, values, p, l),
-        19 => ends_set(f, x, s, y, Condition::LessEq, cells, index, values, p, l),
-        _ => lang_set(f, x, Condition::OneLang, cells, index, values, p),
+        13 => path_set(first, none, count, cells, index, values, p, memo, j),
+        14 => path_set(
+            first,
+            none,
+            Condition::Every,
+            cells,
+            index,
+            values,
+            p,
+            memo,
+            j,
+        ),
+        15 => ends_set(
+            first,
+            second,
+            none,
+            none,
+            Condition::Equal,
+            cells,
+            index,
+            values,
+            end,
+            l,
+        ),
+        16 => ends_set(
+            first,
+            second,
+            none,
+            none,
+            Condition::Apart,
+            cells,
+            index,
+            values,
+            end,
+            l,
+        ),
+        18 => ends_set(
+            first,
+            second,
+            none,
+            none,
+            Condition::Less,
+            cells,
+            index,
+            values,
+            path,
+            l,
+        ),
+        19 => ends_set(
+            first,
+            second,
+            none,
+            none,
+            Condition::LessEq,
+            cells,
+            index,
+            values,
+            path,
+            l,
+        ),
+        _ => lang_set(first, none, Condition::OneLang, cells, index, values, p),
     }
 }
 
@@ -216,21 +272,9 @@ fn set_along(memo: &[u64], cells: &[u16], index: &[u16], values: &[i64], e: usiz
     requires { ⌜ Ready (now cells) (now index) (now values) (now memo) e × (13 ≤ formCodeAt (now cells) e) × (formCodeAt (now cells) e ≡ 17 → ⊥) ⌝ }
     ensures { λ r. ⌜ Tells (now (cells .entry)) (now (values .entry)) (now (memo .entry)) e (r .words) ⌝ }
 {
-    let mut f = [0u64; 16384];
-    let mut s = [0u64; 16384];
-    let mut x = NO_END;
-    let mut y = NO_END;
-    set_of_rows(
-        &mut f,
-        &mut x,
-        &mut s,
-        &mut y,
-        memo,
-        cells,
-        index,
-        values,
-        e,
-    )
+    let mut first = [0u64; 16384];
+    let mut second = [0u64; 16384];
+    set_of_rows(&mut first, &mut second, memo, cells, index, values, e)
 }
 
 // The same among the nodes of a set, one by one.
