@@ -201,69 +201,20 @@ fn set_of_rows(
     let j = 2 * wide(form_second(cells, e));
     let end = end_at(p);
     let path = End::Path(p);
-    let none = Kept::Unfilled;
+    let new = Kept::Unfilled;
+    let every = Condition::Every;
+    let equal = Condition::Equal;
+    let apart = Condition::Apart;
+    let less = Condition::Less;
+    let most = Condition::LessEq;
     match form_code(cells, e) {
-        13 => path_set(first, none, count, cells, index, values, p, memo, j),
-        14 => path_set(
-            first,
-            none,
-            Condition::Every,
-            cells,
-            index,
-            values,
-            p,
-            memo,
-            j,
-        ),
-        15 => ends_set(
-            first,
-            second,
-            none,
-            none,
-            Condition::Equal,
-            cells,
-            index,
-            values,
-            end,
-            l,
-        ),
-        16 => ends_set(
-            first,
-            second,
-            none,
-            none,
-            Condition::Apart,
-            cells,
-            index,
-            values,
-            end,
-            l,
-        ),
-        18 => ends_set(
-            first,
-            second,
-            none,
-            none,
-            Condition::Less,
-            cells,
-            index,
-            values,
-            path,
-            l,
-        ),
-        19 => ends_set(
-            first,
-            second,
-            none,
-            none,
-            Condition::LessEq,
-            cells,
-            index,
-            values,
-            path,
-            l,
-        ),
-        _ => lang_set(first, none, Condition::OneLang, cells, index, values, p),
+        13 => path_set(first, new, count, cells, index, values, p, memo, j),
+        14 => path_set(first, new, every, cells, index, values, p, memo, j),
+        15 => ends_set(first, second, new, new, equal, cells, index, values, end, l),
+        16 => ends_set(first, second, new, new, apart, cells, index, values, end, l),
+        18 => ends_set(first, second, new, new, less, cells, index, values, path, l),
+        19 => ends_set(first, second, new, new, most, cells, index, values, path, l),
+        _ => lang_set(first, new, Condition::OneLang, cells, index, values, p),
     }
 }
 
