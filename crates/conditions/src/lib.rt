@@ -18,6 +18,7 @@
 //                                      two sets with the same members, with none in common
 //   languages                          the nodes that have a language
 //   insert_if                          a number joins a set, or not
+use model::LinkNo;
 use model::NodeNo;
 use nodeset::NodeSet;
 use nodeset::insert;
@@ -30,6 +31,7 @@ use tables::reads::form_code;
 use tables::reads::form_first;
 use tables::reads::form_second;
 use tables::reads::item;
+use tables::reads::item_link;
 use tables::reads::limit;
 use tables::reads::node_count;
 use tables::reads::node_kind;
@@ -163,7 +165,7 @@ fn node(x: usize) -> NodeNo
     NodeNo(x as u16)
 }
 
-// x is one of n items from number i on.
+// Language x is one of n languages from item i on.
 fn listed(cells: &[u16], i: u16, n: u16, x: u16) -> bool
     ensures { λ r. ⌜ r ≡ member x (itemsAt (now (cells .entry)) i n) ⌝ }
 {
@@ -177,12 +179,30 @@ fn listed(cells: &[u16], i: u16, n: u16, x: u16) -> bool
     false
 }
 
+// Link l is one of n links from item i on.
+fn link_listed(cells: &[u16], i: u16, n: u16, l: LinkNo) -> bool
+    ensures { λ r. ⌜ r ≡ member (l .0) (itemsAt (now (cells .entry)) i n) ⌝ }
+{
+    let from = wide(i);
+    let count = wide(n);
+    for k in 0..count {
+        if item_link(cells, from + k).0 == l.0 {
+            return true;
+        }
+    }
+    false
+}
+
 // Fact i has a link that form entry e does not list.
 fn fact_unlisted(cells: &[u16], e: usize, i: usize) -> bool
     ensures { λ r. ⌜ r ≡ not (member (predicateAt (now (cells .entry)) i) (itemsAt (now (cells .entry)) (formFirstAt (now (cells .entry)) e) (formSecondAt (now (cells .entry)) e))) ⌝ }
 {
-    let p = predicate(cells, i);
-    !listed(cells, form_first(cells, e), form_second(cells, e), p.0)
+    !link_listed(
+        cells,
+        form_first(cells, e),
+        form_second(cells, e),
+        predicate(cells, i),
+    )
 }
 
 // Fact i, where yes; else what was found before.

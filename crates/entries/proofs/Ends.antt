@@ -1,24 +1,25 @@
 -- The ends from one node and from a set, in words; and ends as the code has them.
 use Prim.Native.Nat.{ℕ, _≤_, _<_}
 use mathlib.Core.List.{List}
-use mathlib.Core.Bool.{Bool, false, cond, _&&_, _||_, and-true}
+use mathlib.Core.Bool.{Bool, true, false, cond, _&&_, _||_, and-true}
 use mathlib.Core.Path.{_≡_, refl, sym, ap, _∙_}
 use native.Mathlib.Omega.{arith}
-use lib.Dec.{eqb, ltb, leb}
+use lib.Dec.{eqb, leb}
 use lib.ListN.{replicate, length-replicate}
-use borrow.Author.Tests.{eq-eqb, ne-eqb, eqb-true}
+use borrow.Author.Tests.{eq-eqb, eqb-true, eqb-false}
 use Rattle.base.proofs.Bools.{same-test, bool-cases}
 use Rattle.base.proofs.Bounded.{some-ext, some-eq}
 use Rattle.nodeset.specs.Words.{has, wordsOf, with}
 use Rattle.nodeset.proofs.Sets.{wordsOf-ext, has-of, has-zeros, zeros, with-step}
 use Rattle.model.specs.Paths.{self, along}
 use Rattle.model.specs.Shapes.{within, atMost, unbounded}
-use Rattle.tables.specs.Layout.{pathCount}
+use Rattle.tables.specs.Layout.{noNumber}
+use Rattle.tables.specs.WellFormed as tables
 use Rattle.tables.specs.Decode.{pathAt, endAt, upperOf}
 use Rattle.paths.specs.Images.{image, withImage, converseIf}
 use Rattle.paths.specs.Ends.{endIn, endOk}
 use Rattle.paths.specs.declared.End.the-variants.{Itself, Path}
-use Rattle.entries.specs.Tables.{EndFor}
+use Rattle.entries.specs.Tables.{endFor}
 use Rattle.entries.proofs.Codes.{end-below}
 
 -- into an empty set
@@ -36,17 +37,14 @@ image-single n r from v room l e = wordsOf-ext (image n r (has from)) (r v) 16 �
     some-ext (λ u. has from u && r u w) (λ u. eqb v u && r u w) n (λ u lu. ap (λ (b : Bool). b && r u w) (has-of (λ m. eqb v m) 16 (e ∙ single v) u (omega arith)))
     ∙ some-eq (λ u. r u w) v n l
 
--- the operand END
-pub end-self : {p : ℕ} → p ≡ 65535 → EndFor p Itself
-unfolding endIn endAt endOk
-end-self {p} q = record { is = λ cs. ap (λ (b : Bool). cond b self (along (pathAt cs p))) (sym (eq-eqb p 65535 q)); ok = λ cs h. refl }
+-- the operand END, whatever the tables
+pub end-in : (cs : List ℕ) (p : ℕ) → endIn cs (endFor p) ≡ endAt cs p
+unfolding endIn endAt endFor
+end-in cs p = bool-cases (λ b. eqb p noNumber ≡ b → endIn cs (cond b Itself (Path p)) ≡ cond b self (along (pathAt cs p))) (eqb p noNumber) (λ _ _. refl) (λ _ _. refl) refl
 
-pub end-path : {p e : ℕ} → (p ≡ 65535 → ⊥) → e ≡ p → EndFor p (Path e)
-unfolding endIn endAt endOk
-end-path {p} {e} ne q = record {
-  is = λ cs. ap (λ (e : ℕ). along (pathAt cs e)) q ∙ ap (λ (b : Bool). cond b self (along (pathAt cs p))) (sym (ne-eqb p 65535 ne));
-  ok = λ cs h. ap (λ (e : ℕ). ltb e (pathCount cs)) q ∙ end-below cs p ne h;
-}
+pub end-ok : (cs : List ℕ) (p : ℕ) → tables.endOk cs p ≡ true → endOk cs (endFor p) ≡ true
+unfolding endOk endFor
+end-ok cs p h = bool-cases (λ b. eqb p noNumber ≡ b → endOk cs (cond b Itself (Path p)) ≡ true) (eqb p noNumber) (λ _ _. refl) (λ _ q. end-below cs p (eqb-false p noNumber q) h) refl
 
 -- LO and HI
 pub between-law : (lo hi k : ℕ) → (leb lo k && (eqb hi 65535 || leb k hi)) ≡ within lo (upperOf hi) k

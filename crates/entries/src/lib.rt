@@ -2,6 +2,8 @@
 //
 // For the crates above, which show that the tables are well formed and lend the index of their facts:
 //   ends_from      all ends from the members of a set
+//   end_at         the end that an operand END is
+//   between        LO and HI of a count
 //   count_holds    `count`, with the nodes that conform to the part
 //   all_holds      `all`, likewise
 //   sets_hold      `equal`, `apart`, `less`, `lesseq`
@@ -38,7 +40,7 @@ ghost use Rattle.tables.specs.Decode.{triplesAt, graphAt, pathAt, upperOf, shap
 ghost use Rattle.paths.specs.Facts.{Tables};
 ghost use Rattle.paths.specs.Images.{image};
 ghost use Rattle.paths.specs.Ends.{endIn, endOk};
-ghost use Rattle.entries.specs.Tables.{Asked, EndFor};
+ghost use Rattle.entries.specs.Tables.{Asked, endFor};
 
 // All ends from the members of a set.
 pub fn ends_from(cells: &[u16], index: &[u16], end: End, from: &[u64]) -> NodeSet
@@ -61,21 +63,20 @@ fn ends_of(cells: &[u16], index: &[u16], end: End, v: usize) -> NodeSet
 }
 
 // The operand END: `id` or a path entry.
-fn end_at(p: u16) -> End
-    ensures { λ r. ⌜ EndFor p r ⌝ }
+pub fn end_at(p: usize) -> End
+    ensures { λ r. ⌜ r ≡ endFor p ⌝ }
 {
-    if p == NO_NUMBER {
-        End::Itself
-    } else {
-        End::Path(wide(p))
+    if p == wide(NO_NUMBER) {
+        return End::Itself;
     }
+    End::Path(p)
 }
 
 // k lies between LO and HI, which may be `*`.
-fn between(lo: u16, hi: u16, k: usize) -> bool
+pub fn between(lo: usize, hi: usize, k: usize) -> bool
     ensures { λ r. ⌜ r ≡ within lo (upperOf hi) k ⌝ }
 {
-    (wide(lo) <= k) & ((hi == NO_NUMBER) | (k <= wide(hi)))
+    (lo <= k) & ((hi == wide(NO_NUMBER)) | (k <= hi))
 }
 
 // `count`: the ones in the end set ANDed with those that conform to the part, which are nodes.
@@ -86,7 +87,7 @@ pub fn count_holds(cells: &[u16], index: &[u16], e: usize, v: usize, part: &[u64
     let set = ends_of(cells, index, End::Path(wide(form_first(cells, e))), v);
     let words = set.words;
     let k = count_both(&words, part);
-    between(form_third(cells, e), form_fourth(cells, e), k)
+    between(wide(form_third(cells, e)), wide(form_fourth(cells, e)), k)
 }
 
 // `all`: every end conforms to the part.
@@ -104,7 +105,7 @@ pub fn sets_hold(cells: &[u16], index: &[u16], values: &[i64], e: usize, v: usiz
     requires { ⌜ Asked (now cells) (now index) e v × (15 ≤ formCodeAt (now cells) e) × (formCodeAt (now cells) e ≤ 19) × (formCodeAt (now cells) e ≡ 17 → ⊥) ⌝ }
     ensures { λ r. ⌜ r ≡ conforms (graphAt (now (cells .entry)) (now (values .entry))) (shapeAt (now (cells .entry)) (now (values .entry)) e) v ⌝ }
 {
-    let first = ends_of(cells, index, end_at(form_first(cells, e)), v);
+    let first = ends_of(cells, index, end_at(wide(form_first(cells, e))), v);
     let a = first.words;
     let second = ends_of(cells, index, End::Link(form_link(cells, e)), v);
     let b = second.words;

@@ -7,6 +7,8 @@ use Rattle.model.specs.declared.NodeNo.{NodeNo}
 use Rattle.model.specs.declared.LinkNo.{LinkNo}
 use Rattle.plan.specs.Steps.{stepOf}
 use Rattle.plan.specs.Layout.{stepAt, stepCodeAt, stepFirstAt, stepSecondAt, stepThirdAt, stepFourthAt}
+use Rattle.paths.specs.declared.End.{End}
+use Rattle.entries.specs.Tables.{endFor}
 use Rattle.runner.specs.declared.Kind.{Kind}
 use Rattle.runner.specs.declared.Kind.the-variants.{Empty}
 use Rattle.runner.specs.Kinds.{node, link, kindOf}
@@ -22,6 +24,7 @@ pub record Read : Type 0 where
   pub c : NodeNo
   pub p : LinkNo
   pub l : LinkNo
+  pub end : End
   pub code : ℕ
   pub first : a ≡ stepFirstAt ps k
   pub second : b ≡ stepSecondAt ps k
@@ -30,6 +33,7 @@ pub record Read : Type 0 where
   pub first-node : c .0 ≡ stepFirstAt ps k
   pub first-link : p .0 ≡ stepFirstAt ps k
   pub second-link : l .0 ≡ stepSecondAt ps k
+  pub at : end ≡ endFor a
   pub same : code ≡ stepCodeAt ps k
 
 module _ (h : Read) where
@@ -56,3 +60,6 @@ module _ (h : Read) where
 
   pub by-second : (f : LinkNo → Kind) → f (h .l) ≡ f (link (h .b))
   by-second f = ap (λ (x : ℕ). f (link x)) (h .second-link ∙ sym (h .second))
+
+  pub by-ends : (f : End → LinkNo → Kind) → f (h .end) (h .l) ≡ f (endFor (h .a)) (link (h .b))
+  by-ends f = λ i. f (h .at i) (link ((h .second-link ∙ sym (h .second)) i))

@@ -1,13 +1,13 @@
 -- What a step asks for: the words that the calls give for it are the step's set, and a right step meets what they require.
 use Prim.Native.Nat.{ℕ, _+_, _-_, _*_, _≤_, _<_, suc}
 use mathlib.Core.List.{List}
-use mathlib.Core.Bool.{Bool, true, false, not, cond, _&&_, _||_, true≢false}
+use mathlib.Core.Bool.{Bool, true, false, _&&_, _||_, true≢false}
 use mathlib.Core.Path.{_≡_, refl, sym, ap, _∙_}
 use native.Mathlib.Omega.{arith}
-use lib.Dec.{eqb, ltb, leb}
+use lib.Dec.{ltb, leb}
 use lib.IntN.{ℤ}
 use lib.ListN.{drop, replicate}
-use borrow.Author.Tests.{ne-eqb, ltb-true}
+use borrow.Author.Tests.{ltb-true}
 use Rattle.base.specs.Bounded.{size}
 use Rattle.base.proofs.Bools.{bool-cases, and-left}
 use Rattle.base.proofs.Bounded.{size-beyond}
@@ -15,11 +15,12 @@ use Rattle.nodeset.specs.Words.{has, wordsOf}
 use Rattle.nodeset.proofs.Sets.{zeros}
 use Rattle.model.specs.Limits.{maxCount, maxNodes, maxSteps}
 use Rattle.model.specs.Paths as model
-use Rattle.model.specs.Paths.{self, along, endsOf}
+use Rattle.model.specs.Paths.{along, endsOf}
 use Rattle.model.specs.Shapes.{within, subset, from, objects, starts, conforms}
-use Rattle.tables.specs.Layout.{nodeCount, linkCount, pathCount, noNumber}
+use Rattle.tables.specs.Layout.{nodeCount, linkCount, pathCount}
 use Rattle.tables.specs.Decode.{graphAt, pathAt, endAt, upperOf}
-use Rattle.tables.specs.WellFormed.{upperOk, endOk}
+use Rattle.tables.specs.WellFormed as tables
+use Rattle.tables.specs.WellFormed.{upperOk}
 use Rattle.tables.proofs.WellFormed.{sound}
 use Rattle.plan.specs.Steps.{Step}
 use Rattle.plan.specs.Layout.{stepAt}
@@ -27,10 +28,13 @@ use Rattle.plan.specs.Sets.{inStep}
 use Rattle.plan.specs.WellFormed.{stepOk}
 use Rattle.plancheck.proofs.Codes.{test-codes}
 use Rattle.paths.specs.Facts.{Tables}
+use Rattle.paths.specs.Ends.{endIn, endOk}
+use Rattle.entries.specs.Tables.{endFor}
+use Rattle.entries.proofs.Ends.{end-in, end-ok}
 use Rattle.stepsets.specs.Conditions.{nodesOf, holdsOf, tagged, conditionOk}
 use Rattle.stepsets.specs.Targets.{picked}
 use Rattle.stepsets.specs.declared.Condition.{Condition}
-use Rattle.stepsets.specs.declared.Condition.the-variants.{Less, NotLess, LessEq, NotLessEq}
+use Rattle.stepsets.specs.declared.Condition.the-variants.{Equal, Unequal, Apart, Meet}
 use Rattle.stepsets.proofs.Conditions.{one-tagged, many-tagged}
 use Rattle.stepsets.proofs.Nodes.{nodes-ext, nodes-all, nodes-never}
 use Rattle.stepsets.proofs.Rows.{ends-low}
@@ -51,7 +55,7 @@ module _ (cs : List ℕ) (vs : List ℤ) (ws : List ℕ) where
   kindSet (Both i j) = nodesOf (λ v. has (drop (16 * i) ws) v && has (drop (16 * j) ws) v) (nodeCount cs)
   kindSet (Either i j) = nodesOf (λ v. has (drop (16 * i) ws) v || has (drop (16 * j) ws) v) (nodeCount cs)
   kindSet (Path condition p j) = nodesOf (λ v. holdsOf cs vs condition (from (graphAt cs vs) (pathAt cs p) v) (has (drop (16 * j) ws)) v) (nodeCount cs)
-  kindSet (Ends condition f l) = nodesOf (λ v. holdsOf cs vs condition (starts (graphAt cs vs) (endAt cs f) v) (objects (graphAt cs vs) (l .0) v) v) (nodeCount cs)
+  kindSet (Ends condition end l) = nodesOf (λ v. holdsOf cs vs condition (starts (graphAt cs vs) (endIn cs end) v) (objects (graphAt cs vs) (l .0) v) v) (nodeCount cs)
   kindSet (Lang condition p) = nodesOf (λ v. holdsOf cs vs condition (from (graphAt cs vs) (pathAt cs p) v) (tagged cs) v) (nodeCount cs)
   kindSet (Facts target) = nodesOf (picked cs target) (nodeCount cs)
 
@@ -63,7 +67,7 @@ KindOk cs (Node condition) = conditionOk cs condition ≡ true
 KindOk cs (Both i j) = (i < 65536) × (j < 65536)
 KindOk cs (Either i j) = (i < 65536) × (j < 65536)
 KindOk cs (Path condition p j) = (p < pathCount cs) × (j < 65536) × (conditionOk cs condition ≡ true)
-KindOk cs (Ends condition f l) = (endOk cs f ≡ true) × (conditionOk cs condition ≡ true)
+KindOk cs (Ends condition end l) = (endOk cs end ≡ true) × (conditionOk cs condition ≡ true)
 KindOk cs (Lang condition p) = (p < pathCount cs) × (conditionOk cs condition ≡ true)
 KindOk cs (Facts target) = Unit {0}
 
@@ -76,12 +80,11 @@ module _ (cs : List ℕ) (k : ℕ) (low : k < maxSteps) where
   on-path : (p j : ℕ) → (ltb p (pathCount cs) && ltb j k) ≡ true → (p < pathCount cs) × (j < 65536) × (true ≡ true)
   on-path p j w = let l : (p < pathCount cs) × (j < k) = two-low p j (pathCount cs) k w in (l .0, omega arith, refl)
 
-  an-end : (p l : ℕ) → (ltb p (pathCount cs) && ltb l (linkCount cs)) ≡ true → endOk cs p ≡ true
-  unfolding endOk
-  an-end p l w = ap (λ (x : Bool). x || eqb p noNumber) (and-left (ltb p (pathCount cs)) (ltb l (linkCount cs)) w)
+  an-end : (f l : ℕ) → (tables.endOk cs f && ltb l (linkCount cs)) ≡ true → endOk cs (endFor f) ≡ true
+  an-end f l w = end-ok cs f (and-left (tables.endOk cs f) (ltb l (linkCount cs)) w)
 
   pub kind-ok : (s : Step) → stepOk cs k s ≡ true → KindOk cs (kindOf s)
-  unfolding kindOf stepOk conditionOk
+  unfolding kindOf stepOk conditionOk endOk
   kind-ok Step.all w = tt
   kind-ok Step.none w = tt
   kind-ok (Step.is c) w = refl
@@ -92,16 +95,16 @@ module _ (cs : List ℕ) (k : ℕ) (low : k < maxSteps) where
   kind-ok (Step.either i j) w = lower i j w
   kind-ok (Step.count p j lo hi) w = on-path p j (and-left (ltb p (pathCount cs) && ltb j k) (leb lo (suc maxCount) && upperOk cs hi) w)
   kind-ok (Step.every p j) w = on-path p j w
-  kind-ok (Step.equal f l) w = (and-left (endOk cs f) (ltb l (linkCount cs)) w, refl)
-  kind-ok (Step.unequal f l) w = (and-left (endOk cs f) (ltb l (linkCount cs)) w, refl)
-  kind-ok (Step.apart f l) w = (and-left (endOk cs f) (ltb l (linkCount cs)) w, refl)
-  kind-ok (Step.meet f l) w = (and-left (endOk cs f) (ltb l (linkCount cs)) w, refl)
+  kind-ok (Step.equal f l) w = (an-end f l w, refl)
+  kind-ok (Step.unequal f l) w = (an-end f l w, refl)
+  kind-ok (Step.apart f l) w = (an-end f l w, refl)
+  kind-ok (Step.meet f l) w = (an-end f l w, refl)
   kind-ok (Step.closed e) w = refl
   kind-ok (Step.opened e) w = refl
-  kind-ok (Step.less p l) w = (an-end p l w, refl)
-  kind-ok (Step.notless p l) w = (an-end p l w, refl)
-  kind-ok (Step.lesseq p l) w = (an-end p l w, refl)
-  kind-ok (Step.notlesseq p l) w = (an-end p l w, refl)
+  kind-ok (Step.less p l) w = (and-left (ltb p (pathCount cs)) (ltb l (linkCount cs)) w, refl)
+  kind-ok (Step.notless p l) w = (and-left (ltb p (pathCount cs)) (ltb l (linkCount cs)) w, refl)
+  kind-ok (Step.lesseq p l) w = (and-left (ltb p (pathCount cs)) (ltb l (linkCount cs)) w, refl)
+  kind-ok (Step.notlesseq p l) w = (and-left (ltb p (pathCount cs)) (ltb l (linkCount cs)) w, refl)
   kind-ok (Step.onelang p) w = (ltb-true p (pathCount cs) w, refl)
   kind-ok (Step.manylang p) w = (ltb-true p (pathCount cs) w, refl)
   kind-ok (Step.from l) w = tt
@@ -124,19 +127,12 @@ module _ (cs index : List ℕ) (tables : Tables cs index) (vs : List ℤ) (ws : 
       past : (v : ℕ) → v < n → (w : ℕ) → n ≤ w → (from (graphAt cs vs) (pathAt cs p) v w && has (drop (16 * j) ws) w) ≡ false
       past v l w m = bool-cases (λ t. from (graphAt cs vs) (pathAt cs p) v w ≡ t → (t && has (drop (16 * j) ws) w) ≡ false) (from (graphAt cs vs) (pathAt cs p) v w) (λ _ q. let z : w < n = ends-low cs index tables (along (pathAt cs p)) v w l q in absurd (omega arith)) (λ _ q. refl) refl
 
-  -- a path entry is no `id`
-  no-id : (p l : ℕ) → (ltb p (pathCount cs) && ltb l (linkCount cs)) ≡ true → endAt cs p ≡ along (pathAt cs p)
-  unfolding endAt
-  no-id p l w =
-      let low : p < pathCount cs = ltb-true p (pathCount cs) (and-left (ltb p (pathCount cs)) (ltb l (linkCount cs)) w) in
-      ap (λ (t : Bool). cond t self (along (pathAt cs p))) (ne-eqb p noNumber (λ q. let z : ⊥ = omega (arith, sound cs (tables .ok) .paths) in z))
-
-  by-path : (condition : Condition) (p l : ℕ) → (ltb p (pathCount cs) && ltb l (linkCount cs)) ≡ true → nodesOf (λ v. holdsOf cs vs condition (starts (graphAt cs vs) (endAt cs p) v) (objects (graphAt cs vs) l v) v) n ≡ nodesOf (λ v. holdsOf cs vs condition (from (graphAt cs vs) (pathAt cs p) v) (objects (graphAt cs vs) l v) v) n
-  unfolding endsOf
-  by-path condition p l w = ap (λ (f : model.End). nodesOf (λ v. holdsOf cs vs condition (starts (graphAt cs vs) f v) (objects (graphAt cs vs) l v) v) n) (no-id p l w)
+  -- the operand END
+  by-end : (condition : Condition) (f l : ℕ) → nodesOf (λ v. holdsOf cs vs condition (starts (graphAt cs vs) (endIn cs (endFor f)) v) (objects (graphAt cs vs) l v) v) n ≡ nodesOf (λ v. holdsOf cs vs condition (starts (graphAt cs vs) (endAt cs f) v) (objects (graphAt cs vs) l v) v) n
+  by-end condition f l = ap (λ (x : model.End). nodesOf (λ v. holdsOf cs vs condition (starts (graphAt cs vs) x v) (objects (graphAt cs vs) l v) v) n) (end-in cs f)
 
   kind-set : (s : Step) → stepOk cs k s ≡ true → kindSet cs vs ws (kindOf s) ≡ nodesOf (inStep cs vs s (λ j. has (drop (16 * j) ws))) n
-  unfolding kindSet kindOf stepOk inStep conforms holdsOf graphAt subset
+  unfolding kindSet kindOf stepOk inStep conforms holdsOf graphAt subset endIn endsOf
   kind-set Step.all w = nodes-all n
   kind-set Step.none w = zeros 16 ∙ nodes-never n
   kind-set (Step.is c) w = refl
@@ -147,16 +143,16 @@ module _ (cs index : List ℕ) (tables : Tables cs index) (vs : List ℤ) (ws : 
   kind-set (Step.either i j) w = refl
   kind-set (Step.count p j lo hi) w = counted p j lo hi
   kind-set (Step.every p j) w = refl
-  kind-set (Step.equal f l) w = refl
-  kind-set (Step.unequal f l) w = refl
-  kind-set (Step.apart f l) w = refl
-  kind-set (Step.meet f l) w = refl
+  kind-set (Step.equal f l) w = by-end Equal f l
+  kind-set (Step.unequal f l) w = by-end Unequal f l
+  kind-set (Step.apart f l) w = by-end Apart f l
+  kind-set (Step.meet f l) w = by-end Meet f l
   kind-set (Step.closed e) w = nodes-ext _ _ n (λ v l. closed-by cs vs e w v)
   kind-set (Step.opened e) w = nodes-ext _ _ n (λ v l. opened-by cs vs e w v)
-  kind-set (Step.less p l) w = by-path Less p l w
-  kind-set (Step.notless p l) w = by-path NotLess p l w
-  kind-set (Step.lesseq p l) w = by-path LessEq p l w
-  kind-set (Step.notlesseq p l) w = by-path NotLessEq p l w
+  kind-set (Step.less p l) w = refl
+  kind-set (Step.notless p l) w = refl
+  kind-set (Step.lesseq p l) w = refl
+  kind-set (Step.notlesseq p l) w = refl
   kind-set (Step.onelang p) w = nodes-ext _ _ n (λ v l. one-tagged cs vs (from (graphAt cs vs) (pathAt cs p) v) v)
   kind-set (Step.manylang p) w = nodes-ext _ _ n (λ v l. many-tagged cs vs (from (graphAt cs vs) (pathAt cs p) v) v)
   kind-set (Step.from l) w = nodes-ext _ _ n (λ v m. picked-from cs vs v (record { 0 = l }))

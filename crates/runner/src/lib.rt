@@ -3,12 +3,14 @@
 //
 // It sees neither reader nor compiler nor verdict: any tables and any plan may be handed in, and are checked before the first
 // word is written.
+use entries::end_at;
 use model::LinkNo;
 use model::MAX_NODES;
 use model::MAX_STEPS;
 use model::Refusal;
 use nodeset::NodeSet;
 use nodeset::store;
+use paths::End;
 use paths::INDEX_CELLS;
 use paths::index_table;
 use plan::PLAN_CELLS;
@@ -24,7 +26,7 @@ use plancheck::reads::step_second;
 use plancheck::reads::step_second_link;
 use plancheck::reads::step_third;
 use stepsets::Condition;
-use stepsets::NO_END;
+use stepsets::Kept;
 use stepsets::Target;
 use stepsets::both_set;
 use stepsets::either_set;
@@ -48,7 +50,7 @@ ghost use Rattle.paths.specs.Facts.{Tables};
 ghost use Rattle.stepsets.specs.Ends.{Held, RowsFor};
 ghost use Rattle.plan.specs.Layout.{stepAt};
 ghost use Rattle.plan.specs.WellFormed.{stepOk, planWellFormed};
-ghost use Rattle.runner.specs.Kinds.{kindOf};
+ghost use Rattle.runner.specs.Kinds.{kindOf, firstAfter, secondAfter};
 ghost use Rattle.runner.specs.Run.{workCount, answerOf, filled, runLong, runAnswer, workAfter, fewNodes};
 ghost use Rattle.runner.specs.Steps.{stepFrom, put};
 
@@ -76,7 +78,7 @@ enum Kind {
     Both(usize, usize),
     Either(usize, usize),
     Path(Condition, usize, usize),
-    Ends(Condition, usize, LinkNo),
+    Ends(Condition, End, LinkNo),
     Lang(Condition, usize),
     Facts(Target),
 }
@@ -92,6 +94,7 @@ fn step_kind(plan: &[u16], k: usize) -> Kind
     let c = step_node(plan, k);
     let p = step_link(plan, k);
     let l = step_second_link(plan, k);
+    let end = end_at(a);
     match step_code(plan, k) {
         steps::ALL => Kind::Whole,
         steps::NONE => Kind::Empty,
@@ -103,16 +106,16 @@ fn step_kind(plan: &[u16], k: usize) -> Kind
         steps::EITHER => Kind::Either(a, b),
         steps::COUNT => Kind::Path(Condition::Count(lo, hi), a, b),
         steps::EVERY => Kind::Path(Condition::Every, a, b),
-        steps::EQUAL => Kind::Ends(Condition::Equal, a, l),
-        steps::UNEQUAL => Kind::Ends(Condition::Unequal, a, l),
-        steps::APART => Kind::Ends(Condition::Apart, a, l),
-        steps::MEET => Kind::Ends(Condition::Meet, a, l),
+        steps::EQUAL => Kind::Ends(Condition::Equal, end, l),
+        steps::UNEQUAL => Kind::Ends(Condition::Unequal, end, l),
+        steps::APART => Kind::Ends(Condition::Apart, end, l),
+        steps::MEET => Kind::Ends(Condition::Meet, end, l),
         steps::CLOSED => Kind::Node(Condition::Closed(a)),
         steps::OPEN => Kind::Node(Condition::Open(a)),
-        steps::LESS => Kind::Ends(Condition::Less, a, l),
-        steps::NOTLESS => Kind::Ends(Condition::NotLess, a, l),
-        steps::LESSEQ => Kind::Ends(Condition::LessEq, a, l),
-        steps::NOTLESSEQ => Kind::Ends(Condition::NotLessEq, a, l),
+        steps::LESS => Kind::Ends(Condition::Less, End::Path(a), l),
+        steps::NOTLESS => Kind::Ends(Condition::NotLess, End::Path(a), l),
+        steps::LESSEQ => Kind::Ends(Condition::LessEq, End::Path(a), l),
+        steps::NOTLESSEQ => Kind::Ends(Condition::NotLessEq, End::Path(a), l),
         steps::ONELANG => Kind::Lang(Condition::OneLang, a),
         steps::MANYLANG => Kind::Lang(Condition::ManyLang, a),
         steps::FROM => Kind::Facts(Target::From(p)),
@@ -122,13 +125,45 @@ fn step_kind(plan: &[u16], k: usize) -> Kind
     }
 }
 
-// The set of step k, from the sets of the steps before it. The rows of ends that it looks at are kept for the next step: first
-// holds those of number end, and second those of number link.
+// What the first rows hold after a step, and what the second hold.
+fn first_after(kind: Kind, kept: Kept) -> Kept
+    ensures { λ r. ⌜ r ≡ firstAfter kind kept ⌝ }
+{
+    match kind {
+        Kind::Whole => kept,
+        Kind::Empty => kept,
+        Kind::Node(_) => kept,
+        Kind::Both(_, _) => kept,
+        Kind::Either(_, _) => kept,
+        Kind::Path(_, p, _) => Kept::RowsOf(End::Path(p)),
+        Kind::Ends(_, end, _) => Kept::RowsOf(end),
+        Kind::Lang(_, p) => Kept::RowsOf(End::Path(p)),
+        Kind::Facts(_) => kept,
+    }
+}
+
+fn second_after(kind: Kind, kept: Kept) -> Kept
+    ensures { λ r. ⌜ r ≡ secondAfter kind kept ⌝ }
+{
+    match kind {
+        Kind::Whole => kept,
+        Kind::Empty => kept,
+        Kind::Node(_) => kept,
+        Kind::Both(_, _) => kept,
+        Kind::Either(_, _) => kept,
+        Kind::Path(_, _, _) => kept,
+        Kind::Ends(_, _, l) => Kept::RowsOf(End::Link(l)),
+        Kind::Lang(_, _) => kept,
+        Kind::Facts(_) => kept,
+    }
+}
+
+// The set of step k, from the sets of the steps before it. The rows of ends that it looks at are kept for the next step.
 fn step_set(
     first: &mut [u64],
-    end: &mut usize,
     second: &mut [u64],
-    link: &mut usize,
+    kept: Kept,
+    links: Kept,
     cells: &[u16],
     index: &[u16],
     values: &[i64],
@@ -136,10 +171,10 @@ fn step_set(
     work: &[u64],
     k: usize,
 ) -> NodeSet
-    requires { ⌜ Tables (now cells) (now index) × (k < maxSteps) × (stepOk (now cells) k (stepAt (now plan) k) ≡ true) × Held (now cells) (now end) (now first) × Held (now cells) (now link) (now second) ⌝ }
+    requires { ⌜ Tables (now cells) (now index) × (k < maxSteps) × (stepOk (now cells) k (stepAt (now plan) k) ≡ true) × Held (now cells) kept (now first) × Held (now cells) links (now second) ⌝ }
     ensures { λ r. ⌜ r .words ≡ stepFrom (now (cells .entry)) (now (values .entry)) (now (plan .entry)) (now (work .entry)) k ⌝ }
-    ensures { λ _. ⌜ Held (now (cells .entry)) (now (end .exit)) (now (first .exit)) ⌝ }
-    ensures { λ _. ⌜ Held (now (cells .entry)) (now (link .exit)) (now (second .exit)) ⌝ }
+    ensures { λ _. ⌜ Held (now (cells .entry)) (firstAfter (kindOf (stepAt (now (plan .entry)) k)) kept) (now (first .exit)) ⌝ }
+    ensures { λ _. ⌜ Held (now (cells .entry)) (secondAfter (kindOf (stepAt (now (plan .entry)) k)) links) (now (second .exit)) ⌝ }
 {
     let n = node_count(cells);
     match step_kind(plan, k) {
@@ -149,23 +184,23 @@ fn step_set(
         Kind::Both(i, j) => both_set(work, i, j, n),
         Kind::Either(i, j) => either_set(work, i, j, n),
         Kind::Path(condition, p, j) => {
-            path_set(first, end, condition, cells, index, values, p, work, j)
-        },
-        Kind::Ends(condition, f, l) => {
+            path_set(first, kept, condition, cells, index, values, p, work, j)
+        }
+        Kind::Ends(condition, end, l) => {
             ends_set(
                 first,
-                end,
                 second,
-                link,
+                kept,
+                links,
                 condition,
                 cells,
                 index,
                 values,
-                f,
+                end,
                 l,
             )
         }
-        Kind::Lang(condition, p) => lang_set(first, end, condition, cells, index, values, p),
+        Kind::Lang(condition, p) => lang_set(first, kept, condition, cells, index, values, p),
         Kind::Facts(target) => facts_set(target, cells, index),
     }
 }
@@ -174,25 +209,25 @@ fn step_set(
 fn run_step(
     work: &mut [u64],
     first: &mut [u64],
-    end: &mut usize,
     second: &mut [u64],
-    link: &mut usize,
+    kept: Kept,
+    links: Kept,
     cells: &[u16],
     index: &[u16],
     values: &[i64],
     plan: &[u16],
     k: usize,
 )
-    requires { ⌜ Tables (now cells) (now index) × (k < maxSteps) × (stepOk (now cells) k (stepAt (now plan) k) ≡ true) × Held (now cells) (now end) (now first) × Held (now cells) (now link) (now second) × (workCount ≤ length (now work)) ⌝ }
+    requires { ⌜ Tables (now cells) (now index) × (k < maxSteps) × (stepOk (now cells) k (stepAt (now plan) k) ≡ true) × Held (now cells) kept (now first) × Held (now cells) links (now second) × (workCount ≤ length (now work)) ⌝ }
     ensures { λ _. ⌜ now (work .exit) ≡ put (now (work .entry)) k (stepFrom (now (cells .entry)) (now (values .entry)) (now (plan .entry)) (now (work .entry)) k) ⌝ }
-    ensures { λ _. ⌜ Held (now (cells .entry)) (now (end .exit)) (now (first .exit)) ⌝ }
-    ensures { λ _. ⌜ Held (now (cells .entry)) (now (link .exit)) (now (second .exit)) ⌝ }
+    ensures { λ _. ⌜ Held (now (cells .entry)) (firstAfter (kindOf (stepAt (now (plan .entry)) k)) kept) (now (first .exit)) ⌝ }
+    ensures { λ _. ⌜ Held (now (cells .entry)) (secondAfter (kindOf (stepAt (now (plan .entry)) k)) links) (now (second .exit)) ⌝ }
 {
     let set = step_set(
         first,
-        end,
         second,
-        link,
+        kept,
+        links,
         cells,
         index,
         values,
@@ -217,22 +252,25 @@ fn run_all(
     requires { ⌜ Tables (now cells) (now index) × (planWellFormed (now cells) (now plan) ≡ true) × (workCount ≤ length (now work)) × RowsFor (now cells) (now first) × RowsFor (now cells) (now second) ⌝ }
     ensures { λ _. ⌜ now (work .exit) ≡ filled (now (cells .entry)) (now (values .entry)) (now (plan .entry)) (now (work .entry)) ⌝ }
 {
-    let mut end = NO_END;
-    let mut link = NO_END;
+    let mut kept = Kept::Unfilled;
+    let mut links = Kept::Unfilled;
     let count = step_count(plan);
     for k in 0..count {
         run_step(
             work,
             first,
-            &mut end,
             second,
-            &mut link,
+            kept,
+            links,
             cells,
             index,
             values,
             plan,
             k,
         );
+        let kind = step_kind(plan, k);
+        kept = first_after(kind, kept);
+        links = second_after(kind, links);
     }
 }
 

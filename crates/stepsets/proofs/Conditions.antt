@@ -1,17 +1,17 @@
 -- What is asked looks at the two sets below 1,024 only; and what it says in the words of the steps.
 use Prim.Native.Nat.{ℕ, _-_, _≤_, _<_}
-use mathlib.Core.Bool.{Bool, true, false, not, cond, _&&_, _||_, or-true, or-false, and-true}
+use mathlib.Core.Bool.{Bool, true, not, _&&_, _||_}
 use mathlib.Core.List.{List}
 use mathlib.Core.Path.{_≡_, refl, sym, ap, ap₂, _∙_}
 use native.Mathlib.Omega.{arith}
-use lib.Dec.{eqb, ltb, leb}
+use lib.Dec.{eqb, leb}
 use lib.IntN.{ℤ}
 use borrow.Author.Tests.{leb-true, lt-ltb}
 use Rattle.base.specs.Bounded.{_⇒_, some, every}
 use Rattle.base.proofs.Bools.{and-left, and-right}
 use Rattle.base.proofs.Bounded.{some-ext, every-ext, size-ext}
-use Rattle.model.specs.Shapes.{atMost, unbounded, within, subset, noneShared, allPairs}
-use Rattle.tables.specs.Layout.{nodeCount, kindAt, formCodeAt, noNumber}
+use Rattle.model.specs.Shapes.{within, subset, noneShared, allPairs}
+use Rattle.tables.specs.Layout.{nodeCount, kindAt, formCodeAt}
 use Rattle.tables.specs.Decode.{termAt, upperOf}
 use Rattle.plan.specs.Conditions.{someInOne, someShared, somePair, clash}
 use Rattle.conditions.specs.Pairs.{unlikeLangs}
@@ -95,15 +95,6 @@ module _ (cs : List ℕ) (vs : List ℤ) (a : ℕ → Bool) (v : ℕ) where
   pub many-tagged : holdsOf cs vs ManyLang a (tagged cs) v ≡ somePair (nodeCount cs) a a (clash (termAt cs vs))
   unfolding holdsOf
   many-tagged = clash-tagged cs vs a (λ x. a x && tagged cs x) (split cs a)
-
--- ---- LO and HI as the code tests them
-pub within-code : (lo hi k : ℕ) → (leb lo k && (leb k hi || eqb hi noNumber)) ≡ within lo (upperOf hi) k
-unfolding within upperOf
-within-code lo hi k = go (eqb hi noNumber)
-  where
-    go : (b : Bool) → (leb lo k && (leb k hi || b)) ≡ within lo (cond b unbounded (atMost hi)) k
-    go true = ap (λ (x : Bool). leb lo k && x) (or-true (leb k hi)) ∙ and-true (leb lo k)
-    go false = ap (λ (x : Bool). leb lo k && x) (or-false (leb k hi))
 
 -- ---- a test names a test
 in-tests : (cs : List ℕ) (e : ℕ) → (leb 6 (formCodeAt cs e) && leb (formCodeAt cs e) 12) ≡ true → (6 ≤ formCodeAt cs e) × (formCodeAt cs e ≤ 12)

@@ -27,6 +27,7 @@ use conditions::onelang_holds;
 use conditions::subset_holds;
 use conditions::test_fails;
 use conditions::test_holds;
+use entries::between;
 use model::LinkNo;
 use model::NodeNo;
 use nodeset::NodeSet;
@@ -36,30 +37,29 @@ use paths::End;
 use paths::last_fact;
 use paths::next_fact;
 use rows::all_table_ends;
-use tables::layout::NO_NUMBER;
 use tables::reads::node_count;
 use tables::reads::object;
 use tables::reads::subject;
 use tables::reads::wide;
 ghost use mathlib.Core.Path.{_≡_};
 ghost use mathlib.Core.Bool.{true, false, cond, _&&_, _||_};
-ghost use Prim.Native.Nat.{_+_, _*_, _<_, _≤_};
+ghost use Prim.Native.Nat.{_*_, _<_};
 ghost use lib.ListN.{drop};
 ghost use Rattle.nodeset.specs.Words.{has};
-ghost use Rattle.model.specs.Shapes.{within, from, objects, starts};
+ghost use Rattle.model.specs.Shapes.{from, objects, starts};
 ghost use Rattle.tables.specs.Layout.{nodeCount, pathCount};
-ghost use Rattle.tables.specs.Decode.{graphAt, pathAt, endAt, upperOf};
-ghost use Rattle.tables.specs.WellFormed.{endOk};
+ghost use Rattle.tables.specs.Decode.{graphAt, pathAt};
 ghost use Rattle.paths.specs.Facts.{Tables};
+ghost use Rattle.paths.specs.Ends.{endIn, endOk};
 ghost use Rattle.stepsets.specs.Conditions.{nodesOf, holdsOf, tagged, conditionOk};
-ghost use Rattle.stepsets.specs.Ends.{EndOf, numberOk, Held};
+ghost use Rattle.stepsets.specs.Ends.{sameEnd, keeps, Held};
 ghost use Rattle.stepsets.specs.Targets.{nodeOf, picked, chosen, ByLink};
 
-// Ends have numbers: `id` and path entries those of the tables, links those from here on.
-const FIRST_LINK: usize = 65536;
-
-// A number that no end has, for rows that were not filled yet.
-pub const NO_END: usize = 65534;
+// What rows of ends hold: nothing yet, or the ends of all nodes.
+pub enum Kept {
+    Unfilled,
+    RowsOf(End),
+}
 
 // What is asked of each node, a case for each keeping and each breaking step: whether it is a node; whether it meets the test of a
 // form entry; how many of its ends are in a set, and that all are; whether two end sets are equal, are apart, whether each pair is
@@ -92,13 +92,6 @@ pub enum Target {
     Typed(NodeNo),
 }
 
-// LO ≤ count ≤ HI, where 65,535 is no bound.
-fn is_within(lo: usize, hi: usize, count: usize) -> bool
-    ensures { λ r. ⌜ r ≡ within lo (upperOf hi) count ⌝ }
-{
-    (lo <= count) & ((count <= hi) | (hi == wide(NO_NUMBER)))
-}
-
 // The condition holds of node v, with its two sets.
 fn condition_holds(
     condition: Condition,
@@ -118,7 +111,7 @@ fn condition_holds(
         Condition::IsNot(c) => v != wide(c.0),
         Condition::Test(e) => test_holds(cells, values, e, v),
         Condition::Untest(e) => test_fails(cells, values, e, v),
-        Condition::Count(lo, hi) => is_within(lo, hi, count_both(a, b)),
+        Condition::Count(lo, hi) => between(lo, hi, count_both(a, b)),
         Condition::Every => subset_holds(a, b, n),
         Condition::Equal => equal_holds(a, b, n),
         Condition::Unequal => equal_fails(a, b, n),
@@ -187,42 +180,53 @@ pub fn plain_set(condition: Condition, cells: &[u16], index: &[u16], values: &[i
     nodes_where(condition, cells, index, values, &none, &none, false)
 }
 
-// The ends that number x names: below 65,536 `id` or a path entry, from there on a link.
-fn end_of(x: usize) -> End
-    ensures { λ r. ⌜ EndOf x r ⌝ }
+// Two ends are the same.
+fn same_end(a: End, b: End) -> bool
+    ensures { λ r. ⌜ r ≡ sameEnd a b ⌝ }
 {
-    if x == wide(NO_NUMBER) {
-        return End::Itself;
+    match a {
+        End::Itself => match b {
+            End::Itself => true,
+            End::Link(_) => false,
+            End::Path(_) => false,
+        },
+        End::Link(l) => match b {
+            End::Itself => false,
+            End::Link(m) => l.0 == m.0,
+            End::Path(_) => false,
+        },
+        End::Path(p) => match b {
+            End::Itself => false,
+            End::Link(_) => false,
+            End::Path(q) => p == q,
+        },
     }
-    if x < FIRST_LINK {
-        return End::Path(x);
-    }
-    End::Link(LinkNo((x % 65536) as u16))
 }
 
-// The number of the ends of link l.
-fn link_number(l: u16) -> usize
-    ensures { λ r. ⌜ (r ≡ 65536 + l) × (l < 65536) ⌝ }
+// The rows hold these ends.
+fn is_kept(kept: Kept, end: End) -> bool
+    ensures { λ r. ⌜ r ≡ keeps kept end ⌝ }
 {
-    FIRST_LINK + wide(l)
+    match kept {
+        Kept::Unfilled => false,
+        Kept::RowsOf(held) => same_end(held, end),
+    }
 }
 
-// The rows become those of number x, where they are not these already; held is the number of what they hold.
-fn keep_ends(rows: &mut [u64], held: &mut usize, x: usize, cells: &[u16], index: &[u16])
-    requires { ⌜ Tables (now cells) (now index) × (numberOk (now cells) x ≡ true) × Held (now cells) (now held) (now rows) ⌝ }
-    ensures { λ _. ⌜ Held (now (cells .entry)) x (now (rows .exit)) ⌝ }
-    ensures { λ _. ⌜ now (held .exit) ≡ x ⌝ }
+// The rows become those of these ends, where they are not these already.
+fn keep_ends(rows: &mut [u64], kept: Kept, end: End, cells: &[u16], index: &[u16])
+    requires { ⌜ Tables (now cells) (now index) × (endOk (now cells) end ≡ true) × Held (now cells) kept (now rows) ⌝ }
+    ensures { λ _. ⌜ Held (now (cells .entry)) (Kept.RowsOf end) (now (rows .exit)) ⌝ }
 {
-    if *held != x {
-        all_table_ends(rows, end_of(x), cells, index);
-        *held = x;
+    if !is_kept(kept, end) {
+        all_table_ends(rows, end, cells, index);
     }
 }
 
 // A condition on the ends of path entry p, and the set of step j in the work space.
 pub fn path_set(
     first: &mut [u64],
-    end: &mut usize,
+    kept: Kept,
     condition: Condition,
     cells: &[u16],
     index: &[u16],
@@ -231,11 +235,11 @@ pub fn path_set(
     work: &[u64],
     j: usize,
 ) -> NodeSet
-    requires { ⌜ Tables (now cells) (now index) × (p < pathCount (now cells)) × (j < 65536) × (conditionOk (now cells) condition ≡ true) × Held (now cells) (now end) (now first) ⌝ }
+    requires { ⌜ Tables (now cells) (now index) × (p < pathCount (now cells)) × (j < 65536) × (conditionOk (now cells) condition ≡ true) × Held (now cells) kept (now first) ⌝ }
     ensures { λ r. ⌜ r .words ≡ nodesOf (λ v. holdsOf (now (cells .entry)) (now (values .entry)) condition (from (graphAt (now (cells .entry)) (now (values .entry))) (pathAt (now (cells .entry)) p) v) (has (drop (16 * j) (now (work .entry)))) v) (nodeCount (now (cells .entry))) ⌝ }
-    ensures { λ _. ⌜ Held (now (cells .entry)) (now (end .exit)) (now (first .exit)) ⌝ }
+    ensures { λ _. ⌜ Held (now (cells .entry)) (Kept.RowsOf (End.Path p)) (now (first .exit)) ⌝ }
 {
-    keep_ends(first, end, p, cells, index);
+    keep_ends(first, kept, End::Path(p), cells, index);
     nodes_where(
         condition,
         cells,
@@ -250,43 +254,43 @@ pub fn path_set(
 // A condition on the ends of path entry p and the nodes that have a language.
 pub fn lang_set(
     first: &mut [u64],
-    end: &mut usize,
+    kept: Kept,
     condition: Condition,
     cells: &[u16],
     index: &[u16],
     values: &[i64],
     p: usize,
 ) -> NodeSet
-    requires { ⌜ Tables (now cells) (now index) × (p < pathCount (now cells)) × (conditionOk (now cells) condition ≡ true) × Held (now cells) (now end) (now first) ⌝ }
+    requires { ⌜ Tables (now cells) (now index) × (p < pathCount (now cells)) × (conditionOk (now cells) condition ≡ true) × Held (now cells) kept (now first) ⌝ }
     ensures { λ r. ⌜ r .words ≡ nodesOf (λ v. holdsOf (now (cells .entry)) (now (values .entry)) condition (from (graphAt (now (cells .entry)) (now (values .entry))) (pathAt (now (cells .entry)) p) v) (tagged (now (cells .entry))) v) (nodeCount (now (cells .entry))) ⌝ }
-    ensures { λ _. ⌜ Held (now (cells .entry)) (now (end .exit)) (now (first .exit)) ⌝ }
+    ensures { λ _. ⌜ Held (now (cells .entry)) (Kept.RowsOf (End.Path p)) (now (first .exit)) ⌝ }
 {
-    keep_ends(first, end, p, cells, index);
+    keep_ends(first, kept, End::Path(p), cells, index);
     let set = languages(cells);
     let words = set.words;
     nodes_where(condition, cells, index, values, &first[..], &words, false)
 }
 
-// A condition on the ends of END f and those of link l.
+// A condition on the ends of END and those of link l.
 pub fn ends_set(
     first: &mut [u64],
-    end: &mut usize,
     second: &mut [u64],
-    link: &mut usize,
+    kept: Kept,
+    links: Kept,
     condition: Condition,
     cells: &[u16],
     index: &[u16],
     values: &[i64],
-    f: usize,
+    end: End,
     l: LinkNo,
 ) -> NodeSet
-    requires { ⌜ Tables (now cells) (now index) × (endOk (now cells) f ≡ true) × (conditionOk (now cells) condition ≡ true) × Held (now cells) (now end) (now first) × Held (now cells) (now link) (now second) ⌝ }
-    ensures { λ r. ⌜ r .words ≡ nodesOf (λ v. holdsOf (now (cells .entry)) (now (values .entry)) condition (starts (graphAt (now (cells .entry)) (now (values .entry))) (endAt (now (cells .entry)) f) v) (objects (graphAt (now (cells .entry)) (now (values .entry))) (l .0) v) v) (nodeCount (now (cells .entry))) ⌝ }
-    ensures { λ _. ⌜ Held (now (cells .entry)) (now (end .exit)) (now (first .exit)) ⌝ }
-    ensures { λ _. ⌜ Held (now (cells .entry)) (now (link .exit)) (now (second .exit)) ⌝ }
+    requires { ⌜ Tables (now cells) (now index) × (endOk (now cells) end ≡ true) × (conditionOk (now cells) condition ≡ true) × Held (now cells) kept (now first) × Held (now cells) links (now second) ⌝ }
+    ensures { λ r. ⌜ r .words ≡ nodesOf (λ v. holdsOf (now (cells .entry)) (now (values .entry)) condition (starts (graphAt (now (cells .entry)) (now (values .entry))) (endIn (now (cells .entry)) end) v) (objects (graphAt (now (cells .entry)) (now (values .entry))) (l .0) v) v) (nodeCount (now (cells .entry))) ⌝ }
+    ensures { λ _. ⌜ Held (now (cells .entry)) (Kept.RowsOf end) (now (first .exit)) ⌝ }
+    ensures { λ _. ⌜ Held (now (cells .entry)) (Kept.RowsOf (End.Link l)) (now (second .exit)) ⌝ }
 {
-    keep_ends(first, end, f, cells, index);
-    keep_ends(second, link, link_number(l.0), cells, index);
+    keep_ends(first, kept, end, cells, index);
+    keep_ends(second, links, End::Link(l), cells, index);
     nodes_where(
         condition,
         cells,

@@ -13,14 +13,19 @@ use Rattle.base.proofs.Bools.{bool-cases}
 use Rattle.base.proofs.Bounded.{every-ext, size-ext, size-beyond}
 use Rattle.nodeset.specs.Words.{has, wordsOf}
 use Rattle.nodeset.proofs.Sets.{has-of, has-wordsOf, has-drop}
-use Rattle.model.specs.Paths.{End, predicate, along, ends, endsOf}
+use Rattle.model.specs.Paths.{predicate, along, ends, endsOf}
 use Rattle.model.specs.Shapes.{within, subset, from, objects, starts, conforms}
 use Rattle.model.specs.Limits.{maxNodes}
-use Rattle.tables.specs.Layout.{nodeCount, pathCount, formCodeAt, formFirstAt, formSecondAt, formThirdAt, formFourthAt}
+use Rattle.tables.specs.Layout.{nodeCount, formCodeAt, formFirstAt, formSecondAt, formThirdAt, formFourthAt}
 use Rattle.tables.specs.Entries.{entryOf}
 use Rattle.tables.specs.Decode.{triplesAt, graphAt, pathAt, endAt, upperOf, shapeOf, shapeAt}
 use Rattle.conditions.specs.Pairs.{unlikeLangs}
-use Rattle.entries.proofs.Codes.{conforms-by, nodes-le, less-path, lesseq-path, path-along}
+use Rattle.paths.specs.Ends.{endIn}
+use Rattle.paths.specs.declared.End as paths
+use Rattle.paths.specs.declared.End.the-variants.{Path}
+use Rattle.entries.specs.Tables.{endFor}
+use Rattle.entries.proofs.Codes.{conforms-by, nodes-le}
+use Rattle.entries.proofs.Ends.{end-in}
 use Rattle.stepsets.specs.Conditions.{nodesOf, holdsOf, tagged}
 use Rattle.stepsets.specs.declared.Condition.{Condition}
 use Rattle.stepsets.specs.declared.Condition.the-variants.{Count, Every, Equal, Apart, Less, LessEq, OneLang}
@@ -96,34 +101,33 @@ module _ {cs index : List ℕ} {vs : List ℤ} {memo : List ℕ} {e : ℕ} (r : 
 
     -- ---- `equal`, `apart`, `less`, `lesseq`: the ends and the objects of link l
     module _ {l : ℕ} (el : l ≡ formSecondAt cs e) where
-      abbrev onEnds : Condition → ℕ → Bool
-      onEnds condition v = holdsOf cs vs condition (starts (graphAt cs vs) (endAt cs p) v) (objects (graphAt cs vs) l v) v
+      abbrev onEnds : paths.End → Condition → ℕ → Bool
+      onEnds end condition v = holdsOf cs vs condition (starts (graphAt cs vs) (endIn cs end) v) (objects (graphAt cs vs) l v) v
 
-      -- the same with the operands as the tables have them
-      by-operands : (condition : Condition) (v : ℕ) → onEnds condition v ≡ holdsOf cs vs condition (endsOf (nodeCount cs) (triplesAt cs) (endAt cs (formFirstAt cs e)) v) (ends (nodeCount cs) (triplesAt cs) (predicate (formSecondAt cs e)) v) v
+      -- the same with the operands as the tables have them: END, and a path entry
+      by-end : {end : paths.End} → end ≡ endFor p → (condition : Condition) (v : ℕ) → onEnds end condition v ≡ holdsOf cs vs condition (endsOf (nodeCount cs) (triplesAt cs) (endAt cs (formFirstAt cs e)) v) (ends (nodeCount cs) (triplesAt cs) (predicate (formSecondAt cs e)) v) v
       unfolding graphAt
-      by-operands condition v = λ i. holdsOf cs vs condition (endsOf (nodeCount cs) (triplesAt cs) (endAt cs (ep i)) v) (ends (nodeCount cs) (triplesAt cs) (predicate (el i)) v) v
+      by-end ee condition v = λ i. holdsOf cs vs condition (endsOf (nodeCount cs) (triplesAt cs) ((ap (endIn cs) ee ∙ end-in cs p ∙ ap (endAt cs) ep) i) v) (ends (nodeCount cs) (triplesAt cs) (predicate (el i)) v) v
 
-      pub equal-tells : formCodeAt cs e ≡ 15 → {ws : List ℕ} → ws ≡ nodesOf (onEnds Equal) (nodeCount cs) → ConformingSet cs vs memo e ws
+      by-path : (condition : Condition) (v : ℕ) → onEnds (Path p) condition v ≡ holdsOf cs vs condition (ends (nodeCount cs) (triplesAt cs) (pathAt cs (formFirstAt cs e)) v) (ends (nodeCount cs) (triplesAt cs) (predicate (formSecondAt cs e)) v) v
+      unfolding graphAt endIn endsOf
+      by-path condition v = λ i. holdsOf cs vs condition (ends (nodeCount cs) (triplesAt cs) (pathAt cs (ep i)) v) (ends (nodeCount cs) (triplesAt cs) (predicate (el i)) v) v
+
+      pub equal-tells : {end : paths.End} → end ≡ endFor p → formCodeAt cs e ≡ 15 → {ws : List ℕ} → ws ≡ nodesOf (onEnds end Equal) (nodeCount cs) → ConformingSet cs vs memo e ws
       unfolding holdsOf entryOf shapeOf conforms graphAt
-      equal-tells q ew = tells (onEnds Equal) ew (λ v m k. by-operands Equal v ∙ conforms-by cs (r .tables) vs e (r .entry) 15 q v)
+      equal-tells {end} ee q ew = tells (onEnds end Equal) ew (λ v m k. by-end ee Equal v ∙ conforms-by cs (r .tables) vs e (r .entry) 15 q v)
 
-      pub apart-tells : formCodeAt cs e ≡ 16 → {ws : List ℕ} → ws ≡ nodesOf (onEnds Apart) (nodeCount cs) → ConformingSet cs vs memo e ws
+      pub apart-tells : {end : paths.End} → end ≡ endFor p → formCodeAt cs e ≡ 16 → {ws : List ℕ} → ws ≡ nodesOf (onEnds end Apart) (nodeCount cs) → ConformingSet cs vs memo e ws
       unfolding holdsOf entryOf shapeOf conforms graphAt
-      apart-tells q ew = tells (onEnds Apart) ew (λ v m k. by-operands Apart v ∙ conforms-by cs (r .tables) vs e (r .entry) 16 q v)
+      apart-tells {end} ee q ew = tells (onEnds end Apart) ew (λ v m k. by-end ee Apart v ∙ conforms-by cs (r .tables) vs e (r .entry) 16 q v)
 
-      -- where the first operand is a path entry
-      on-path : (condition : Condition) (v : ℕ) → formFirstAt cs e < pathCount cs → onEnds condition v ≡ holdsOf cs vs condition (ends (nodeCount cs) (triplesAt cs) (pathAt cs (formFirstAt cs e)) v) (ends (nodeCount cs) (triplesAt cs) (predicate (formSecondAt cs e)) v) v
-      unfolding endsOf
-      on-path condition v h = by-operands condition v ∙ ap (λ (x : End). holdsOf cs vs condition (endsOf (nodeCount cs) (triplesAt cs) x v) (ends (nodeCount cs) (triplesAt cs) (predicate (formSecondAt cs e)) v) v) (path-along cs (r .tables) vs e (r .entry) h)
-
-      pub less-tells : formCodeAt cs e ≡ 18 → {ws : List ℕ} → ws ≡ nodesOf (onEnds Less) (nodeCount cs) → ConformingSet cs vs memo e ws
+      pub less-tells : formCodeAt cs e ≡ 18 → {ws : List ℕ} → ws ≡ nodesOf (onEnds (Path p) Less) (nodeCount cs) → ConformingSet cs vs memo e ws
       unfolding holdsOf entryOf shapeOf conforms graphAt
-      less-tells q ew = tells (onEnds Less) ew (λ v m k. on-path Less v (less-path cs (r .tables) vs e (r .entry) q) ∙ conforms-by cs (r .tables) vs e (r .entry) 18 q v)
+      less-tells q ew = tells (onEnds (Path p) Less) ew (λ v m k. by-path Less v ∙ conforms-by cs (r .tables) vs e (r .entry) 18 q v)
 
-      pub lesseq-tells : formCodeAt cs e ≡ 19 → {ws : List ℕ} → ws ≡ nodesOf (onEnds LessEq) (nodeCount cs) → ConformingSet cs vs memo e ws
+      pub lesseq-tells : formCodeAt cs e ≡ 19 → {ws : List ℕ} → ws ≡ nodesOf (onEnds (Path p) LessEq) (nodeCount cs) → ConformingSet cs vs memo e ws
       unfolding holdsOf entryOf shapeOf conforms graphAt
-      lesseq-tells q ew = tells (onEnds LessEq) ew (λ v m k. on-path LessEq v (lesseq-path cs (r .tables) vs e (r .entry) q) ∙ conforms-by cs (r .tables) vs e (r .entry) 19 q v)
+      lesseq-tells q ew = tells (onEnds (Path p) LessEq) ew (λ v m k. by-path LessEq v ∙ conforms-by cs (r .tables) vs e (r .entry) 19 q v)
 
     pub lang-tells : formCodeAt cs e ≡ 20 → {ws : List ℕ} → ws ≡ nodesOf (λ v. holdsOf cs vs OneLang (from (graphAt cs vs) (pathAt cs p) v) (tagged cs) v) (nodeCount cs) → ConformingSet cs vs memo e ws
     unfolding entryOf shapeOf conforms graphAt

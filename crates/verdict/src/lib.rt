@@ -11,6 +11,7 @@ use conditions::insert_if;
 use conditions::test_holds;
 use entries::all_holds;
 use entries::count_holds;
+use entries::end_at;
 use entries::ends_from;
 use entries::lang_holds;
 use entries::sets_hold;
@@ -26,7 +27,7 @@ use paths::End;
 use paths::INDEX_CELLS;
 use paths::index_table;
 use stepsets::Condition;
-use stepsets::NO_END;
+use stepsets::Kept;
 use stepsets::ends_set;
 use stepsets::lang_set;
 use stepsets::path_set;
@@ -59,7 +60,7 @@ ghost use Rattle.tables.specs.Codes as codes;
 ghost use Rattle.tables.specs.Decode.{graphAt, shapeAt};
 ghost use Rattle.tables.specs.WellFormed.{wellFormed};
 ghost use Rattle.paths.specs.Facts.{Tables};
-ghost use Rattle.stepsets.specs.Ends.{Held};
+ghost use Rattle.stepsets.specs.Ends.{RowsFor};
 ghost use Rattle.verdict.specs.Answers.{answerOf, answerOn, verdictAnswer, tallied};
 ghost use Rattle.verdict.specs.Memo.{yesPlace, noPlace, Ready, Decided, Settled, memoCount};
 ghost use Rattle.verdict.specs.Parts.{looksAtEnds, hasParts, firstPart, secondPart, looksAt, PartsKnown, ConformingSet, Enough};
@@ -200,87 +201,50 @@ fn entry_holds(
 }
 
 // The nodes that conform to entry e, which looks along a path, all at once. Of a node where what is known of the parts is not
-// enough nothing is said. first and second are rows for the ends of all nodes: of number end, and of number link.
+// enough nothing is said. first and second are rows for the ends of all nodes.
 fn set_of_rows(
     first: &mut [u64],
-    end: &mut usize,
     second: &mut [u64],
-    link: &mut usize,
     memo: &[u64],
     cells: &[u16],
     index: &[u16],
     values: &[i64],
     e: usize,
 ) -> NodeSet
-    requires { ⌜ Ready (now cells) (now index) (now values) (now memo) e × (codes.formCount ≤ formCodeAt (now cells) e) × (formCodeAt (now cells) e ≡ codes.formClosed → ⊥) × Held (now cells) (now end) (now first) × Held (now cells) (now link) (now second) ⌝ }
+    requires { ⌜ Ready (now cells) (now index) (now values) (now memo) e × (codes.formCount ≤ formCodeAt (now cells) e) × (formCodeAt (now cells) e ≡ codes.formClosed → ⊥) × RowsFor (now cells) (now first) × RowsFor (now cells) (now second) ⌝ }
     ensures { λ r. ⌜ ConformingSet (now (cells .entry)) (now (values .entry)) (now (memo .entry)) e (r .words) ⌝ }
 {
     let p = wide(form_first(cells, e));
     let l = form_link(cells, e);
     let count = Condition::Count(wide(form_third(cells, e)), wide(form_fourth(cells, e)));
     let j = 2 * wide(form_second(cells, e));
+    let end = end_at(p);
+    let path = End::Path(p);
+    let new = Kept::Unfilled;
+    let every = Condition::Every;
+    let equal = Condition::Equal;
+    let apart = Condition::Apart;
+    let less = Condition::Less;
+    let most = Condition::LessEq;
     match form_code(cells, e) {
-        codes::FORM_COUNT => path_set(first, end, count, cells, index, values, p, memo, j),
-        codes::FORM_ALL => path_set(
-            first,
-            end,
-            Condition::Every,
-            cells,
-            index,
-            values,
-            p,
-            memo,
-            j,
-        ),
-        codes::FORM_EQUAL => ends_set(
-            first,
-            end,
-            second,
-            link,
-            Condition::Equal,
-            cells,
-            index,
-            values,
-            p,
-            l,
-        ),
-        codes::FORM_APART => ends_set(
-            first,
-            end,
-            second,
-            link,
-            Condition::Apart,
-            cells,
-            index,
-            values,
-            p,
-            l,
-        ),
-        codes::FORM_LESS => ends_set(
-            first,
-            end,
-            second,
-            link,
-            Condition::Less,
-            cells,
-            index,
-            values,
-            p,
-            l,
-        ),
+        codes::FORM_COUNT => path_set(first, new, count, cells, index, values, p, memo, j),
+        codes::FORM_ALL => path_set(first, new, every, cells, index, values, p, memo, j),
+        codes::FORM_EQUAL => ends_set(first, second, new, new, equal, cells, index, values, end, l),
+        codes::FORM_APART => ends_set(first, second, new, new, apart, cells, index, values, end, l),
+        codes::FORM_LESS => ends_set(first, second, new, new, less, cells, index, values, path, l),
         codes::FORM_LESSEQ => ends_set(
             first,
-            end,
             second,
-            link,
-            Condition::LessEq,
+            new,
+            new,
+            most,
             cells,
             index,
             values,
-            p,
+            path,
             l,
         ),
-        _ => lang_set(first, end, Condition::OneLang, cells, index, values, p),
+        _ => lang_set(first, new, Condition::OneLang, cells, index, values, p),
     }
 }
 
@@ -291,19 +255,7 @@ fn set_along(memo: &[u64], cells: &[u16], index: &[u16], values: &[i64], e: usiz
 {
     let mut first = [0u64; ROWS_WORDS];
     let mut second = [0u64; ROWS_WORDS];
-    let mut end = NO_END;
-    let mut link = NO_END;
-    set_of_rows(
-        &mut first,
-        &mut end,
-        &mut second,
-        &mut link,
-        memo,
-        cells,
-        index,
-        values,
-        e,
-    )
+    set_of_rows(&mut first, &mut second, memo, cells, index, values, e)
 }
 
 // The same among the nodes of a set, one by one.

@@ -39,8 +39,14 @@ count-both-requires c κs = search needs
 form-third-requires : tie.Need-form-third-requires
 form-third-requires c κs = search needs
 
+wide-requires-2 : tie.Need-wide-requires-2
+wide-requires-2 c κs = search needs
+
 form-fourth-requires : tie.Need-form-fourth-requires
 form-fourth-requires c κs = search needs
+
+wide-requires-3 : tie.Need-wide-requires-3
+wide-requires-3 c κs = search needs
 
 between-requires : tie.Need-between-requires
 between-requires c κs = search needs
@@ -48,11 +54,11 @@ between-requires c κs = search needs
 returns : tie.Need-returns
 unfolding endIn endsOf
 returns c =
-    let a = c .before .before .before .before .before .before .before .before .before .before .before .before .args in
+    let a = c .before .before .before .before .before .before .before .before .before .before .before .before .before .before .args in
     let cs = a .cells .now in
-    let p = c .before .before .before .before .before .before .before .before .before .before .before .before .pre in
-    let s = size-of (a .part .now) (ends (nodeCount cs) (triplesAt cs) (pathAt cs (formFirstAt cs (a .e))) (a .v)) (nodeCount cs) (nodes-le cs (p .0 .tables)) (c .before .before .before .before .before .before .ends-of .ensures ∙ ap (λ (i : ℕ). wordsOf (ends (nodeCount cs) (triplesAt cs) (pathAt cs i) (a .v)) 16) (c .before .before .before .before .before .before .before .wide .ensures ∙ c .before .before .before .before .before .before .before .before .form-first .ensures)) (p .2) in
-    c .between .ensures ∙ (λ i. within (c .before .before .form-third .ensures i) (upperOf (c .before .form-fourth .ensures i)) ((c .before .before .before .count-both .ensures ∙ s) i))
+    let p = c .before .before .before .before .before .before .before .before .before .before .before .before .before .before .pre in
+    let s = size-of (a .part .now) (ends (nodeCount cs) (triplesAt cs) (pathAt cs (formFirstAt cs (a .e))) (a .v)) (nodeCount cs) (nodes-le cs (p .0 .tables)) (c .before .before .before .before .before .before .before .before .ends-of .ensures ∙ ap (λ (i : ℕ). wordsOf (ends (nodeCount cs) (triplesAt cs) (pathAt cs i) (a .v)) 16) (c .before .before .before .before .before .before .before .before .before .wide .ensures ∙ c .before .before .before .before .before .before .before .before .before .before .form-first .ensures)) (p .2) in
+    c .between .ensures ∙ (λ i. within ((c .before .before .before .wide2 .ensures ∙ c .before .before .before .before .form-third .ensures) i) (upperOf ((c .before .wide3 .ensures ∙ c .before .before .form-fourth .ensures) i)) ((c .before .before .before .before .before .count-both .ensures ∙ s) i))
 
 pub count-holds-spec : {M : Type 1} → statement M
 count-holds-spec =
@@ -64,6 +70,8 @@ count-holds-spec =
     slice-aggregate-count-both
     count-both-requires
     form-third-requires
+    wide-requires-2
     form-fourth-requires
+    wide-requires-3
     between-requires
     returns)

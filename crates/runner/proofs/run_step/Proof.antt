@@ -42,8 +42,8 @@ same-length-3 c = search needs
 
 returns : tie.Need-returns
 returns c =
-    let a = c .before .before .before .before .before .before .before .before .before .before .before .before .before .before .before .before .before .before .before .before .args in
-    let pre = c .before .before .before .before .before .before .before .before .before .before .before .before .before .before .before .before .before .before .before .before .pre in
+    let a = c .before .before .before .before .before .before .before .before .before .before .before .before .before .before .before .before .before .before .args in
+    let pre = c .before .before .before .before .before .before .before .before .before .before .before .before .before .before .before .before .before .before .pre in
     let ws : List ℕ = a .work .now in
     let s = c .before .before .before .before .before .before .before .before .step-set in (
       put-tail ws (s .result .words) (a .k) (length ws - 16 * a .k) (length-step (a .cells .now) (a .values .now) (a .plan .now) ws (a .k) (s .ensures .0)) (omega (arith, pre .1, pre .5)) refl (c .before .before .store .ensures)

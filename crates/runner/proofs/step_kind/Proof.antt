@@ -2,12 +2,13 @@
 use mathlib.Core.Path.{refl}
 use denote.Ref.{now}
 use Rattle.plan.specs.Steps.{stepOf}
+use Rattle.paths.specs.declared.End.{End}
 use Rattle.stepsets.specs.declared.Condition.the-variants.{Is, IsNot, Equal, Unequal, Apart, Meet, Less, NotLess, LessEq, NotLessEq}
 use Rattle.stepsets.specs.declared.Target.the-variants.{From, Into, Typed}
 use Rattle.runner.specs.declared.Kind.the-variants.{Node, Ends, Facts}
 use Rattle.runner.specs.Kinds.{kindOf}
 use Rattle.runner.proofs.Codes.{nots-le}
-use Rattle.runner.proofs.Arms.{Read, arm, arm-unknown, by-node, by-link, by-second}
+use Rattle.runner.proofs.Arms.{Read, arm, arm-unknown, by-node, by-link, by-second, by-ends}
 use borrow.Author.Needs.{needs}
 use Rattle.runner.proofs.step_kind.Statement.{statement}
 use Rattle.runner.proofs.step_kind.Tie as tie
@@ -20,11 +21,12 @@ use Rattle.plancheck.proofs.reads.step_fourth.Reads as step-fourth-reads
 use Rattle.plancheck.proofs.reads.step_node.Reads as step-node-reads
 use Rattle.plancheck.proofs.reads.step_link.Reads as step-link-reads
 use Rattle.plancheck.proofs.reads.step_second_link.Reads as step-second-link-reads
+use Rattle.entries.proofs.end_at.Reads as end-at-reads
 use Rattle.plancheck.proofs.reads.step_code.Reads as step-code-reads
 
 -- what is asked of each callee, and what it tells
 abbrev calls : lts.Claims
-calls = (step-first-reads.Asked, step-first-reads.Learnt, step-second-reads.Asked, step-second-reads.Learnt, step-third-reads.Asked, step-third-reads.Learnt, step-fourth-reads.Asked, step-fourth-reads.Learnt, step-node-reads.Asked, step-node-reads.Learnt, step-link-reads.Asked, step-link-reads.Learnt, step-second-link-reads.Asked, step-second-link-reads.Learnt, step-code-reads.Asked, step-code-reads.Learnt)
+calls = (step-first-reads.Asked, step-first-reads.Learnt, step-second-reads.Asked, step-second-reads.Learnt, step-third-reads.Asked, step-third-reads.Learnt, step-fourth-reads.Asked, step-fourth-reads.Learnt, step-node-reads.Asked, step-node-reads.Learnt, step-link-reads.Asked, step-link-reads.Learnt, step-second-link-reads.Asked, step-second-link-reads.Learnt, end-at-reads.Asked, end-at-reads.Learnt, step-code-reads.Asked, step-code-reads.Learnt)
 
 -- what is known after the step's code has been read, which all arms share
 abbrev Place : Type 0
@@ -32,23 +34,25 @@ Place = lts.After-step-code calls reads.Pre reads.Post
 
 abbrev read : Place → Read
 read c = record {
-  ps = now (c .before .before .before .before .before .before .before .before .before .args .plan);
-  k = c .before .before .before .before .before .before .before .before .before .args .k;
-  a = c .before .before .before .before .before .before .before .step-first .result;
-  b = c .before .before .before .before .before .before .step-second .result;
-  lo = c .before .before .before .before .before .step-third .result;
-  hi = c .before .before .before .before .step-fourth .result;
-  c = c .before .before .before .step-node .result;
-  p = c .before .before .step-link .result;
-  l = c .before .step-second-link .result;
+  ps = now (c .before .before .before .before .before .before .before .before .before .before .args .plan);
+  k = c .before .before .before .before .before .before .before .before .before .before .args .k;
+  a = c .before .before .before .before .before .before .before .before .step-first .result;
+  b = c .before .before .before .before .before .before .before .step-second .result;
+  lo = c .before .before .before .before .before .before .step-third .result;
+  hi = c .before .before .before .before .before .step-fourth .result;
+  c = c .before .before .before .before .step-node .result;
+  p = c .before .before .before .step-link .result;
+  l = c .before .before .step-second-link .result;
+  end = c .before .end-at .result;
   code = c .step-code .result;
-  first = c .before .before .before .before .before .before .before .step-first .ensures;
-  second = c .before .before .before .before .before .before .step-second .ensures;
-  third = c .before .before .before .before .before .step-third .ensures;
-  fourth = c .before .before .before .before .step-fourth .ensures;
-  first-node = c .before .before .before .step-node .ensures;
-  first-link = c .before .before .step-link .ensures;
-  second-link = c .before .step-second-link .ensures;
+  first = c .before .before .before .before .before .before .before .before .step-first .ensures;
+  second = c .before .before .before .before .before .before .before .step-second .ensures;
+  third = c .before .before .before .before .before .before .step-third .ensures;
+  fourth = c .before .before .before .before .before .step-fourth .ensures;
+  first-node = c .before .before .before .before .step-node .ensures;
+  first-link = c .before .before .before .step-link .ensures;
+  second-link = c .before .before .step-second-link .ensures;
+  at = c .before .end-at .ensures;
   same = c .step-code .ensures;
 }
 
@@ -72,6 +76,9 @@ step-link-requires c κs = search needs
 
 step-second-link-requires : tie.Need-step-second-link-requires
 step-second-link-requires c κs = search needs
+
+end-at-requires : tie.Need-end-at-requires
+end-at-requires c κs = search needs
 
 step-code-requires : tie.Need-step-code-requires
 step-code-requires c κs = search needs
@@ -118,19 +125,19 @@ returns-10 c = arm (read (c .before)) 9 (c .match .keys10) refl
 
 returns-11 : tie.Need-returns-11
 unfolding stepOf kindOf
-returns-11 c = arm (read (c .before)) 10 (c .match .keys11) (by-second (read (c .before)) (λ x. Ends Equal (c .before .before .before .before .before .before .before .before .step-first .result) x))
+returns-11 c = arm (read (c .before)) 10 (c .match .keys11) (by-ends (read (c .before)) (Ends Equal))
 
 returns-12 : tie.Need-returns-12
 unfolding stepOf kindOf
-returns-12 c = arm (read (c .before)) 11 (c .match .keys12) (by-second (read (c .before)) (λ x. Ends Unequal (c .before .before .before .before .before .before .before .before .step-first .result) x))
+returns-12 c = arm (read (c .before)) 11 (c .match .keys12) (by-ends (read (c .before)) (Ends Unequal))
 
 returns-13 : tie.Need-returns-13
 unfolding stepOf kindOf
-returns-13 c = arm (read (c .before)) 12 (c .match .keys13) (by-second (read (c .before)) (λ x. Ends Apart (c .before .before .before .before .before .before .before .before .step-first .result) x))
+returns-13 c = arm (read (c .before)) 12 (c .match .keys13) (by-ends (read (c .before)) (Ends Apart))
 
 returns-14 : tie.Need-returns-14
 unfolding stepOf kindOf
-returns-14 c = arm (read (c .before)) 13 (c .match .keys14) (by-second (read (c .before)) (λ x. Ends Meet (c .before .before .before .before .before .before .before .before .step-first .result) x))
+returns-14 c = arm (read (c .before)) 13 (c .match .keys14) (by-ends (read (c .before)) (Ends Meet))
 
 returns-15 : tie.Need-returns-15
 unfolding stepOf kindOf
@@ -142,19 +149,19 @@ returns-16 c = arm (read (c .before)) 15 (c .match .keys16) refl
 
 returns-17 : tie.Need-returns-17
 unfolding stepOf kindOf
-returns-17 c = arm (read (c .before)) 16 (c .match .keys17) (by-second (read (c .before)) (λ x. Ends Less (c .before .before .before .before .before .before .before .before .step-first .result) x))
+returns-17 c = arm (read (c .before)) 16 (c .match .keys17) (by-second (read (c .before)) (λ x. Ends Less (End.Path (c .before .before .before .before .before .before .before .before .before .step-first .result)) x))
 
 returns-18 : tie.Need-returns-18
 unfolding stepOf kindOf
-returns-18 c = arm (read (c .before)) 17 (c .match .keys18) (by-second (read (c .before)) (λ x. Ends NotLess (c .before .before .before .before .before .before .before .before .step-first .result) x))
+returns-18 c = arm (read (c .before)) 17 (c .match .keys18) (by-second (read (c .before)) (λ x. Ends NotLess (End.Path (c .before .before .before .before .before .before .before .before .before .step-first .result)) x))
 
 returns-19 : tie.Need-returns-19
 unfolding stepOf kindOf
-returns-19 c = arm (read (c .before)) 18 (c .match .keys19) (by-second (read (c .before)) (λ x. Ends LessEq (c .before .before .before .before .before .before .before .before .step-first .result) x))
+returns-19 c = arm (read (c .before)) 18 (c .match .keys19) (by-second (read (c .before)) (λ x. Ends LessEq (End.Path (c .before .before .before .before .before .before .before .before .before .step-first .result)) x))
 
 returns-20 : tie.Need-returns-20
 unfolding stepOf kindOf
-returns-20 c = arm (read (c .before)) 19 (c .match .keys20) (by-second (read (c .before)) (λ x. Ends NotLessEq (c .before .before .before .before .before .before .before .before .step-first .result) x))
+returns-20 c = arm (read (c .before)) 19 (c .match .keys20) (by-second (read (c .before)) (λ x. Ends NotLessEq (End.Path (c .before .before .before .before .before .before .before .before .before .step-first .result)) x))
 
 returns-21 : tie.Need-returns-21
 unfolding stepOf kindOf
@@ -190,6 +197,7 @@ step-kind-spec =
     step-node-requires
     step-link-requires
     step-second-link-requires
+    end-at-requires
     step-code-requires
     returns
     returns-2

@@ -1,6 +1,7 @@
 -- `step_set` meets its contract, arm by arm.
 use Prim.Native.Nat.{ℕ, _*_}
 use mathlib.Core.Bool.{_&&_, _||_}
+use mathlib.Core.List.{List}
 use mathlib.Core.Path.{_≡_, sym, ap, _∙_, subst}
 use lib.Dec.{ltb}
 use lib.ListN.{drop}
@@ -10,6 +11,7 @@ use Rattle.plan.specs.Layout.{stepAt}
 use Rattle.stepsets.specs.Conditions.{nodesOf}
 use Rattle.stepsets.specs.Ends.{Held}
 use Rattle.runner.specs.declared.Kind.{Kind}
+use Rattle.runner.specs.Kinds.{kindOf, firstAfter, secondAfter}
 use Rattle.runner.specs.Steps.{stepFrom}
 use Rattle.runner.proofs.Sets.{kindSet, KindOk, kind-ok, kind-from}
 use borrow.Author.Needs.{needs}
@@ -43,12 +45,12 @@ words c e = ap (kindSet (now (c .before .before .before .before .before .before 
 right : (c : Place) {x : Kind} → c .step-kind .result ≡ x → KindOk (now (c .before .before .before .before .before .before .before .before .args .cells)) x
 right c e = subst (KindOk (now (c .before .before .before .before .before .before .before .before .args .cells))) (sym (c .step-kind .ensures) ∙ e) (kind-ok (now (c .before .before .before .before .before .before .before .before .args .cells)) (c .before .before .before .before .before .before .before .before .args .k) (c .before .before .before .before .before .before .before .before .pre .1) (stepAt (now (c .before .before .before .before .before .before .before .before .args .plan)) (c .before .before .before .before .before .before .before .before .args .k)) (c .before .before .before .before .before .before .before .before .pre .2))
 
--- the rows that no arm has touched
-first-kept : (c : Place) → Held (now (c .before .before .before .before .before .before .before .before .args .cells)) (now (c .before .before .before .before .before .before .before .before .args .end)) (now (c .before .before .before .before .before .before .before .before .args .first))
-first-kept c = c .before .before .before .before .before .before .before .before .pre .3
+-- the rows, after a step of that kind
+first-rows : (c : Place) {x : Kind} {rows : List ℕ} → c .step-kind .result ≡ x → Held (now (c .before .before .before .before .before .before .before .before .args .cells)) (firstAfter x (c .before .before .before .before .before .before .before .before .args .kept)) rows → Held (now (c .before .before .before .before .before .before .before .before .args .cells)) (firstAfter (kindOf (stepAt (now (c .before .before .before .before .before .before .before .before .args .plan)) (c .before .before .before .before .before .before .before .before .args .k))) (c .before .before .before .before .before .before .before .before .args .kept)) rows
+first-rows c {rows = rows} e h = subst (λ (y : Kind). Held (now (c .before .before .before .before .before .before .before .before .args .cells)) (firstAfter y (c .before .before .before .before .before .before .before .before .args .kept)) rows) (sym e ∙ c .step-kind .ensures) h
 
-second-kept : (c : Place) → Held (now (c .before .before .before .before .before .before .before .before .args .cells)) (now (c .before .before .before .before .before .before .before .before .args .link)) (now (c .before .before .before .before .before .before .before .before .args .second))
-second-kept c = c .before .before .before .before .before .before .before .before .pre .4
+second-rows : (c : Place) {x : Kind} {rows : List ℕ} → c .step-kind .result ≡ x → Held (now (c .before .before .before .before .before .before .before .before .args .cells)) (secondAfter x (c .before .before .before .before .before .before .before .before .args .links)) rows → Held (now (c .before .before .before .before .before .before .before .before .args .cells)) (secondAfter (kindOf (stepAt (now (c .before .before .before .before .before .before .before .before .args .plan)) (c .before .before .before .before .before .before .before .before .args .k))) (c .before .before .before .before .before .before .before .before .args .links)) rows
+second-rows c {rows = rows} e h = subst (λ (y : Kind). Held (now (c .before .before .before .before .before .before .before .before .args .cells)) (secondAfter y (c .before .before .before .before .before .before .before .before .args .links)) rows) (sym e ∙ c .step-kind .ensures) h
 
 node-count-requires : tie.Need-node-count-requires
 node-count-requires c κs = search needs
@@ -87,19 +89,19 @@ enum-known-condition-2 : tie.Need-enum-known-condition-2
 enum-known-condition-2 c = search needs
 
 path-set-requires : tie.Need-path-set-requires
-path-set-requires c κs = let r = right (c .before .before .before .before .before) (c .before .before .before .condition2 .given .1) in (c .before .before .before .before .before .before .before .before .before .before .before .before .before .pre .0, r .0, r .1, r .2, first-kept (c .before .before .before .before .before))
+path-set-requires c κs = let r = right (c .before .before .before .before) (c .before .before .condition2 .given .1) in (c .before .before .before .before .before .before .before .before .before .before .before .before .pre .0, r .0, r .1, r .2, c .before .before .before .before .before .before .before .before .before .before .before .before .pre .3)
 
 enum-known-condition-3 : tie.Need-enum-known-condition-3
 enum-known-condition-3 c = search needs
 
 ends-set-requires : tie.Need-ends-set-requires
-ends-set-requires c κs = let r = right (c .before .before .before .before .before .before .before) (c .before .before .before .before .before .condition3 .given .1) in (c .before .before .before .before .before .before .before .before .before .before .before .before .before .before .before .pre .0, r .0, r .1, first-kept (c .before .before .before .before .before .before .before), second-kept (c .before .before .before .before .before .before .before))
+ends-set-requires c κs = let r = right (c .before .before .before .before .before) (c .before .before .before .condition3 .given .1) in (c .before .before .before .before .before .before .before .before .before .before .before .before .before .pre .0, r .0, r .1, c .before .before .before .before .before .before .before .before .before .before .before .before .before .pre .3, c .before .before .before .before .before .before .before .before .before .before .before .before .before .pre .4)
 
 enum-known-condition-4 : tie.Need-enum-known-condition-4
 enum-known-condition-4 c = search needs
 
 lang-set-requires : tie.Need-lang-set-requires
-lang-set-requires c κs = let r = right (c .before .before .before .before .before) (c .before .before .before .condition4 .given .1) in (c .before .before .before .before .before .before .before .before .before .before .before .before .before .pre .0, r .0, r .1, first-kept (c .before .before .before .before .before))
+lang-set-requires c κs = let r = right (c .before .before .before .before) (c .before .before .condition4 .given .1) in (c .before .before .before .before .before .before .before .before .before .before .before .before .pre .0, r .0, r .1, c .before .before .before .before .before .before .before .before .before .before .before .before .pre .3)
 
 enum-known-target : tie.Need-enum-known-target
 enum-known-target c = search needs
@@ -108,31 +110,31 @@ facts-set-requires : tie.Need-facts-set-requires
 facts-set-requires c κs = search needs
 
 returns : tie.Need-returns
-unfolding kindSet
-returns c = (c .whole .ensures ∙ ap (λ (m : ℕ). wordsOf (λ v. ltb v m) 16) (c .before .before .before .before .node-count .ensures) ∙ words (c .before .before .before) (c .before .enum-told .given .1), (first-kept (c .before .before .before), second-kept (c .before .before .before)))
+unfolding kindSet firstAfter secondAfter
+returns c = (c .whole .ensures ∙ ap (λ (m : ℕ). wordsOf (λ v. ltb v m) 16) (c .before .before .before .before .node-count .ensures) ∙ words (c .before .before .before) (c .before .enum-told .given .1), (first-rows (c .before .before .before) (c .before .enum-told .given .1) (c .before .before .before .before .before .before .before .before .before .before .before .pre .3), second-rows (c .before .before .before) (c .before .enum-told .given .1) (c .before .before .before .before .before .before .before .before .before .before .before .pre .4)))
 
 returns-2 : tie.Need-returns-2
-unfolding kindSet
-returns-2 c = (words (c .before .before) (c .enum-told2 .given .1), (first-kept (c .before .before), second-kept (c .before .before)))
+unfolding kindSet firstAfter secondAfter
+returns-2 c = (words (c .before .before) (c .enum-told2 .given .1), (first-rows (c .before .before) (c .enum-told2 .given .1) (c .before .before .before .before .before .before .before .before .before .before .pre .3), second-rows (c .before .before) (c .enum-told2 .given .1) (c .before .before .before .before .before .before .before .before .before .before .pre .4)))
 
 returns-3 : tie.Need-returns-3
-unfolding kindSet
-returns-3 c = (c .plain-set .ensures ∙ words (c .before .before .before .before) (c .before .before .condition .given .1), (first-kept (c .before .before .before .before), second-kept (c .before .before .before .before)))
+unfolding kindSet firstAfter secondAfter
+returns-3 c = (c .plain-set .ensures ∙ words (c .before .before .before .before) (c .before .before .condition .given .1), (first-rows (c .before .before .before .before) (c .before .before .condition .given .1) (c .before .before .before .before .before .before .before .before .before .before .before .before .pre .3), second-rows (c .before .before .before .before) (c .before .before .condition .given .1) (c .before .before .before .before .before .before .before .before .before .before .before .before .pre .4)))
 
 returns-4 : tie.Need-returns-4
-unfolding kindSet
-returns-4 c = (c .both-set .ensures ∙ ap (nodesOf (λ v. has (drop (16 * c .before .before .i .given .0 .0) (now (c .before .before .before .before .before .before .before .before .before .before .before .before .args .work))) v && has (drop (16 * c .before .before .i .given .0 .1 .0) (now (c .before .before .before .before .before .before .before .before .before .before .before .before .args .work))) v)) (c .before .before .before .before .before .node-count .ensures) ∙ words (c .before .before .before .before) (c .before .before .i .given .1), (first-kept (c .before .before .before .before), second-kept (c .before .before .before .before)))
+unfolding kindSet firstAfter secondAfter
+returns-4 c = (c .both-set .ensures ∙ ap (nodesOf (λ v. has (drop (16 * c .before .before .i .given .0 .0) (now (c .before .before .before .before .before .before .before .before .before .before .before .before .args .work))) v && has (drop (16 * c .before .before .i .given .0 .1 .0) (now (c .before .before .before .before .before .before .before .before .before .before .before .before .args .work))) v)) (c .before .before .before .before .before .node-count .ensures) ∙ words (c .before .before .before .before) (c .before .before .i .given .1), (first-rows (c .before .before .before .before) (c .before .before .i .given .1) (c .before .before .before .before .before .before .before .before .before .before .before .before .pre .3), second-rows (c .before .before .before .before) (c .before .before .i .given .1) (c .before .before .before .before .before .before .before .before .before .before .before .before .pre .4)))
 
 returns-5 : tie.Need-returns-5
-unfolding kindSet
-returns-5 c = (c .either-set .ensures ∙ ap (nodesOf (λ v. has (drop (16 * c .before .before .i2 .given .0 .0) (now (c .before .before .before .before .before .before .before .before .before .before .before .before .args .work))) v || has (drop (16 * c .before .before .i2 .given .0 .1 .0) (now (c .before .before .before .before .before .before .before .before .before .before .before .before .args .work))) v)) (c .before .before .before .before .before .node-count .ensures) ∙ words (c .before .before .before .before) (c .before .before .i2 .given .1), (first-kept (c .before .before .before .before), second-kept (c .before .before .before .before)))
+unfolding kindSet firstAfter secondAfter
+returns-5 c = (c .either-set .ensures ∙ ap (nodesOf (λ v. has (drop (16 * c .before .before .i2 .given .0 .0) (now (c .before .before .before .before .before .before .before .before .before .before .before .before .args .work))) v || has (drop (16 * c .before .before .i2 .given .0 .1 .0) (now (c .before .before .before .before .before .before .before .before .before .before .before .before .args .work))) v)) (c .before .before .before .before .before .node-count .ensures) ∙ words (c .before .before .before .before) (c .before .before .i2 .given .1), (first-rows (c .before .before .before .before) (c .before .before .i2 .given .1) (c .before .before .before .before .before .before .before .before .before .before .before .before .pre .3), second-rows (c .before .before .before .before) (c .before .before .i2 .given .1) (c .before .before .before .before .before .before .before .before .before .before .before .before .pre .4)))
 
 same-length : tie.Need-same-length
 same-length c = search needs
 
 returns-6 : tie.Need-returns-6
-unfolding kindSet
-returns-6 c = (c .before .before .path-set .ensures .0 ∙ words (c .before .before .before .before .before .before .before .before) (c .before .before .before .before .before .before .condition2 .given .1), (c .before .before .path-set .ensures .1, second-kept (c .before .before .before .before .before .before .before .before)))
+unfolding kindSet firstAfter secondAfter
+returns-6 c = (c .before .before .path-set .ensures .0 ∙ words (c .before .before .before .before .before .before .before) (c .before .before .before .before .before .condition2 .given .1), (first-rows (c .before .before .before .before .before .before .before) (c .before .before .before .before .before .condition2 .given .1) (c .before .before .path-set .ensures .1), second-rows (c .before .before .before .before .before .before .before) (c .before .before .before .before .before .condition2 .given .1) (c .before .before .before .before .before .before .before .before .before .before .before .before .before .before .before .pre .4)))
 
 same-length-2 : tie.Need-same-length-2
 same-length-2 c = search needs
@@ -141,19 +143,19 @@ same-length-3 : tie.Need-same-length-3
 same-length-3 c = search needs
 
 returns-7 : tie.Need-returns-7
-unfolding kindSet
-returns-7 c = (c .before .before .before .before .ends-set .ensures .0 ∙ words (c .before .before .before .before .before .before .before .before .before .before .before .before) (c .before .before .before .before .before .before .before .before .before .before .condition3 .given .1), (c .before .before .before .before .ends-set .ensures .1 .0, c .before .before .before .before .ends-set .ensures .1 .1))
+unfolding kindSet firstAfter secondAfter
+returns-7 c = (c .before .before .before .before .ends-set .ensures .0 ∙ words (c .before .before .before .before .before .before .before .before .before .before) (c .before .before .before .before .before .before .before .before .condition3 .given .1), (first-rows (c .before .before .before .before .before .before .before .before .before .before) (c .before .before .before .before .before .before .before .before .condition3 .given .1) (c .before .before .before .before .ends-set .ensures .1 .0), second-rows (c .before .before .before .before .before .before .before .before .before .before) (c .before .before .before .before .before .before .before .before .condition3 .given .1) (c .before .before .before .before .ends-set .ensures .1 .1)))
 
 same-length-4 : tie.Need-same-length-4
 same-length-4 c = search needs
 
 returns-8 : tie.Need-returns-8
-unfolding kindSet
-returns-8 c = (c .before .before .lang-set .ensures .0 ∙ words (c .before .before .before .before .before .before .before .before) (c .before .before .before .before .before .before .condition4 .given .1), (c .before .before .lang-set .ensures .1, second-kept (c .before .before .before .before .before .before .before .before)))
+unfolding kindSet firstAfter secondAfter
+returns-8 c = (c .before .before .lang-set .ensures .0 ∙ words (c .before .before .before .before .before .before .before) (c .before .before .before .before .before .condition4 .given .1), (first-rows (c .before .before .before .before .before .before .before) (c .before .before .before .before .before .condition4 .given .1) (c .before .before .lang-set .ensures .1), second-rows (c .before .before .before .before .before .before .before) (c .before .before .before .before .before .condition4 .given .1) (c .before .before .before .before .before .before .before .before .before .before .before .before .before .before .before .pre .4)))
 
 returns-9 : tie.Need-returns-9
-unfolding kindSet
-returns-9 c = (c .facts-set .ensures ∙ words (c .before .before .before .before) (c .before .before .target .given .1), (first-kept (c .before .before .before .before), second-kept (c .before .before .before .before)))
+unfolding kindSet firstAfter secondAfter
+returns-9 c = (c .facts-set .ensures ∙ words (c .before .before .before .before) (c .before .before .target .given .1), (first-rows (c .before .before .before .before) (c .before .before .target .given .1) (c .before .before .before .before .before .before .before .before .before .before .before .before .pre .3), second-rows (c .before .before .before .before) (c .before .before .target .given .1) (c .before .before .before .before .before .before .before .before .before .before .before .before .pre .4)))
 
 pub step-set-spec : {M : Type 1} → statement M
 step-set-spec =

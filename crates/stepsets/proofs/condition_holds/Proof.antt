@@ -46,8 +46,8 @@ enum-known-condition-5 c = search needs
 count-both-requires : tie.Need-count-both-requires
 count-both-requires c κs = search needs
 
-is-within-requires : tie.Need-is-within-requires
-is-within-requires c κs = search needs
+between-requires : tie.Need-between-requires
+between-requires c κs = search needs
 
 enum-told : tie.Need-enum-told
 enum-told c = search needs
@@ -214,7 +214,7 @@ condition-holds-spec =
     test-fails-requires
     enum-known-condition-5
     count-both-requires
-    is-within-requires
+    between-requires
     enum-told
     subset-holds-requires
     enum-told-2
