@@ -26,7 +26,7 @@ use Rattle.tables.specs.Layout.{noNumber, nodeCount, linkCount, typeCount, lang
 use Rattle.tables.specs.Entries.{PathEntry, Entry, entryOf}
 use Rattle.tables.specs.Entries as E
 use Rattle.tables.specs.Decode.{tripleAt, pathEntryAt, entryAt}
-use Rattle.tables.specs.WellFormed.{countsOk, nodeOk, factOk, pathEntryOk, itemOk, itemsOk, upperOk, endOk, entryOk, ruleOk, wellFormed}
+use Rattle.tables.specs.WellFormed.{countsOk, nodeOk, factOk, pathEntryOk, itemOk, itemsOk, upperOk, endNumberOk, entryOk, ruleOk, wellFormed}
 use Rattle.encoding.specs.Rows.{nodeRow, targetCode, targetOperand, plainRow, valueRow, formRow}
 use Rattle.encoding.specs.Flatten.{lastNumber, addPath, Entries, addForm, withPath, withItems, withEnd, endNumber, kindCode, upperNumber, addTest, addShape, addShapes, noEntries}
 use Rattle.encoding.specs.Encode.{entriesOf, encodeCells, encodeValues}
@@ -175,8 +175,8 @@ module _ (cs : List ℕ) where
     path-lower : (e : Path) (es fs : Entries) → Grows (withPath e es) fs → EntriesHeld cs vs fs → ltb (lastNumber (addPath e (es .paths))) (pathCount cs) ≡ true
     path-lower e es fs g h = lt-ltb (lastNumber (addPath e (es .paths))) (pathCount cs) (omega (arith, path-last e (es .paths), held-before g h .pathsFit))
 
-    end-ok : (f : End) (es : Entries) (x : Entry) → EntriesHeld cs vs (addForm x (withEnd f es)) → endOk cs (endNumber f (withEnd f es)) ≡ true
-    unfolding endOk withEnd endNumber
+    end-ok : (f : End) (es : Entries) (x : Entry) → EntriesHeld cs vs (addForm x (withEnd f es)) → endNumberOk cs (endNumber f (withEnd f es)) ≡ true
+    unfolding endNumberOk withEnd endNumber
     end-ok self es x h = ap (λ (t : Bool). ltb noNumber (pathCount cs) || t) (eq-eqb noNumber noNumber refl) ∙ or-true (ltb noNumber (pathCount cs))
     end-ok (along e) es x h = ap (λ (t : Bool). t || eqb (lastNumber (addPath e (es .paths))) noNumber) (path-lower e es (addForm x (withPath e es)) (grows-form x (withPath e es)) h)
 
@@ -248,7 +248,7 @@ module _ (cs : List ℕ) where
       path-link : (e : Path) (p : ℕ) (es : Entries) (x : Entry) → EntriesHeld cs vs (addForm x (withPath e es)) → (pathOk a e && defined a links p) ≡ true → (ltb (lastNumber (addPath e (es .paths))) (pathCount cs) && ltb p (linkCount cs)) ≡ true
       path-link e p es x h d = and-both _ _ (path-lower e es (addForm x (withPath e es)) (grows-form x (withPath e es)) h) (below-count links p (and-right (pathOk a e) _ d))
 
-      end-link : (f : End) (p : ℕ) (es : Entries) (x : Entry) → EntriesHeld cs vs (addForm x (withEnd f es)) → (Valid.endOk a f && defined a links p) ≡ true → (endOk cs (endNumber f (withEnd f es)) && ltb p (linkCount cs)) ≡ true
+      end-link : (f : End) (p : ℕ) (es : Entries) (x : Entry) → EntriesHeld cs vs (addForm x (withEnd f es)) → (Valid.endOk a f && defined a links p) ≡ true → (endNumberOk cs (endNumber f (withEnd f es)) && ltb p (linkCount cs)) ≡ true
       end-link f p es x h d = and-both _ _ (end-ok f es x h) (below-count links p (and-right (Valid.endOk a f) _ d))
 
       shape-ok : (φ : Shape) (es : Entries) → Low cs a es → EntriesHeld cs vs (addShape φ es) → shapeOk a φ ≡ true → EntriesOk cs es → EntriesOk cs (addShape φ es)

@@ -15,14 +15,14 @@ use Rattle.model.specs.Shapes.{Shape, conforms}
 use Rattle.tables.specs.Layout.{nodeCount, linkCount, pathCount, formCount, formCodeAt, formFirstAt, formSecondAt, formThirdAt, formFourthAt, limitAt}
 use Rattle.tables.specs.Entries.{Entry, entryOf}
 use Rattle.tables.specs.Decode.{graphAt, pathAt, endAt, shapeOf, entryAt, shapeAt}
-use Rattle.tables.specs.WellFormed.{entryOk, endOk, upperOk}
+use Rattle.tables.specs.WellFormed.{entryOk, endNumberOk, upperOk}
 use Rattle.tables.proofs.WellFormed.{Sound, sound}
 use Rattle.tables.proofs.Decode.{shape-at}
 use Rattle.paths.specs.Facts.{Tables}
 
 -- END that is not `id` is a path entry
-pub end-below : (cs : List ℕ) (p : ℕ) → (p ≡ 65535 → ⊥) → endOk cs p ≡ true → ltb p (pathCount cs) ≡ true
-unfolding endOk
+pub end-below : (cs : List ℕ) (p : ℕ) → (p ≡ 65535 → ⊥) → endNumberOk cs p ≡ true → ltb p (pathCount cs) ≡ true
+unfolding endNumberOk
 end-below cs p ne h = ⊎-elim (λ e. e) (λ e. absurd (ne (eqb-true p 65535 e))) (or-cases (ltb p (pathCount cs)) (eqb p 65535) h)
 
 module _ (cs : List ℕ) {index : List ℕ} (t : Tables cs index) where
@@ -67,16 +67,16 @@ module _ (cs : List ℕ) {index : List ℕ} (t : Tables cs index) where
     unfolding entryOf entryOk
     lang-path q = ltb-true (formFirstAt cs e) (pathCount cs) (right-by 20 q)
 
-    pub equal-end : formCodeAt cs e ≡ 15 → endOk cs (formFirstAt cs e) ≡ true
+    pub equal-end : formCodeAt cs e ≡ 15 → endNumberOk cs (formFirstAt cs e) ≡ true
     unfolding entryOf entryOk
-    equal-end q = and-left (endOk cs (formFirstAt cs e)) (ltb (formSecondAt cs e) (linkCount cs)) (right-by 15 q)
+    equal-end q = and-left (endNumberOk cs (formFirstAt cs e)) (ltb (formSecondAt cs e) (linkCount cs)) (right-by 15 q)
 
-    pub apart-end : formCodeAt cs e ≡ 16 → endOk cs (formFirstAt cs e) ≡ true
+    pub apart-end : formCodeAt cs e ≡ 16 → endNumberOk cs (formFirstAt cs e) ≡ true
     unfolding entryOf entryOk
-    apart-end q = and-left (endOk cs (formFirstAt cs e)) (ltb (formSecondAt cs e) (linkCount cs)) (right-by 16 q)
+    apart-end q = and-left (endNumberOk cs (formFirstAt cs e)) (ltb (formSecondAt cs e) (linkCount cs)) (right-by 16 q)
 
-    path-end : formFirstAt cs e < pathCount cs → endOk cs (formFirstAt cs e) ≡ true
-    unfolding endOk
+    path-end : formFirstAt cs e < pathCount cs → endNumberOk cs (formFirstAt cs e) ≡ true
+    unfolding endNumberOk
     path-end h = ap (λ (b : Bool). b || eqb (formFirstAt cs e) 65535) (lt-ltb (formFirstAt cs e) (pathCount cs) h)
 
     -- a path entry as END
@@ -85,11 +85,11 @@ module _ (cs : List ℕ) {index : List ℕ} (t : Tables cs index) where
     path-along h = ap (λ (b : Bool). cond b self (along (pathAt cs (formFirstAt cs e)))) (ne-eqb (formFirstAt cs e) 65535 (λ q. let z : ⊥ = omega (arith, h, q, sound-of .paths) in z))
 
     -- of each of `equal`, `apart`, `less`, `lesseq`
-    pub set-end : 15 ≤ formCodeAt cs e → formCodeAt cs e ≤ 19 → (formCodeAt cs e ≡ 17 → ⊥) → endOk cs (formFirstAt cs e) ≡ true
+    pub set-end : 15 ≤ formCodeAt cs e → formCodeAt cs e ≤ 19 → (formCodeAt cs e ≡ 17 → ⊥) → endNumberOk cs (formFirstAt cs e) ≡ true
     set-end a b ne =
         case 15 equal-end (λ n15. case 16 apart-end (λ n16. case 18 (λ q. path-end (less-path q)) (λ n18.
         let q : formCodeAt cs e ≡ 19 = omega arith in
         path-end (lesseq-path q))))
       where
-        case : (n : ℕ) → (formCodeAt cs e ≡ n → endOk cs (formFirstAt cs e) ≡ true) → ((formCodeAt cs e ≡ n → ⊥) → endOk cs (formFirstAt cs e) ≡ true) → endOk cs (formFirstAt cs e) ≡ true
-        case n f g = bool-cases (λ t. eqb (formCodeAt cs e) n ≡ t → endOk cs (formFirstAt cs e) ≡ true) (eqb (formCodeAt cs e) n) (λ _ h. f (eqb-true (formCodeAt cs e) n h)) (λ _ h. g (eqb-false (formCodeAt cs e) n h)) refl
+        case : (n : ℕ) → (formCodeAt cs e ≡ n → endNumberOk cs (formFirstAt cs e) ≡ true) → ((formCodeAt cs e ≡ n → ⊥) → endNumberOk cs (formFirstAt cs e) ≡ true) → endNumberOk cs (formFirstAt cs e) ≡ true
+        case n f g = bool-cases (λ t. eqb (formCodeAt cs e) n ≡ t → endNumberOk cs (formFirstAt cs e) ≡ true) (eqb (formCodeAt cs e) n) (λ _ h. f (eqb-true (formCodeAt cs e) n h)) (λ _ h. g (eqb-false (formCodeAt cs e) n h)) refl

@@ -17,7 +17,7 @@ use Rattle.tables.specs.Layout.{noNumber}
 use Rattle.tables.specs.WellFormed as tables
 use Rattle.tables.specs.Decode.{pathAt, endAt, upperOf}
 use Rattle.paths.specs.Images.{image, withImage, converseIf}
-use Rattle.paths.specs.Ends.{endIn, endOk}
+use Rattle.paths.specs.Ends.{endIn, endKnown}
 use Rattle.paths.specs.declared.End.the-variants.{Itself, Path}
 use Rattle.entries.specs.Tables.{endFor}
 use Rattle.entries.proofs.Codes.{end-below}
@@ -42,9 +42,9 @@ pub end-in : (cs : List ℕ) (p : ℕ) → endIn cs (endFor p) ≡ endAt cs p
 unfolding endIn endAt endFor
 end-in cs p = bool-cases (λ b. eqb p noNumber ≡ b → endIn cs (cond b Itself (Path p)) ≡ cond b self (along (pathAt cs p))) (eqb p noNumber) (λ _ _. refl) (λ _ _. refl) refl
 
-pub end-ok : (cs : List ℕ) (p : ℕ) → tables.endOk cs p ≡ true → endOk cs (endFor p) ≡ true
-unfolding endOk endFor
-end-ok cs p h = bool-cases (λ b. eqb p noNumber ≡ b → endOk cs (cond b Itself (Path p)) ≡ true) (eqb p noNumber) (λ _ _. refl) (λ _ q. end-below cs p (eqb-false p noNumber q) h) refl
+pub end-ok : (cs : List ℕ) (p : ℕ) → tables.endNumberOk cs p ≡ true → endKnown cs (endFor p) ≡ true
+unfolding endKnown endFor
+end-ok cs p h = bool-cases (λ b. eqb p noNumber ≡ b → endKnown cs (cond b Itself (Path p)) ≡ true) (eqb p noNumber) (λ _ _. refl) (λ _ q. end-below cs p (eqb-false p noNumber q) h) refl
 
 -- LO and HI
 pub between-law : (lo hi k : ℕ) → (leb lo k && (eqb hi 65535 || leb k hi)) ≡ within lo (upperOf hi) k

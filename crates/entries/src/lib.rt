@@ -39,12 +39,12 @@ ghost use Rattle.tables.specs.Layout.{nodeCount, formCodeAt, formFirstAt, formT
 ghost use Rattle.tables.specs.Decode.{triplesAt, graphAt, pathAt, upperOf, shapeAt};
 ghost use Rattle.paths.specs.Facts.{Tables};
 ghost use Rattle.paths.specs.Images.{image};
-ghost use Rattle.paths.specs.Ends.{endIn, endOk};
+ghost use Rattle.paths.specs.Ends.{endIn, endKnown};
 ghost use Rattle.entries.specs.Tables.{Asked, endFor};
 
 // All ends from the members of a set.
 pub fn ends_from(cells: &[u16], index: &[u16], end: End, from: &[u64]) -> NodeSet
-    requires { ⌜ Tables (now cells) (now index) × (endOk (now cells) end ≡ true) ⌝ }
+    requires { ⌜ Tables (now cells) (now index) × (endKnown (now cells) end ≡ true) ⌝ }
     ensures { λ r. ⌜ r .words ≡ wordsOf (image (nodeCount (now (cells .entry))) (endsOf (nodeCount (now (cells .entry))) (triplesAt (now (cells .entry))) (endIn (now (cells .entry)) end)) (has (now (from .entry)))) 16 ⌝ }
 {
     let mut words = [0u64; 16];
@@ -54,7 +54,7 @@ pub fn ends_from(cells: &[u16], index: &[u16], end: End, from: &[u64]) -> NodeSe
 
 // The ends from node v.
 fn ends_of(cells: &[u16], index: &[u16], end: End, v: usize) -> NodeSet
-    requires { ⌜ Tables (now cells) (now index) × (endOk (now cells) end ≡ true) × (v < nodeCount (now cells)) ⌝ }
+    requires { ⌜ Tables (now cells) (now index) × (endKnown (now cells) end ≡ true) × (v < nodeCount (now cells)) ⌝ }
     ensures { λ r. ⌜ r .words ≡ wordsOf (endsOf (nodeCount (now (cells .entry))) (triplesAt (now (cells .entry))) (endIn (now (cells .entry)) end) v) 16 ⌝ }
 {
     let mut from = [0u64; 16];

@@ -11,7 +11,7 @@ use Rattle.tables.specs.Layout.{pathCount}
 use Rattle.tables.specs.Decode.{pathAt}
 use Rattle.paths.specs.Facts.{triplesOf, edges}
 use Rattle.paths.specs.Images.{converseIf, withImages, withEnds}
-use Rattle.paths.specs.Ends.{endIn, endOk}
+use Rattle.paths.specs.Ends.{endIn, endKnown}
 use Rattle.paths.specs.declared.End.{End}
 use Rattle.paths.specs.declared.End.the-variants.{Itself, Link, Path}
 use Rattle.paths.proofs.Images.{images-ext}
@@ -20,9 +20,9 @@ use Rattle.paths.proofs.Paths.{link-ends}
 use Rattle.model.specs.declared.LinkNo.{LinkNo}
 
 -- the path entry that an end names
-pub end-below : (cs : List ℕ) {x : End} {e : ℕ} → x ≡ Path e → endOk cs x ≡ true → e < pathCount cs
-unfolding endOk
-end-below cs {e = e} q h = ltb-true e (pathCount cs) (ap (endOk cs) (sym q) ∙ h)
+pub end-below : (cs : List ℕ) {x : End} {e : ℕ} → x ≡ Path e → endKnown cs x ≡ true → e < pathCount cs
+unfolding endKnown
+end-below cs {e = e} q h = ltb-true e (pathCount cs) (ap (endKnown cs) (sym q) ∙ h)
 
 module _ (width n : ℕ) (cs : List ℕ) (back : Bool) (from into : List ℕ) {x : End} where
   pub end-itself : (ts : List Triple) → x ≡ Itself → withImages width n eqb from into ≡ withImages width n (converseIf back (endsOf n ts (endIn cs x))) from into

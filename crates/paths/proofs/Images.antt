@@ -11,7 +11,7 @@ use Rattle.base.specs.Bounded.{some}
 use Rattle.base.proofs.Bounded.{some-ext, some-none, some-or, some-and, some-swap, some-eq}
 use Rattle.nodeset.specs.Words.{has, wordsOf}
 use Rattle.nodeset.proofs.Sets.{own, wordsOf-ext, has-wordsOf, length-wordsOf, has-zeros}
-use Rattle.paths.specs.Images.{image, withImage, withImages, joined}
+use Rattle.paths.specs.Images.{image, withImage, withImages, joinedSets}
 
 -- ---- images
 
@@ -103,8 +103,8 @@ module _ (width n : ℕ) where
           ∙ ap₂ (λ (a b : ℕ). image n r (λ v. has from (v * width + a)) b) rem quo
 
   -- by a single pair of nodes
-  pub images-pair : (near far : ℕ) (from into : List ℕ) → near < n → joined width near far from into ≡ withImages width n (λ v w. eqb near v && eqb far w) from into
-  unfolding withImages joined
+  pub images-pair : (near far : ℕ) (from into : List ℕ) → near < n → joinedSets width near far from into ≡ withImages width n (λ v w. eqb near v && eqb far w) from into
+  unfolding withImages joinedSets
   images-pair near far from into l = wordsOf-ext (λ x. has into x || (has from (near * width + x % width) && eqb far (x / width))) (λ x. has into x || image n (λ v w. eqb near v && eqb far w) (λ v. has from (v * width + x % width)) (x / width)) (length into) λ x lx.
       ap (λ (b : Bool). has into x || b) (sym (image-pair n near far (λ v. has from (v * width + x % width)) (x / width) l))
 

@@ -19,7 +19,7 @@ use Rattle.chains.specs.Chains.{lastWith}
 use Rattle.chains.proofs.Chains.{some-last, walk-begins}
 use Rattle.model.specs.Limits.{maxLinks}
 use Rattle.paths.specs.Facts.{FactsOk, edge, edges}
-use Rattle.paths.specs.Images.{withImages, joined}
+use Rattle.paths.specs.Images.{withImages, joinedSets}
 use Rattle.paths.proofs.Images.{images-ext, images-none, images-or, images-pair}
 
 pub eqb-comm : (a b : ℕ) → eqb a b ≡ eqb b a
@@ -29,8 +29,8 @@ eqb-comm a b = same-test (eqb a b) (eqb b a) (λ e. eq-eqb b a (sym (eqb-true a 
 
 module _ (near far : ℕ) (from into : List ℕ) (small : (i : ℕ) → getD into i 0 < 2 ^ 64) where
   -- 64 sets: the word of near is or-ed into that of far
-  pub join-wide : getD from near 0 < 2 ^ 64 → set into far (bitOr (getD into far 0) (getD from near 0)) ≡ joined 64 near far from into
-  unfolding joined has
+  pub join-wide : getD from near 0 < 2 ^ 64 → set into far (bitOr (getD into far 0) (getD from near 0)) ≡ joinedSets 64 near far from into
+  unfolding joinedSets has
   join-wide h =
       set-words (has into) (λ x. has into x || (has from (near * 64 + x % 64) && eqb far (x / 64))) (length into) far (bitOr (getD into far 0) (getD from near 0)) (own into small) (or-lt 64 (getD into far 0) (getD from near 0) (small far) h)
       (λ x l e. bit-or (getD into far 0) (getD from near 0) (x % 64) ∙ ap₂ (λ (a b : Bool). a || b) (ap (λ (i : ℕ). bit (getD into i 0) (x % 64)) (sym e)) (sym (ap₂ (λ (a b : Bool). a && b) (has-at from near (x % 64) (omega arith)) (eq-eqb far (x / 64) (sym e)) ∙ and-true (bit (getD from near 0) (x % 64)))))
@@ -43,12 +43,12 @@ module _ (near far : ℕ) (from into : List ℕ) (small : (i : ℕ) → getD int
       let q : x / 1 ≡ x = omega arith in
       ap₂ (λ (a c : Bool). a && c) (ap (has from) p ∙ e) (ap (eqb far) q ∙ eqb-comm far x)
 
-  pub join-in : has from near ≡ true → with into far ≡ joined 1 near far from into
-  unfolding joined
+  pub join-in : has from near ≡ true → with into far ≡ joinedSets 1 near far from into
+  unfolding joinedSets
   join-in e = with-words into far (λ x. has from (near * 1 + x % 1) && eqb far (x / 1)) (λ x. one x true e)
 
-  pub join-out : has from near ≡ false → into ≡ joined 1 near far from into
-  unfolding joined
+  pub join-out : has from near ≡ false → into ≡ joinedSets 1 near far from into
+  unfolding joinedSets
   join-out e = same-words into (λ x. has from (near * 1 + x % 1) && eqb far (x / 1)) small (λ x. one x false e)
 
 -- ---- each node below v joins the sets that it is in
@@ -60,9 +60,9 @@ module _ (width n : ℕ) (from into : List ℕ) where
   pub itself-none : ((i : ℕ) → getD into i 0 < 2 ^ 64) → into ≡ withImages width n (itself 0) from into
   itself-none small = images-none width n from into small ∙ images-ext width n (λ u w. false) (itself 0) from into (λ u w _. ap (λ (b : Bool). b && eqb u w) (sym (le-ltb u 0 (omega arith))))
 
-  pub itself-more : {ws : List ℕ} (v : ℕ) → v < n → ws ≡ withImages width n (itself v) from into → joined width v v from ws ≡ withImages width n (itself (v + 1)) from into
+  pub itself-more : {ws : List ℕ} (v : ℕ) → v < n → ws ≡ withImages width n (itself v) from into → joinedSets width v v from ws ≡ withImages width n (itself (v + 1)) from into
   itself-more v l e =
-      ap (joined width v v from) e ∙ images-pair width n v v from (withImages width n (itself v) from into) l ∙ images-or width n (itself v) (λ u w. eqb v u && eqb v w) from into
+      ap (joinedSets width v v from) e ∙ images-pair width n v v from (withImages width n (itself v) from into) l ∙ images-or width n (itself v) (λ u w. eqb v u && eqb v w) from into
       ∙ images-ext width n (λ u w. itself v u w || (eqb v u && eqb v w)) (itself (v + 1)) from into (λ u w _. turn u w (eqb u v) refl ∙ ap (λ (b : Bool). b && eqb u w) (sym (ltb-more u v)))
     where
       turn : (u w : ℕ) (b : Bool) → eqb u v ≡ b → ((ltb u v && eqb u w) || (eqb v u && eqb v w)) ≡ ((ltb u v || b) && eqb u w)
@@ -94,7 +94,7 @@ module _ (ss ps os index : List ℕ) (count n : ℕ) (ok : FactsOk ss ps os inde
   module _ (width p : ℕ) (back : Bool) (from : List ℕ) where
     -- fact i, which has link p
     fact-joins : (into : List ℕ) (i : ℕ) → i < count → getD ps i 0 ≡ p
-        → joined width (cond back (getD os i 0) (getD ss i 0)) (cond back (getD ss i 0) (getD os i 0)) from into ≡ withImages width n (edge ss ps os p back i) from into
+        → joinedSets width (cond back (getD os i 0) (getD ss i 0)) (cond back (getD ss i 0) (getD os i 0)) from into ≡ withImages width n (edge ss ps os p back i) from into
     unfolding edge
     fact-joins into i l e =
         let b = fact-between i l in
@@ -110,8 +110,8 @@ module _ (ss ps os index : List ℕ) (count n : ℕ) (ok : FactsOk ss ps os inde
         ∙ images-ext width n (edges ss ps os p back (lastWith (λ i. getD ps i 0) p i)) (edges ss ps os p back i) from into (λ v w lv. sym (some-last (λ i. getD ps i 0) p (λ k. edge ss ps os p back k v w) i
         (λ k l h. eqb-true (getD ps k 0) p (and-left (eqb (getD ps k 0) p) (eqb (cond back (getD os k 0) (getD ss k 0)) v && eqb (cond back (getD ss k 0) (getD os k 0)) w) h))))
 
-    -- fact i joined, and then what its chain goes on with
-    pub chain-more : (into : List ℕ) {ws : List ℕ} {next : ℕ} (i : ℕ) → i < count → getD ps i 0 ≡ p → ws ≡ joined width (cond back (getD os i 0) (getD ss i 0)) (cond back (getD ss i 0) (getD os i 0)) from into → next ≡ lastWith (λ i. getD ps i 0) p i
+    -- fact i joinedSets, and then what its chain goes on with
+    pub chain-more : (into : List ℕ) {ws : List ℕ} {next : ℕ} (i : ℕ) → i < count → getD ps i 0 ≡ p → ws ≡ joinedSets width (cond back (getD os i 0) (getD ss i 0)) (cond back (getD ss i 0) (getD os i 0)) from into → next ≡ lastWith (λ i. getD ps i 0) p i
         → withImages width n (edges ss ps os p back next) from ws ≡ withImages width n (edges ss ps os p back (suc i)) from into
     unfolding edges some
     chain-more into {ws} i l e q f =
@@ -125,6 +125,6 @@ module _ (ss ps os index : List ℕ) (count n : ℕ) (ok : FactsOk ss ps os inde
     chain-ends into small = images-none width n from into small ∙ images-ext width n (λ v w. false) (edges ss ps os p back 0) from into (λ v w lv. refl)
 
 -- what a node's joining leaves is words
-pub joined-small : (width near far : ℕ) (from into : List ℕ) {ws : List ℕ} → ws ≡ joined width near far from into → (i : ℕ) → getD ws i 0 < 2 ^ 64
-unfolding joined
+pub joined-small : (width near far : ℕ) (from into : List ℕ) {ws : List ℕ} → ws ≡ joinedSets width near far from into → (i : ℕ) → getD ws i 0 < 2 ^ 64
+unfolding joinedSets
 joined-small width near far from into e = small-of (λ x. has into x || (has from (near * width + x % width) && eqb far (x / width))) (length into) e

@@ -17,7 +17,7 @@ endIn cs (Link p) = along (predicate (p .0))
 endIn cs (Path e) = along (pathAt cs e)
 
 -- a path entry that is there
-unfoldable pub endOk : List ℕ → End → Bool
-endOk cs Itself = true
-endOk cs (Link p) = true
-endOk cs (Path e) = ltb e (pathCount cs)
+unfoldable pub endKnown : List ℕ → End → Bool
+endKnown cs Itself = true
+endKnown cs (Link p) = true
+endKnown cs (Path e) = ltb e (pathCount cs)

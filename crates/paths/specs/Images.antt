@@ -27,8 +27,8 @@ unfoldable pub withImages : ℕ → ℕ → (ℕ → ℕ → Bool) → List ℕ 
 withImages width n r from into = wordsOf (λ x. has into x || image n r (λ v. has from (v * width + x % width)) (x / width)) (length into)
 
 -- far joins each set of `into` whose namesake in `from` has near
-unfoldable pub joined : ℕ → ℕ → ℕ → List ℕ → List ℕ → List ℕ
-joined width near far from into = wordsOf (λ x. has into x || (has from (near * width + x % width) && eqb far (x / width))) (length into)
+unfoldable pub joinedSets : ℕ → ℕ → ℕ → List ℕ → List ℕ → List ℕ
+joinedSets width near far from into = wordsOf (λ x. has into x || (has from (near * width + x % width) && eqb far (x / width))) (length into)
 
 -- how many sets stand side by side: one, or 64 where many
 abbrev pub setCount : Bool → ℕ

@@ -50,8 +50,8 @@ ghost use Rattle.tables.specs.Decode.{triplesAt, pathAt};
 ghost use Rattle.tables.specs.WellFormed.{wellFormed};
 ghost use Rattle.base.specs.Bounded.{every};
 ghost use Rattle.paths.specs.Facts.{TableIndexed, SubjectIndexed, indexCount, Made, Tables, FactsOk, triplesOf, edges};
-ghost use Rattle.paths.specs.Ends.{endIn, endOk};
-ghost use Rattle.paths.specs.Images.{converseIf, setCount, withImage, withImages, joined, withEnds};
+ghost use Rattle.paths.specs.Ends.{endIn, endKnown};
+ghost use Rattle.paths.specs.Images.{converseIf, setCount, withImage, withImages, joinedSets, withEnds};
 
 // How many cells the index of the facts takes: where the chain of each link begins and what follows each fact on it, and then the
 // same by subject.
@@ -82,7 +82,7 @@ fn node_at(column: &[u16], i: usize) -> NodeNo
 
 // Node far joins each set that near is in.
 fn join(into: &mut [u64], far: usize, many: bool, from: &[u64], near: usize)
-    ensures { λ _. ⌜ now (into .exit) ≡ joined (setCount many) near far (now (from .entry)) (now (into .entry)) ⌝ }
+    ensures { λ _. ⌜ now (into .exit) ≡ joinedSets (setCount many) near far (now (from .entry)) (now (into .entry)) ⌝ }
 {
     if many {
         let x = word(into, far) | word(from, near);
@@ -160,7 +160,7 @@ pub fn next_out(index: &[u16], i: usize) -> usize
 // The object of fact i joins each set that its subject is in; read backwards where back.
 fn join_fact(into: &mut [u64], i: usize, back: bool, many: bool, from: &[u64], s: &[u16], o: &[u16])
     requires { ⌜ (i < length (now s)) × (i < length (now o)) ⌝ }
-    ensures { λ _. ⌜ now (into .exit) ≡ joined (setCount many) (cond back (getD (now (o .entry)) i 0) (getD (now (s .entry)) i 0)) (cond back (getD (now (s .entry)) i 0) (getD (now (o .entry)) i 0)) (now (from .entry)) (now (into .entry)) ⌝ }
+    ensures { λ _. ⌜ now (into .exit) ≡ joinedSets (setCount many) (cond back (getD (now (o .entry)) i 0) (getD (now (s .entry)) i 0)) (cond back (getD (now (s .entry)) i 0) (getD (now (o .entry)) i 0)) (now (from .entry)) (now (into .entry)) ⌝ }
 {
     let v = wide(node_at(s, i).0);
     let w = wide(node_at(o, i).0);
@@ -266,7 +266,7 @@ pub fn follow(
     len: usize,
     n: usize,
 )
-    requires { ⌜ FactsOk (now s) (now p) (now o) (now index) len n × (wellFormed (now cells) ≡ true) × (endOk (now cells) end ≡ true) ⌝ }
+    requires { ⌜ FactsOk (now s) (now p) (now o) (now index) len n × (wellFormed (now cells) ≡ true) × (endKnown (now cells) end ≡ true) ⌝ }
     ensures { λ _. ⌜ now (into .exit) ≡ withImages (setCount many) n (converseIf back (endsOf n (triplesOf (now (s .entry)) (now (p .entry)) (now (o .entry)) len) (endIn (now (cells .entry)) end))) (now (from .entry)) (now (into .entry)) ⌝ }
 {
     match end {
@@ -290,7 +290,7 @@ pub fn add_ends(
     len: usize,
     n: usize,
 )
-    requires { ⌜ FactsOk (now s) (now p) (now o) (now index) len n × (wellFormed (now cells) ≡ true) × (endOk (now cells) end ≡ true) ⌝ }
+    requires { ⌜ FactsOk (now s) (now p) (now o) (now index) len n × (wellFormed (now cells) ≡ true) × (endKnown (now cells) end ≡ true) ⌝ }
     ensures { λ _. ⌜ now (into .exit) ≡ withImage n (converseIf back (endsOf n (triplesOf (now (s .entry)) (now (p .entry)) (now (o .entry)) len) (endIn (now (cells .entry)) end))) (now (from .entry)) (now (into .entry)) ⌝ }
 {
     follow(into, end, back, false, from, cells, s, p, o, index, len, n);
@@ -305,7 +305,7 @@ pub fn add_table_ends(
     cells: &[u16],
     index: &[u16],
 )
-    requires { ⌜ Tables (now cells) (now index) × (endOk (now cells) end ≡ true) ⌝ }
+    requires { ⌜ Tables (now cells) (now index) × (endKnown (now cells) end ≡ true) ⌝ }
     ensures { λ _. ⌜ now (into .exit) ≡ withImage (nodeCount (now (cells .entry))) (converseIf back (endsOf (nodeCount (now (cells .entry))) (triplesAt (now (cells .entry))) (endIn (now (cells .entry)) end))) (now (from .entry)) (now (into .entry)) ⌝ }
 {
     let n = node_count(cells);

@@ -10,7 +10,7 @@ use Rattle.model.specs.Limits.{maxCount, maxSteps}
 use Rattle.model.specs.Graph.{holds}
 use Rattle.tables.specs.Layout.{nodeCount, linkCount, pathCount, formCount, ruleCount}
 use Rattle.tables.specs.Decode.{entryAt}
-use Rattle.tables.specs.WellFormed.{upperOk, endOk}
+use Rattle.tables.specs.WellFormed.{upperOk, endNumberOk}
 use Rattle.plan.specs.Steps.{Step}
 use Rattle.plan.specs.Layout.{stepCount, ruleStepAt, stepAt}
 use Rattle.plan.specs.Sets.{testOf, linksOf}
@@ -36,10 +36,10 @@ module _ (cs : List ℕ) where
   stepOk k (Step.either i j) = ltb i k && ltb j k
   stepOk k (Step.count p j lo hi) = (ltb p (pathCount cs) && ltb j k) && (leb lo (suc maxCount) && upperOk cs hi)
   stepOk k (Step.every p j) = ltb p (pathCount cs) && ltb j k
-  stepOk k (Step.equal f l) = endOk cs f && ltb l (linkCount cs)
-  stepOk k (Step.unequal f l) = endOk cs f && ltb l (linkCount cs)
-  stepOk k (Step.apart f l) = endOk cs f && ltb l (linkCount cs)
-  stepOk k (Step.meet f l) = endOk cs f && ltb l (linkCount cs)
+  stepOk k (Step.equal f l) = endNumberOk cs f && ltb l (linkCount cs)
+  stepOk k (Step.unequal f l) = endNumberOk cs f && ltb l (linkCount cs)
+  stepOk k (Step.apart f l) = endNumberOk cs f && ltb l (linkCount cs)
+  stepOk k (Step.meet f l) = endNumberOk cs f && ltb l (linkCount cs)
   stepOk k (Step.closed e) = closedOk e
   stepOk k (Step.opened e) = closedOk e
   stepOk k (Step.less p l) = ltb p (pathCount cs) && ltb l (linkCount cs)

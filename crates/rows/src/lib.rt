@@ -29,7 +29,7 @@ ghost use Rattle.tables.specs.Layout.{nodeCount};
 ghost use Rattle.tables.specs.Decode.{triplesAt};
 ghost use Rattle.tables.specs.WellFormed.{wellFormed};
 ghost use Rattle.paths.specs.Facts.{Tables, FactsOk, triplesOf};
-ghost use Rattle.paths.specs.Ends.{endIn, endOk};
+ghost use Rattle.paths.specs.Ends.{endIn, endKnown};
 ghost use Rattle.rows.specs.Rows.{rowsOf, Within, columnOf, identityColumn, withColumn};
 
 // An empty column becomes the one whose set k is the node 64 * j + k alone.
@@ -65,7 +65,7 @@ fn pass(
     len: usize,
     n: usize,
 )
-    requires { ⌜ FactsOk (now s) (now p) (now o) (now index) len n × (wellFormed (now cells) ≡ true) × (endOk (now cells) end ≡ true) × (j < 16) ⌝ }
+    requires { ⌜ FactsOk (now s) (now p) (now o) (now index) len n × (wellFormed (now cells) ≡ true) × (endKnown (now cells) end ≡ true) × (j < 16) ⌝ }
     ensures { λ _. ⌜ now (rows .exit) ≡ withColumn (now (rows .entry)) j (columnOf n (endsOf n (triplesOf (now (s .entry)) (now (p .entry)) (now (o .entry)) len) (endIn (now (cells .entry)) end)) j) n ⌝ }
 {
     let mut t = [0u64; MAX_NODES];
@@ -87,7 +87,7 @@ pub fn all_ends(
     len: usize,
     n: usize,
 )
-    requires { ⌜ FactsOk (now s) (now p) (now o) (now index) len n × (wellFormed (now cells) ≡ true) × (endOk (now cells) end ≡ true) × Within n (now rows) ⌝ }
+    requires { ⌜ FactsOk (now s) (now p) (now o) (now index) len n × (wellFormed (now cells) ≡ true) × (endKnown (now cells) end ≡ true) × Within n (now rows) ⌝ }
     ensures { λ _. ⌜ now (rows .exit) ≡ rowsOf n (endsOf n (triplesOf (now (s .entry)) (now (p .entry)) (now (o .entry)) len) (endIn (now (cells .entry)) end)) (length (now (rows .entry))) ⌝ }
 {
     let last = (n + 63) / 64;
@@ -98,7 +98,7 @@ pub fn all_ends(
 
 // The same over the facts of the tables.
 pub fn all_table_ends(rows: &mut [u64], end: End, cells: &[u16], index: &[u16])
-    requires { ⌜ Tables (now cells) (now index) × (endOk (now cells) end ≡ true) × Within (nodeCount (now cells)) (now rows) ⌝ }
+    requires { ⌜ Tables (now cells) (now index) × (endKnown (now cells) end ≡ true) × Within (nodeCount (now cells)) (now rows) ⌝ }
     ensures { λ _. ⌜ now (rows .exit) ≡ rowsOf (nodeCount (now (cells .entry))) (endsOf (nodeCount (now (cells .entry))) (triplesAt (now (cells .entry))) (endIn (now (cells .entry)) end)) (length (now (rows .entry))) ⌝ }
 {
     let n = node_count(cells);

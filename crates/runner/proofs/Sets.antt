@@ -28,7 +28,7 @@ use Rattle.plan.specs.Sets.{inStep}
 use Rattle.plan.specs.WellFormed.{stepOk}
 use Rattle.plancheck.proofs.Codes.{test-codes}
 use Rattle.paths.specs.Facts.{Tables}
-use Rattle.paths.specs.Ends.{endIn, endOk}
+use Rattle.paths.specs.Ends.{endIn, endKnown}
 use Rattle.entries.specs.Tables.{endFor}
 use Rattle.entries.proofs.Ends.{end-in, end-ok}
 use Rattle.stepsets.specs.Conditions.{nodesOf, holdsOf, tagged, conditionOk}
@@ -67,7 +67,7 @@ KindOk cs (Node condition) = conditionOk cs condition ≡ true
 KindOk cs (Both i j) = (i < 65536) × (j < 65536)
 KindOk cs (Either i j) = (i < 65536) × (j < 65536)
 KindOk cs (Path condition p j) = (p < pathCount cs) × (j < 65536) × (conditionOk cs condition ≡ true)
-KindOk cs (Ends condition end l) = (endOk cs end ≡ true) × (conditionOk cs condition ≡ true)
+KindOk cs (Ends condition end l) = (endKnown cs end ≡ true) × (conditionOk cs condition ≡ true)
 KindOk cs (Lang condition p) = (p < pathCount cs) × (conditionOk cs condition ≡ true)
 KindOk cs (Facts target) = Unit {0}
 
@@ -80,11 +80,11 @@ module _ (cs : List ℕ) (k : ℕ) (low : k < maxSteps) where
   on-path : (p j : ℕ) → (ltb p (pathCount cs) && ltb j k) ≡ true → (p < pathCount cs) × (j < 65536) × (true ≡ true)
   on-path p j w = let l : (p < pathCount cs) × (j < k) = two-low p j (pathCount cs) k w in (l .0, omega arith, refl)
 
-  an-end : (f l : ℕ) → (tables.endOk cs f && ltb l (linkCount cs)) ≡ true → endOk cs (endFor f) ≡ true
-  an-end f l w = end-ok cs f (and-left (tables.endOk cs f) (ltb l (linkCount cs)) w)
+  an-end : (f l : ℕ) → (tables.endNumberOk cs f && ltb l (linkCount cs)) ≡ true → endKnown cs (endFor f) ≡ true
+  an-end f l w = end-ok cs f (and-left (tables.endNumberOk cs f) (ltb l (linkCount cs)) w)
 
   pub kind-ok : (s : Step) → stepOk cs k s ≡ true → KindOk cs (kindOf s)
-  unfolding kindOf stepOk conditionOk endOk
+  unfolding kindOf stepOk conditionOk endKnown
   kind-ok Step.all w = tt
   kind-ok Step.none w = tt
   kind-ok (Step.is c) w = refl

@@ -40,7 +40,7 @@ put-tail ws s k n ls room e q =
 
 module _ (cs : List ℕ) (vs : List ℤ) (ps : List ℕ) where
   length-set-words : (k : ℕ) → length (setWords cs vs ps k) ≡ 16
-  unfolding setWords
+  unfolding setWords nodesOf
   length-set-words k = length-wordsOf (λ v. ltb v (nodeCount cs) && setAt cs vs ps k v) 16
 
   length-steps : (k : ℕ) → length (stepWords cs vs ps k) ≡ 16 * k
@@ -62,7 +62,7 @@ module _ (cs : List ℕ) (vs : List ℤ) (ps : List ℕ) where
 
   module _ (few : nodeCount cs ≤ maxNodes) where
     part-has : (k j : ℕ) (rest : List ℕ) → j < k → (w : ℕ) → w < nodeCount cs → has (drop (16 * j) (stepWords cs vs ps k ++ rest)) w ≡ setAt cs vs ps j w
-    unfolding setWords
+    unfolding setWords nodesOf
     part-has k j rest l w lw =
         sym (has-take (drop (16 * j) (stepWords cs vs ps k ++ rest)) 16 w (omega arith))
         ∙ has-of (λ v. ltb v (nodeCount cs) && setAt cs vs ps j v) 16 (part-words k j rest l) w (omega arith)

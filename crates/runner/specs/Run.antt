@@ -2,10 +2,10 @@
 use Prim.Native.Nat.{ℕ, zero, suc, _*_}
 use mathlib.Core.List.{List, [], _++_}
 use mathlib.Core.Bool.{Bool, true, _&&_}
-use lib.Dec.{leb, ltb}
+use lib.Dec.{leb}
 use lib.IntN.{ℤ}
 use lib.ListN.{length, take, drop}
-use Rattle.nodeset.specs.Words.{wordsOf}
+use Rattle.stepsets.specs.Conditions.{nodesOf}
 use Rattle.model.specs.Answers.{Answer, value, refusalOf, checked, unlessRefused}
 use Rattle.model.specs.Limits.{maxSteps}
 use Rattle.tables.specs.Layout.{cellCount, valueCount, nodeCount}
@@ -33,7 +33,7 @@ answerOf (Refused r) = refusalOf r
 module _ (cs : List ℕ) (vs : List ℤ) (ps : List ℕ) where
   -- the sixteen words of step k's set: its nodes, and no bit past the last node
   unfoldable pub setWords : ℕ → List ℕ
-  setWords k = wordsOf (λ v. ltb v (nodeCount cs) && setAt cs vs ps k v) 16
+  setWords k = nodesOf (setAt cs vs ps k) (nodeCount cs)
 
   -- the words of the steps below k, one step after the other
   unfoldable pub stepWords : ℕ → List ℕ

@@ -47,7 +47,7 @@ ghost use Rattle.model.specs.Limits.{maxSteps};
 ghost use Rattle.tables.specs.Layout.{cellCount, nodeCount};
 ghost use Rattle.tables.specs.WellFormed.{wellFormed};
 ghost use Rattle.paths.specs.Facts.{Tables};
-ghost use Rattle.stepsets.specs.Ends.{Held, RowsFor};
+ghost use Rattle.stepsets.specs.Ends.{RowsHeld, RowsFor};
 ghost use Rattle.plan.specs.Layout.{stepAt};
 ghost use Rattle.plan.specs.WellFormed.{stepOk, planWellFormed};
 ghost use Rattle.runner.specs.Kinds.{kindOf, firstAfter, secondAfter};
@@ -171,10 +171,10 @@ fn step_set(
     work: &[u64],
     k: usize,
 ) -> NodeSet
-    requires { ⌜ Tables (now cells) (now index) × (k < maxSteps) × (stepOk (now cells) k (stepAt (now plan) k) ≡ true) × Held (now cells) kept (now first) × Held (now cells) links (now second) ⌝ }
+    requires { ⌜ Tables (now cells) (now index) × (k < maxSteps) × (stepOk (now cells) k (stepAt (now plan) k) ≡ true) × RowsHeld (now cells) kept (now first) × RowsHeld (now cells) links (now second) ⌝ }
     ensures { λ r. ⌜ r .words ≡ stepFrom (now (cells .entry)) (now (values .entry)) (now (plan .entry)) (now (work .entry)) k ⌝ }
-    ensures { λ _. ⌜ Held (now (cells .entry)) (firstAfter (kindOf (stepAt (now (plan .entry)) k)) kept) (now (first .exit)) ⌝ }
-    ensures { λ _. ⌜ Held (now (cells .entry)) (secondAfter (kindOf (stepAt (now (plan .entry)) k)) links) (now (second .exit)) ⌝ }
+    ensures { λ _. ⌜ RowsHeld (now (cells .entry)) (firstAfter (kindOf (stepAt (now (plan .entry)) k)) kept) (now (first .exit)) ⌝ }
+    ensures { λ _. ⌜ RowsHeld (now (cells .entry)) (secondAfter (kindOf (stepAt (now (plan .entry)) k)) links) (now (second .exit)) ⌝ }
 {
     let n = node_count(cells);
     match step_kind(plan, k) {
@@ -218,10 +218,10 @@ fn run_step(
     plan: &[u16],
     k: usize,
 )
-    requires { ⌜ Tables (now cells) (now index) × (k < maxSteps) × (stepOk (now cells) k (stepAt (now plan) k) ≡ true) × Held (now cells) kept (now first) × Held (now cells) links (now second) × (workCount ≤ length (now work)) ⌝ }
+    requires { ⌜ Tables (now cells) (now index) × (k < maxSteps) × (stepOk (now cells) k (stepAt (now plan) k) ≡ true) × RowsHeld (now cells) kept (now first) × RowsHeld (now cells) links (now second) × (workCount ≤ length (now work)) ⌝ }
     ensures { λ _. ⌜ now (work .exit) ≡ put (now (work .entry)) k (stepFrom (now (cells .entry)) (now (values .entry)) (now (plan .entry)) (now (work .entry)) k) ⌝ }
-    ensures { λ _. ⌜ Held (now (cells .entry)) (firstAfter (kindOf (stepAt (now (plan .entry)) k)) kept) (now (first .exit)) ⌝ }
-    ensures { λ _. ⌜ Held (now (cells .entry)) (secondAfter (kindOf (stepAt (now (plan .entry)) k)) links) (now (second .exit)) ⌝ }
+    ensures { λ _. ⌜ RowsHeld (now (cells .entry)) (firstAfter (kindOf (stepAt (now (plan .entry)) k)) kept) (now (first .exit)) ⌝ }
+    ensures { λ _. ⌜ RowsHeld (now (cells .entry)) (secondAfter (kindOf (stepAt (now (plan .entry)) k)) links) (now (second .exit)) ⌝ }
 {
     let set = step_set(
         first,

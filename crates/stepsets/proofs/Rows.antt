@@ -24,7 +24,7 @@ use Rattle.paths.proofs.Parts.{part, lent-ok, lent-triples}
 use Rattle.paths.proofs.Nodes.{ends-nodes}
 use Rattle.rows.specs.Rows.{rowsOf}
 use Rattle.rows.proofs.Passes.{length-rows, within-rows, within-zeros, has-row}
-use Rattle.stepsets.specs.Ends.{sameEnd, keeps, endRows, Held, RowsFor}
+use Rattle.stepsets.specs.Ends.{sameEnd, keeps, endRows, RowsHeld, RowsFor}
 use Rattle.stepsets.specs.declared.Kept.{Kept}
 use Rattle.stepsets.specs.declared.Kept.the-variants.{Unfilled, RowsOf}
 
@@ -45,20 +45,20 @@ same-end (Path p) (Link m) e = absurd (true≢false (sym e))
 same-end (Path p) (Path q) e = ap (λ (x : ℕ). Path x) (eqb-true p q e)
 
 -- nothing is known of rows that were not filled; zeros are such rows
-pub held-none : (cs : List ℕ) {rows : List ℕ} → RowsFor cs rows → Held cs Unfilled rows
+pub held-none : (cs : List ℕ) {rows : List ℕ} → RowsFor cs rows → RowsHeld cs Unfilled rows
 held-none cs h = record { lent = h; ends = tt }
 
 pub rows-zeros : (cs : List ℕ) (words : ℕ) {rows : List ℕ} → 16 * nodeCount cs ≤ words → rows ≡ replicate words 0 → RowsFor cs rows
 rows-zeros cs words l e = record { room = subst (λ (k : ℕ). 16 * nodeCount cs ≤ k) (sym (ap length e ∙ length-replicate {A = ℕ} words 0)) l; within = within-zeros (nodeCount cs) words e }
 
 -- as they were
-pub held-same : (cs : List ℕ) (kept : Kept) (end : End) {rows : List ℕ} → keeps kept end ≡ true → Held cs kept rows → Held cs (RowsOf end) rows
+pub held-same : (cs : List ℕ) (kept : Kept) (end : End) {rows : List ℕ} → keeps kept end ≡ true → RowsHeld cs kept rows → RowsHeld cs (RowsOf end) rows
 unfolding keeps
 held-same cs Unfilled end e h = absurd (true≢false (sym e))
-held-same cs (RowsOf held) end {rows} e h = subst (λ (x : End). Held cs (RowsOf x) rows) (same-end held end e) h
+held-same cs (RowsOf held) end {rows} e h = subst (λ (x : End). RowsHeld cs (RowsOf x) rows) (same-end held end e) h
 
 -- filled anew
-pub held-anew : (cs : List ℕ) (kept : Kept) (end : End) {rows now : List ℕ} → Held cs kept rows → now ≡ rowsOf (nodeCount cs) (endsOf (nodeCount cs) (triplesAt cs) (endIn cs end)) (length rows) → Held cs (RowsOf end) now
+pub held-anew : (cs : List ℕ) (kept : Kept) (end : End) {rows now : List ℕ} → RowsHeld cs kept rows → now ≡ rowsOf (nodeCount cs) (endsOf (nodeCount cs) (triplesAt cs) (endIn cs end)) (length rows) → RowsHeld cs (RowsOf end) now
 unfolding endRows
 held-anew cs kept end {rows} {now} h e = record {
   lent = record {
@@ -79,7 +79,7 @@ module _ (cs index : List ℕ) (t : Tables cs index) where
   ends-low (along p) v w l h = ends-nodes (part cs subjects) (part cs predicates) (part cs tables-layout.objects) index _ (nodeCount cs) (lent-ok cs (t .ok) (t .room) refl refl (t .indexed)) p v w (ap (λ (ts : List Triple). ends (nodeCount cs) ts p v w) (lent-triples cs (t .ok) refl) ∙ h) .1
 
   -- row v
-  pub row-ends : (end : End) {rows : List ℕ} → Held cs (RowsOf end) rows → (v : ℕ) → v < nodeCount cs → (w : ℕ) → w < 1024 → has (drop (16 * v) rows) w ≡ endsOf (nodeCount cs) (triplesAt cs) (endIn cs end) v w
+  pub row-ends : (end : End) {rows : List ℕ} → RowsHeld cs (RowsOf end) rows → (v : ℕ) → v < nodeCount cs → (w : ℕ) → w < 1024 → has (drop (16 * v) rows) w ≡ endsOf (nodeCount cs) (triplesAt cs) (endIn cs end) v w
   unfolding endRows
   row-ends end {rows} h v l w lw =
       has-row (nodeCount cs) (endsOf (nodeCount cs) (triplesAt cs) (endIn cs end)) (length rows) (h .ends) v (omega (arith, h .lent .room)) w lw

@@ -47,6 +47,6 @@ Holds cs Unfilled rows = Unit {0}
 Holds cs (RowsOf end) rows = rows ≡ endRows cs end (length rows)
 
 -- such rows, which hold what is kept
-pub record Held (cs : List ℕ) (kept : Kept) (rows : List ℕ) : Type 0 where
+pub record RowsHeld (cs : List ℕ) (kept : Kept) (rows : List ℕ) : Type 0 where
   pub lent : RowsFor cs rows
   pub ends : Holds cs kept rows

@@ -50,9 +50,9 @@ ghost use Rattle.model.specs.Shapes.{from, objects, starts};
 ghost use Rattle.tables.specs.Layout.{nodeCount, pathCount};
 ghost use Rattle.tables.specs.Decode.{graphAt, pathAt};
 ghost use Rattle.paths.specs.Facts.{Tables};
-ghost use Rattle.paths.specs.Ends.{endIn, endOk};
+ghost use Rattle.paths.specs.Ends.{endIn, endKnown};
 ghost use Rattle.stepsets.specs.Conditions.{nodesOf, holdsOf, tagged, conditionOk};
-ghost use Rattle.stepsets.specs.Ends.{sameEnd, keeps, Held};
+ghost use Rattle.stepsets.specs.Ends.{sameEnd, keeps, RowsHeld};
 ghost use Rattle.stepsets.specs.Targets.{nodeOf, picked, chosen, ByLink};
 
 // What rows of ends hold: nothing yet, or the ends of all nodes.
@@ -215,8 +215,8 @@ fn is_kept(kept: Kept, end: End) -> bool
 
 // The rows become those of these ends, where they are not these already.
 fn keep_ends(rows: &mut [u64], kept: Kept, end: End, cells: &[u16], index: &[u16])
-    requires { ⌜ Tables (now cells) (now index) × (endOk (now cells) end ≡ true) × Held (now cells) kept (now rows) ⌝ }
-    ensures { λ _. ⌜ Held (now (cells .entry)) (Kept.RowsOf end) (now (rows .exit)) ⌝ }
+    requires { ⌜ Tables (now cells) (now index) × (endKnown (now cells) end ≡ true) × RowsHeld (now cells) kept (now rows) ⌝ }
+    ensures { λ _. ⌜ RowsHeld (now (cells .entry)) (Kept.RowsOf end) (now (rows .exit)) ⌝ }
 {
     if !is_kept(kept, end) {
         all_table_ends(rows, end, cells, index);
@@ -235,9 +235,9 @@ pub fn path_set(
     work: &[u64],
     j: usize,
 ) -> NodeSet
-    requires { ⌜ Tables (now cells) (now index) × (p < pathCount (now cells)) × (j < 65536) × (conditionOk (now cells) condition ≡ true) × Held (now cells) kept (now first) ⌝ }
+    requires { ⌜ Tables (now cells) (now index) × (p < pathCount (now cells)) × (j < 65536) × (conditionOk (now cells) condition ≡ true) × RowsHeld (now cells) kept (now first) ⌝ }
     ensures { λ r. ⌜ r .words ≡ nodesOf (λ v. holdsOf (now (cells .entry)) (now (values .entry)) condition (from (graphAt (now (cells .entry)) (now (values .entry))) (pathAt (now (cells .entry)) p) v) (has (drop (16 * j) (now (work .entry)))) v) (nodeCount (now (cells .entry))) ⌝ }
-    ensures { λ _. ⌜ Held (now (cells .entry)) (Kept.RowsOf (End.Path p)) (now (first .exit)) ⌝ }
+    ensures { λ _. ⌜ RowsHeld (now (cells .entry)) (Kept.RowsOf (End.Path p)) (now (first .exit)) ⌝ }
 {
     keep_ends(first, kept, End::Path(p), cells, index);
     nodes_where(
@@ -261,9 +261,9 @@ pub fn lang_set(
     values: &[i64],
     p: usize,
 ) -> NodeSet
-    requires { ⌜ Tables (now cells) (now index) × (p < pathCount (now cells)) × (conditionOk (now cells) condition ≡ true) × Held (now cells) kept (now first) ⌝ }
+    requires { ⌜ Tables (now cells) (now index) × (p < pathCount (now cells)) × (conditionOk (now cells) condition ≡ true) × RowsHeld (now cells) kept (now first) ⌝ }
     ensures { λ r. ⌜ r .words ≡ nodesOf (λ v. holdsOf (now (cells .entry)) (now (values .entry)) condition (from (graphAt (now (cells .entry)) (now (values .entry))) (pathAt (now (cells .entry)) p) v) (tagged (now (cells .entry))) v) (nodeCount (now (cells .entry))) ⌝ }
-    ensures { λ _. ⌜ Held (now (cells .entry)) (Kept.RowsOf (End.Path p)) (now (first .exit)) ⌝ }
+    ensures { λ _. ⌜ RowsHeld (now (cells .entry)) (Kept.RowsOf (End.Path p)) (now (first .exit)) ⌝ }
 {
     keep_ends(first, kept, End::Path(p), cells, index);
     let set = languages(cells);
@@ -284,10 +284,10 @@ pub fn ends_set(
     end: End,
     l: LinkNo,
 ) -> NodeSet
-    requires { ⌜ Tables (now cells) (now index) × (endOk (now cells) end ≡ true) × (conditionOk (now cells) condition ≡ true) × Held (now cells) kept (now first) × Held (now cells) links (now second) ⌝ }
+    requires { ⌜ Tables (now cells) (now index) × (endKnown (now cells) end ≡ true) × (conditionOk (now cells) condition ≡ true) × RowsHeld (now cells) kept (now first) × RowsHeld (now cells) links (now second) ⌝ }
     ensures { λ r. ⌜ r .words ≡ nodesOf (λ v. holdsOf (now (cells .entry)) (now (values .entry)) condition (starts (graphAt (now (cells .entry)) (now (values .entry))) (endIn (now (cells .entry)) end) v) (objects (graphAt (now (cells .entry)) (now (values .entry))) (l .0) v) v) (nodeCount (now (cells .entry))) ⌝ }
-    ensures { λ _. ⌜ Held (now (cells .entry)) (Kept.RowsOf end) (now (first .exit)) ⌝ }
-    ensures { λ _. ⌜ Held (now (cells .entry)) (Kept.RowsOf (End.Link l)) (now (second .exit)) ⌝ }
+    ensures { λ _. ⌜ RowsHeld (now (cells .entry)) (Kept.RowsOf end) (now (first .exit)) ⌝ }
+    ensures { λ _. ⌜ RowsHeld (now (cells .entry)) (Kept.RowsOf (End.Link l)) (now (second .exit)) ⌝ }
 {
     keep_ends(first, kept, end, cells, index);
     keep_ends(second, links, End::Link(l), cells, index);

@@ -16,7 +16,7 @@ ghost use Rattle.base.specs.Bounded.{every};
 ghost use Rattle.tables.specs.Layout.{rootAt, nodeCount, shapeCount, factCount};
 ghost use Rattle.tables.specs.Decode.{pathEntryAt, entryAt};
 ghost use Rattle.tables.specs.Entries.{Entry};
-ghost use Rattle.tables.specs.WellFormed.{countsOk, nodeOk, factOk, pathEntryOk, itemOk, itemsOk, endOk, entryOk, ruleOk, wellFormed};
+ghost use Rattle.tables.specs.WellFormed.{countsOk, nodeOk, factOk, pathEntryOk, itemOk, itemsOk, endNumberOk, entryOk, ruleOk, wellFormed};
 ghost use Rattle.tablecheck.specs.Parts.{placeBelow, partCount, tablePartOk};
 
 fn below(x: u16, n: usize) -> bool
@@ -147,7 +147,7 @@ fn shape_before(cells: &[u16], s: u16, e: usize) -> bool
 
 // The operand END of a form or of a step: a path entry that is there, or `id`.
 pub fn end_ok(cells: &[u16], p: usize) -> bool
-    ensures { λ r. ⌜ r ≡ endOk (now (cells .entry)) p ⌝ }
+    ensures { λ r. ⌜ r ≡ endNumberOk (now (cells .entry)) p ⌝ }
 {
     (p < reads::path_count(cells)) | (p == reads::wide(NO_NUMBER))
 }

@@ -50,8 +50,8 @@ module _ (cs : List ℕ) where
   unfoldable pub upperOk : ℕ → Bool
   upperOk hi = leb hi maxCount || eqb hi noNumber
 
-  unfoldable pub endOk : ℕ → Bool
-  endOk p = ltb p (pathCount cs) || eqb p noNumber
+  unfoldable pub endNumberOk : ℕ → Bool
+  endNumberOk p = ltb p (pathCount cs) || eqb p noNumber
 
   -- form entry e
   unfoldable pub entryOk : ℕ → Entry → Bool
@@ -70,8 +70,8 @@ module _ (cs : List ℕ) where
   entryOk e (Entry.under x) = true
   entryOk e (Entry.count p a lo hi) = (ltb p (pathCount cs) && ltb a e) && (leb lo maxCount && upperOk hi)
   entryOk e (Entry.all p a) = ltb p (pathCount cs) && ltb a e
-  entryOk e (Entry.equal f p) = endOk f && ltb p (linkCount cs)
-  entryOk e (Entry.apart f p) = endOk f && ltb p (linkCount cs)
+  entryOk e (Entry.equal f p) = endNumberOk f && ltb p (linkCount cs)
+  entryOk e (Entry.apart f p) = endNumberOk f && ltb p (linkCount cs)
   entryOk e (Entry.closed i n) = itemsOk (linkCount cs) i n
   entryOk e (Entry.less p l) = ltb p (pathCount cs) && ltb l (linkCount cs)
   entryOk e (Entry.lesseq p l) = ltb p (pathCount cs) && ltb l (linkCount cs)

@@ -43,6 +43,7 @@ use Rattle.plan.specs.Layout.{ruleStepAt, stepAt, stepCount}
 use Rattle.plan.specs.Sets.{inStep, setBy, setAt}
 use Rattle.plancheck.proofs.WellFormed as plans
 use Rattle.translation.specs.Compile.{planOf}
+use Rattle.stepsets.specs.Conditions.{nodesOf}
 use Rattle.runner.specs.Run.{workCount, setWords}
 use Rattle.lists.specs.Rows.{listIn}
 use Rattle.tablerun.proofs.Lists.{bare-well-formed}
@@ -123,7 +124,7 @@ module _ (b : Book) (ok : valid b ≡ true) (after : Lent) (n : ℕ) (h : Right 
 
   -- None has no members
   none-empty : stepAt (planIn after) k ≡ Step.none → (v : ℕ) → v < maxNodes → has (drop (16 * k) (after .work)) v ≡ false
-  unfolding setWords setAt setBy inStep
+  unfolding setWords nodesOf setAt setBy inStep
   none-empty e v l =
       let cs : List ℕ = cellsIn after in
       let made : ℕ → (ℕ → ℕ → Bool) → ℕ → Bool = λ j sets. inStep cs (valuesIn after) (stepAt (planIn after) j) sets in

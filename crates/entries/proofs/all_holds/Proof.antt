@@ -8,7 +8,7 @@ use borrow.Author.Tests.{lt-ltb}
 use Rattle.nodeset.specs.Words.{has, wordsOf}
 use Rattle.tables.specs.Layout.{nodeCount, pathCount, formFirstAt}
 use Rattle.tables.specs.Decode.{triplesAt, pathAt}
-use Rattle.paths.specs.Ends.{endIn, endOk}
+use Rattle.paths.specs.Ends.{endIn, endKnown}
 use mathlib.Core.List.{[]}
 use Rattle.model.specs.Shapes.{subset}
 use Rattle.entries.proofs.Codes.{nodes-le, all-path}
@@ -24,7 +24,7 @@ wide-requires : tie.Need-wide-requires
 wide-requires c κs = search needs
 
 ends-of-requires : tie.Need-ends-of-requires
-unfolding endOk
+unfolding endKnown
 ends-of-requires c κs =
     let a = c .before .before .before .before .before .args in
     let cs = a .cells .now in

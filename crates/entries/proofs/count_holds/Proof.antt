@@ -7,7 +7,7 @@ use borrow.Author.Tests.{lt-ltb}
 use Rattle.nodeset.specs.Words.{wordsOf}
 use Rattle.tables.specs.Layout.{nodeCount, pathCount, formFirstAt}
 use Rattle.tables.specs.Decode.{triplesAt, pathAt, upperOf}
-use Rattle.paths.specs.Ends.{endIn, endOk}
+use Rattle.paths.specs.Ends.{endIn, endKnown}
 use mathlib.Core.List.{[]}
 use Rattle.model.specs.Shapes.{within}
 use Rattle.entries.proofs.Codes.{nodes-le, count-path}
@@ -23,7 +23,7 @@ wide-requires : tie.Need-wide-requires
 wide-requires c κs = search needs
 
 ends-of-requires : tie.Need-ends-of-requires
-unfolding endOk
+unfolding endKnown
 ends-of-requires c κs =
     let a = c .before .before .before .before .before .args in
     let cs = a .cells .now in

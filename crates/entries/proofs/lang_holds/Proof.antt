@@ -9,7 +9,7 @@ use Rattle.nodeset.specs.Words.{has, wordsOf}
 use Rattle.conditions.proofs.Langs.{unlike-tagged, has-tagged}
 use Rattle.tables.specs.Layout.{nodeCount, pathCount, formFirstAt}
 use Rattle.tables.specs.Decode.{triplesAt, pathAt}
-use Rattle.paths.specs.Ends.{endIn, endOk}
+use Rattle.paths.specs.Ends.{endIn, endKnown}
 use Rattle.entries.proofs.Codes.{nodes-le, lang-path}
 use Rattle.entries.proofs.Forms.{set-lang}
 use borrow.Author.Needs.{needs}
@@ -23,7 +23,7 @@ wide-requires : tie.Need-wide-requires
 wide-requires c κs = search needs
 
 ends-of-requires : tie.Need-ends-of-requires
-unfolding endOk
+unfolding endKnown
 ends-of-requires c κs =
     let a = c .before .before .before .before .args in
     let cs = a .cells .now in

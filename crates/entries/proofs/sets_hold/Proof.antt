@@ -7,7 +7,7 @@ use Rattle.nodeset.specs.Words.{wordsOf}
 use Rattle.tables.specs.Layout.{nodeCount}
 use Rattle.tables.specs.Decode.{triplesAt, endAt}
 use Rattle.tables.specs.WellFormed as tables
-use Rattle.paths.specs.Ends.{endIn, endOk}
+use Rattle.paths.specs.Ends.{endIn, endKnown}
 use Rattle.entries.proofs.Codes.{nodes-le, set-end}
 use Rattle.entries.proofs.Ends.{end-in, end-ok}
 use Rattle.entries.proofs.Forms.{set-equal, set-apart, set-less, set-lesseq}
@@ -29,13 +29,13 @@ ends-of-requires c κs =
     let a = c .before .before .before .before .before .args in
     let cs = a .cells .now in
     let p = c .before .before .before .before .before .pre in
-    (p .0 .tables, ap (endOk cs) (c .end-at .ensures) ∙ end-ok cs (c .before .wide .result) (ap (tables.endOk cs) (c .before .wide .ensures ∙ c .before .before .form-first .ensures) ∙ set-end cs (p .0 .tables) (a .values .now) (a .e) (p .0 .entry) (p .1) (p .2) (p .3)), p .0 .node)
+    (p .0 .tables, ap (endKnown cs) (c .end-at .ensures) ∙ end-ok cs (c .before .wide .result) (ap (tables.endNumberOk cs) (c .before .wide .ensures ∙ c .before .before .form-first .ensures) ∙ set-end cs (p .0 .tables) (a .values .now) (a .e) (p .0 .entry) (p .1) (p .2) (p .3)), p .0 .node)
 
 form-link-requires : tie.Need-form-link-requires
 form-link-requires c κs = search needs
 
 ends-of-requires-2 : tie.Need-ends-of-requires-2
-unfolding endOk
+unfolding endKnown
 ends-of-requires-2 c κs = (c .before .before .before .before .before .before .before .before .pre .0 .tables, refl, c .before .before .before .before .before .before .before .before .pre .0 .node)
 
 form-code-requires : tie.Need-form-code-requires

@@ -4,7 +4,7 @@ use mathlib.Core.Bool.{Bool}
 use mathlib.Core.Path.{sym, ap, ap₂, _∙_}
 use lib.Bits.{bitOr}
 use lib.ListN.{set}
-use Rattle.paths.specs.Images.{joined, setCount}
+use Rattle.paths.specs.Images.{joinedSets, setCount}
 use Rattle.paths.proofs.Joins.{join-wide, join-in, join-out}
 use borrow.Author.Needs.{needs}
 use Rattle.paths.proofs.join.Statement.{statement}
@@ -33,7 +33,7 @@ returns c =
     let a = c .before .before .before .before .before .before .before .before .before .before .args in
     c .before .before .put-word .ensures ∙ ap₂ (λ (x y : ℕ). set (a .into .now) (a .far) (bitOr x y)) (c .before .before .before .before .before .word .ensures) (c .before .before .before .before .word2 .ensures)
     ∙ join-wide (a .near) (a .far) (a .from .now) (a .into .now) (λ i. c .before .before .before .before .before .before .before .before .before .slice-known .given i .fits) (c .before .before .before .before .before .before .before .before .shared-slice-known .given (a .near) .fits)
-    ∙ ap (λ (w : Bool). joined (setCount w) (a .near) (a .far) (a .from .now) (a .into .now)) (sym (c .before .before .before .before .before .before .before .if1 .taken))
+    ∙ ap (λ (w : Bool). joinedSets (setCount w) (a .near) (a .far) (a .from .now) (a .into .now)) (sym (c .before .before .before .before .before .before .before .if1 .taken))
 
 same-length-2 : tie.Need-same-length-2
 same-length-2 c = search needs
@@ -42,13 +42,13 @@ returns-2 : tie.Need-returns-2
 returns-2 c =
     let a = c .before .before .before .before .before .before .before .before .before .args in
     c .before .before .insert .ensures ∙ join-in (a .near) (a .far) (a .from .now) (a .into .now) (λ i. c .before .before .before .before .before .before .before .before .slice-known .given i .fits) (sym (c .before .before .before .before .before .test .ensures) ∙ c .before .before .before .before .if2 .taken)
-    ∙ ap (λ (w : Bool). joined (setCount w) (a .near) (a .far) (a .from .now) (a .into .now)) (sym (c .before .before .before .before .before .before .if1 .left))
+    ∙ ap (λ (w : Bool). joinedSets (setCount w) (a .near) (a .far) (a .from .now) (a .into .now)) (sym (c .before .before .before .before .before .before .if1 .left))
 
 returns-3 : tie.Need-returns-3
 returns-3 c =
     let a = c .before .before .before .before .before .args in
     join-out (a .near) (a .far) (a .from .now) (a .into .now) (λ i. c .before .before .before .before .slice-known .given i .fits) (sym (c .before .test .ensures) ∙ c .if2 .left)
-    ∙ ap (λ (w : Bool). joined (setCount w) (a .near) (a .far) (a .from .now) (a .into .now)) (sym (c .before .before .if1 .left))
+    ∙ ap (λ (w : Bool). joinedSets (setCount w) (a .near) (a .far) (a .from .now) (a .into .now)) (sym (c .before .before .if1 .left))
 
 pub join-spec : {M : Type 1} → statement M
 join-spec =

@@ -2,7 +2,7 @@
 use mathlib.Core.Bool.{cond}
 use mathlib.Core.Path.{ap₂, _∙_}
 use Prim.Native.Nat.{ℕ}
-use Rattle.paths.specs.Images.{setCount, joined}
+use Rattle.paths.specs.Images.{setCount, joinedSets}
 use borrow.Author.Needs.{needs}
 use Rattle.paths.proofs.join_fact.Statement.{statement}
 use Rattle.paths.proofs.join_fact.Tie as tie
@@ -36,7 +36,7 @@ returns c =
     let a = c .before .before .before .before .before .before .before .before .before .before .before .before .before .before .args in
     let v = c .before .before .before .before .before .before .before .before .wide .ensures ∙ c .before .before .before .before .before .before .before .before .before .node-at .ensures in
     let w = c .before .before .before .before .before .before .wide2 .ensures ∙ c .before .before .before .before .before .before .before .node-at2 .ensures in
-    c .before .before .join .ensures ∙ ap₂ (λ (near far : ℕ). joined (setCount (a .many)) near far (a .from .now) (a .into .now)) (c .before .before .before .pick2 .ensures ∙ ap₂ (cond (a .back)) w v) (c .before .before .before .before .pick .ensures ∙ ap₂ (cond (a .back)) v w)
+    c .before .before .join .ensures ∙ ap₂ (λ (near far : ℕ). joinedSets (setCount (a .many)) near far (a .from .now) (a .into .now)) (c .before .before .before .pick2 .ensures ∙ ap₂ (cond (a .back)) w v) (c .before .before .before .before .pick .ensures ∙ ap₂ (cond (a .back)) v w)
 
 pub join-fact-spec : {M : Type 1} → statement M
 join-fact-spec =

@@ -7,7 +7,7 @@ use lib.ListN.{length, drop}
 use borrow.Author.Needs.{needs}
 use Rattle.tables.proofs.WellFormed.{sound}
 use Rattle.plancheck.proofs.WellFormed as plans
-use Rattle.stepsets.specs.Ends.{Held}
+use Rattle.stepsets.specs.Ends.{RowsHeld}
 use Rattle.stepsets.specs.declared.Kept.{Kept}
 use Rattle.stepsets.proofs.Rows.{held-none}
 use Rattle.runner.specs.declared.Kind.{Kind}
@@ -19,7 +19,7 @@ use Rattle.runner.proofs.run_all.Tie as tie
 
 abbrev Inv-loop : tie.InvT-loop
 Inv-loop work₀ first₀ second₀ cells index values plan kept₀ links₀ count k₀ work first second kept links k = (k ≤ count) × (length work ≡ length work₀) × (length first ≡ length first₀) × (length second ≡ length second₀)
-    × (work ≡ stepWords cells values plan k ++ drop (16 * k) work₀) × Held cells kept first × Held cells links second
+    × (work ≡ stepWords cells values plan k ++ drop (16 * k) work₀) × RowsHeld cells kept first × RowsHeld cells links second
 
 abbrev μ-loop : tie.MeasureT-loop
 μ-loop work₀ first₀ second₀ cells index values plan kept₀ links₀ count k₀ work first second kept links k = count - k
@@ -70,8 +70,8 @@ loop-again c =
       r .kept .1 .0 ∙ t .inv .2,
       r .kept .1 .1 .0 ∙ t .inv .3,
       r .ensures .0 ∙ steps-more cs (a .values .now) (a .plan .now) (sound cs (pre .0 .ok) .nodes) (a .work .now) (t .k) (p .step (t .k) (omega (arith, c .before .before .before .before .before .before .before .before .before .before .before .before .before .before .before .step-count .ensures, c .before .before .before .before .before .before .before .before .before .before .before .before .before .loop-test .taken))) (t .inv .4),
-      subst (λ (x : Kept). Held cs x (r .last .1 .0)) (sym (c .before .first-after .ensures ∙ ap (λ (y : Kind). firstAfter y (t .kept)) (kind .ensures))) (r .ensures .1 .0),
-      subst (λ (x : Kept). Held cs x (r .last .1 .1 .0)) (sym (c .second-after .ensures ∙ ap (λ (y : Kind). secondAfter y (t .links)) (kind .ensures))) (r .ensures .1 .1),
+      subst (λ (x : Kept). RowsHeld cs x (r .last .1 .0)) (sym (c .before .first-after .ensures ∙ ap (λ (y : Kind). firstAfter y (t .kept)) (kind .ensures))) (r .ensures .1 .0),
+      subst (λ (x : Kept). RowsHeld cs x (r .last .1 .1 .0)) (sym (c .second-after .ensures ∙ ap (λ (y : Kind). secondAfter y (t .links)) (kind .ensures))) (r .ensures .1 .1),
     )
 
 same-length : tie.Need-same-length Inv-loop μ-loop

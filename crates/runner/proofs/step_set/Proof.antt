@@ -9,7 +9,7 @@ use denote.Ref.{now}
 use Rattle.nodeset.specs.Words.{has, wordsOf}
 use Rattle.plan.specs.Layout.{stepAt}
 use Rattle.stepsets.specs.Conditions.{nodesOf}
-use Rattle.stepsets.specs.Ends.{Held}
+use Rattle.stepsets.specs.Ends.{RowsHeld}
 use Rattle.runner.specs.declared.Kind.{Kind}
 use Rattle.runner.specs.Kinds.{kindOf, firstAfter, secondAfter}
 use Rattle.runner.specs.Steps.{stepFrom}
@@ -46,11 +46,11 @@ right : (c : Place) {x : Kind} → c .step-kind .result ≡ x → KindOk (now (c
 right c e = subst (KindOk (now (c .before .before .before .before .before .before .before .before .args .cells))) (sym (c .step-kind .ensures) ∙ e) (kind-ok (now (c .before .before .before .before .before .before .before .before .args .cells)) (c .before .before .before .before .before .before .before .before .args .k) (c .before .before .before .before .before .before .before .before .pre .1) (stepAt (now (c .before .before .before .before .before .before .before .before .args .plan)) (c .before .before .before .before .before .before .before .before .args .k)) (c .before .before .before .before .before .before .before .before .pre .2))
 
 -- the rows, after a step of that kind
-first-rows : (c : Place) {x : Kind} {rows : List ℕ} → c .step-kind .result ≡ x → Held (now (c .before .before .before .before .before .before .before .before .args .cells)) (firstAfter x (c .before .before .before .before .before .before .before .before .args .kept)) rows → Held (now (c .before .before .before .before .before .before .before .before .args .cells)) (firstAfter (kindOf (stepAt (now (c .before .before .before .before .before .before .before .before .args .plan)) (c .before .before .before .before .before .before .before .before .args .k))) (c .before .before .before .before .before .before .before .before .args .kept)) rows
-first-rows c {rows = rows} e h = subst (λ (y : Kind). Held (now (c .before .before .before .before .before .before .before .before .args .cells)) (firstAfter y (c .before .before .before .before .before .before .before .before .args .kept)) rows) (sym e ∙ c .step-kind .ensures) h
+first-rows : (c : Place) {x : Kind} {rows : List ℕ} → c .step-kind .result ≡ x → RowsHeld (now (c .before .before .before .before .before .before .before .before .args .cells)) (firstAfter x (c .before .before .before .before .before .before .before .before .args .kept)) rows → RowsHeld (now (c .before .before .before .before .before .before .before .before .args .cells)) (firstAfter (kindOf (stepAt (now (c .before .before .before .before .before .before .before .before .args .plan)) (c .before .before .before .before .before .before .before .before .args .k))) (c .before .before .before .before .before .before .before .before .args .kept)) rows
+first-rows c {rows = rows} e h = subst (λ (y : Kind). RowsHeld (now (c .before .before .before .before .before .before .before .before .args .cells)) (firstAfter y (c .before .before .before .before .before .before .before .before .args .kept)) rows) (sym e ∙ c .step-kind .ensures) h
 
-second-rows : (c : Place) {x : Kind} {rows : List ℕ} → c .step-kind .result ≡ x → Held (now (c .before .before .before .before .before .before .before .before .args .cells)) (secondAfter x (c .before .before .before .before .before .before .before .before .args .links)) rows → Held (now (c .before .before .before .before .before .before .before .before .args .cells)) (secondAfter (kindOf (stepAt (now (c .before .before .before .before .before .before .before .before .args .plan)) (c .before .before .before .before .before .before .before .before .args .k))) (c .before .before .before .before .before .before .before .before .args .links)) rows
-second-rows c {rows = rows} e h = subst (λ (y : Kind). Held (now (c .before .before .before .before .before .before .before .before .args .cells)) (secondAfter y (c .before .before .before .before .before .before .before .before .args .links)) rows) (sym e ∙ c .step-kind .ensures) h
+second-rows : (c : Place) {x : Kind} {rows : List ℕ} → c .step-kind .result ≡ x → RowsHeld (now (c .before .before .before .before .before .before .before .before .args .cells)) (secondAfter x (c .before .before .before .before .before .before .before .before .args .links)) rows → RowsHeld (now (c .before .before .before .before .before .before .before .before .args .cells)) (secondAfter (kindOf (stepAt (now (c .before .before .before .before .before .before .before .before .args .plan)) (c .before .before .before .before .before .before .before .before .args .k))) (c .before .before .before .before .before .before .before .before .args .links)) rows
+second-rows c {rows = rows} e h = subst (λ (y : Kind). RowsHeld (now (c .before .before .before .before .before .before .before .before .args .cells)) (secondAfter y (c .before .before .before .before .before .before .before .before .args .links)) rows) (sym e ∙ c .step-kind .ensures) h
 
 node-count-requires : tie.Need-node-count-requires
 node-count-requires c κs = search needs

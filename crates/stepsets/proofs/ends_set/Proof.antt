@@ -7,7 +7,7 @@ use Rattle.model.specs.Paths.{endsOf}
 use Rattle.model.specs.Shapes.{starts, objects}
 use Rattle.tables.specs.Decode.{graphAt}
 use Rattle.tables.proofs.WellFormed.{sound}
-use Rattle.paths.specs.Ends.{endIn, endOk}
+use Rattle.paths.specs.Ends.{endIn, endKnown}
 use Rattle.paths.specs.declared.End.the-variants.{Link}
 use Rattle.stepsets.proofs.Conditions.{where-ext}
 use Rattle.stepsets.proofs.Rows.{row-ends}
@@ -19,7 +19,7 @@ keep-ends-requires : tie.Need-keep-ends-requires
 keep-ends-requires c κs = search needs
 
 keep-ends-requires-2 : tie.Need-keep-ends-requires-2
-unfolding endOk
+unfolding endKnown
 keep-ends-requires-2 c κs = let pre = c .before .before .before .before .before .before .before .before .before .pre in (pre .0, refl, pre .4)
 
 nodes-where-requires : tie.Need-nodes-where-requires

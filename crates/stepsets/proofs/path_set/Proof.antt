@@ -10,7 +10,7 @@ use Rattle.model.specs.Shapes.{from}
 use Rattle.tables.specs.Layout.{pathCount}
 use Rattle.tables.specs.Decode.{graphAt, pathAt}
 use Rattle.tables.proofs.WellFormed.{sound}
-use Rattle.paths.specs.Ends.{endIn, endOk}
+use Rattle.paths.specs.Ends.{endIn, endKnown}
 use Rattle.paths.specs.declared.End.the-variants.{Path}
 use Rattle.stepsets.proofs.Conditions.{where-ext}
 use Rattle.stepsets.proofs.Rows.{row-ends}
@@ -19,7 +19,7 @@ use Rattle.stepsets.proofs.path_set.Statement.{statement}
 use Rattle.stepsets.proofs.path_set.Tie as tie
 
 keep-ends-requires : tie.Need-keep-ends-requires
-unfolding endOk
+unfolding endKnown
 keep-ends-requires c κs = let pre = c .before .before .before .before .before .pre in (pre .0, lt-ltb (c .before .before .before .before .before .args .p) (pathCount (c .before .before .before .before .before .args .cells .now)) (pre .1), pre .4)
 
 mul-part : tie.Need-mul-part

@@ -1,4 +1,4 @@
-use Rattle.tables.specs.WellFormed.{endOk}
+use Rattle.tables.specs.WellFormed.{endNumberOk}
 use borrow.Author.Needs.{needs}
 use Rattle.tablecheck.proofs.end_ok.Statement.{statement}
 use Rattle.tablecheck.proofs.end_ok.Tie as tie
@@ -10,7 +10,7 @@ wide-requires : tie.Need-wide-requires
 wide-requires c κs = search needs
 
 returns : tie.Need-returns
-unfolding endOk
+unfolding endNumberOk
 returns c = cc
 
 pub end-ok-spec : {M : Type 1} → statement M

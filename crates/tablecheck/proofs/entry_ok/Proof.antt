@@ -4,7 +4,7 @@ use mathlib.Core.Bool.{_&&_}
 use lib.Dec.{ltb}
 use denote.Ref.{now}
 use Rattle.tables.specs.Entries.{entryOf}
-use Rattle.tables.specs.WellFormed.{entryOk, itemsOk, endOk}
+use Rattle.tables.specs.WellFormed.{entryOk, itemsOk, endNumberOk}
 use Rattle.tablecheck.proofs.Codes.{next, case-is, case-in, case-past, entryBy, entry-by, entry-unknown}
 use borrow.Author.Needs.{needs}
 use Rattle.tablecheck.proofs.entry_ok.Statement.{statement}
@@ -157,7 +157,7 @@ returns-13 c = case-in (entryBy (now (c .before .before .before .before .before 
 
 returns-14 : tie.Need-returns-14
 unfolding entryOf entryOk
-returns-14 c = case-in (entryBy (now (c .before .before .before .before .before .before .before .before .before .before .before .before .args .cells)) (c .before .before .before .before .before .before .before .before .before .before .before .before .args .e) (c .before .before .before .before .before .before .before .before .before .before .form-first .result) (c .before .before .before .before .before .before .before .before .before .form-second .result)) (c .before .before .before .before .before .before .before .before .form-code .result) (entry-by (now (c .before .before .before .before .before .before .before .before .before .before .before .before .args .cells)) (c .before .before .before .before .before .before .before .before .before .before .before .before .args .e) (c .before .before .before .before .before .before .before .before .before .before .form-first .result) (c .before .before .before .before .before .before .before .before .before .form-second .result) (c .before .before .before .before .before .before .before .before .form-code .result) (c .before .before .before .before .before .before .before .before .before .before .form-first .ensures) (c .before .before .before .before .before .before .before .before .before .form-second .ensures) (c .before .before .before .before .before .before .before .before .form-code .ensures)) 15 2 (next 14 (c .before .before .before .before .before .before .before .before .form-code .result) (next 13 (c .before .before .before .before .before .before .before .before .form-code .result) (c .before .before .before .before .before .if2 .left) (c .before .before .before .before .before .before .before .match .rest .0 .0 .0 .1)) (c .before .before .before .before .before .before .before .match .rest .0 .0 .1)) (c .before .before .before .before .if3 .taken) (ap₂ _&&_ (c .before .before .end-ok .ensures ∙ ap (endOk _) (c .before .before .before .wide .ensures)) (c .below9 .ensures ∙ ap (ltb _) (c .before .link-count2 .ensures)), (ap₂ _&&_ (c .before .before .end-ok .ensures ∙ ap (endOk _) (c .before .before .before .wide .ensures)) (c .below9 .ensures ∙ ap (ltb _) (c .before .link-count2 .ensures)), tt))
+returns-14 c = case-in (entryBy (now (c .before .before .before .before .before .before .before .before .before .before .before .before .args .cells)) (c .before .before .before .before .before .before .before .before .before .before .before .before .args .e) (c .before .before .before .before .before .before .before .before .before .before .form-first .result) (c .before .before .before .before .before .before .before .before .before .form-second .result)) (c .before .before .before .before .before .before .before .before .form-code .result) (entry-by (now (c .before .before .before .before .before .before .before .before .before .before .before .before .args .cells)) (c .before .before .before .before .before .before .before .before .before .before .before .before .args .e) (c .before .before .before .before .before .before .before .before .before .before .form-first .result) (c .before .before .before .before .before .before .before .before .before .form-second .result) (c .before .before .before .before .before .before .before .before .form-code .result) (c .before .before .before .before .before .before .before .before .before .before .form-first .ensures) (c .before .before .before .before .before .before .before .before .before .form-second .ensures) (c .before .before .before .before .before .before .before .before .form-code .ensures)) 15 2 (next 14 (c .before .before .before .before .before .before .before .before .form-code .result) (next 13 (c .before .before .before .before .before .before .before .before .form-code .result) (c .before .before .before .before .before .if2 .left) (c .before .before .before .before .before .before .before .match .rest .0 .0 .0 .1)) (c .before .before .before .before .before .before .before .match .rest .0 .0 .1)) (c .before .before .before .before .if3 .taken) (ap₂ _&&_ (c .before .before .end-ok .ensures ∙ ap (endNumberOk _) (c .before .before .before .wide .ensures)) (c .below9 .ensures ∙ ap (ltb _) (c .before .link-count2 .ensures)), (ap₂ _&&_ (c .before .before .end-ok .ensures ∙ ap (endNumberOk _) (c .before .before .before .wide .ensures)) (c .below9 .ensures ∙ ap (ltb _) (c .before .link-count2 .ensures)), tt))
 
 returns-15 : tie.Need-returns-15
 unfolding entryOf entryOk

@@ -8,7 +8,7 @@ use Rattle.nodeset.specs.Words.{has, wordsOf}
 use Rattle.tables.specs.Layout.{nodeCount, pathCount, formFirstAt}
 use Rattle.tables.specs.Decode.{triplesAt, pathAt}
 use Rattle.paths.specs.Images.{image}
-use Rattle.paths.specs.Ends.{endIn, endOk}
+use Rattle.paths.specs.Ends.{endIn, endKnown}
 use Rattle.verdict.proofs.Parts.{looks-path, asked-ends, asked-here}
 use borrow.Author.Needs.{needs}
 use Rattle.verdict.proofs.asked.Statement.{statement}
@@ -27,7 +27,7 @@ slice-aggregate-ends-from : tie.Need-slice-aggregate-ends-from
 slice-aggregate-ends-from c = search needs
 
 ends-from-requires : tie.Need-ends-from-requires
-unfolding endOk
+unfolding endKnown
 ends-from-requires c κs =
     let a = c .before .before .before .before .before .before .before .before .args in
     let cs = a .cells .now in

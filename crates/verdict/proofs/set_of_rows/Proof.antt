@@ -7,7 +7,7 @@ use native.Mathlib.Omega.{arith}
 use borrow.Author.Tests.{lt-ltb}
 use Rattle.tables.specs.Layout.{pathCount, formCodeAt, formFirstAt, formSecondAt, formThirdAt, formFourthAt}
 use Rattle.tables.specs.WellFormed as tables
-use Rattle.paths.specs.Ends.{endOk}
+use Rattle.paths.specs.Ends.{endKnown}
 use Rattle.entries.proofs.Codes.{count-path, all-path, less-path, lesseq-path, lang-path, set-end}
 use Rattle.entries.proofs.Ends.{end-ok}
 use Rattle.stepsets.specs.Conditions.{conditionOk}
@@ -40,8 +40,8 @@ high : (m : tie.After-form-code) → m .before .before .before .before .wide3 .r
 high m = m .before .before .before .before .wide3 .ensures ∙ m .before .before .before .before .before .form-fourth .ensures
 
 -- END of `equal` and `apart`
-end-right : (m : tie.After-form-code) (n : ℕ) → formCodeAt (cells m) (m .before .before .before .before .before .before .before .before .before .before .before .before .before .before .before .before .args .e) ≡ n → 15 ≤ n → n ≤ 19 → (n ≡ 17 → ⊥) → endOk (cells m) (m .before .end-at .result) ≡ true
-end-right m n q a b ne = ap (endOk (cells m)) (m .before .end-at .ensures) ∙ end-ok (cells m) (m .before .before .before .before .before .before .before .before .before .wide .result) (ap (tables.endOk (cells m)) (first m) ∙ set-end (cells m) (ready m .tables) [] (m .before .before .before .before .before .before .before .before .before .before .before .before .before .before .before .before .args .e) (ready m .entry) (omega (arith, q)) (omega (arith, q)) (λ h. ne (sym q ∙ h)))
+end-right : (m : tie.After-form-code) (n : ℕ) → formCodeAt (cells m) (m .before .before .before .before .before .before .before .before .before .before .before .before .before .before .before .before .args .e) ≡ n → 15 ≤ n → n ≤ 19 → (n ≡ 17 → ⊥) → endKnown (cells m) (m .before .end-at .result) ≡ true
+end-right m n q a b ne = ap (endKnown (cells m)) (m .before .end-at .ensures) ∙ end-ok (cells m) (m .before .before .before .before .before .before .before .before .before .wide .result) (ap (tables.endNumberOk (cells m)) (first m) ∙ set-end (cells m) (ready m .tables) [] (m .before .before .before .before .before .before .before .before .before .before .before .before .before .before .before .before .args .e) (ready m .entry) (omega (arith, q)) (omega (arith, q)) (λ h. ne (sym q ∙ h)))
 
 -- a path entry
 entry : (m : tie.After-form-code) → formFirstAt (cells m) (m .before .before .before .before .before .before .before .before .before .before .before .before .before .before .before .before .args .e) < pathCount (cells m) → m .before .before .before .before .before .before .before .before .before .wide .result < pathCount (cells m)
@@ -123,11 +123,11 @@ unfolding conditionOk
 ends-set-requires-2 c κs = (ready (c .before .before .before) .tables, end-right (c .before .before .before) 16 (sym (c .before .before .before .form-code .ensures) ∙ c .before .before .match .keys4) (omega arith) (omega arith) (λ z. let y : ⊥ = omega arith in y), refl, held-none (cells (c .before .before .before)) (c .before .before .before .before .before .before .before .before .before .before .before .before .before .before .before .before .before .before .before .pre .3), held-none (cells (c .before .before .before)) (c .before .before .before .before .before .before .before .before .before .before .before .before .before .before .before .before .before .before .before .pre .4))
 
 ends-set-requires-3 : tie.Need-ends-set-requires-3
-unfolding conditionOk endOk
+unfolding conditionOk endKnown
 ends-set-requires-3 c κs = (ready (c .before .before .before) .tables, lt-ltb (c .before .before .before .before .before .before .before .before .before .before .before .before .wide .result) (pathCount (cells (c .before .before .before))) (entry (c .before .before .before) (less-path (cells (c .before .before .before)) (ready (c .before .before .before) .tables) [] (c .before .before .before .before .before .before .before .before .before .before .before .before .before .before .before .before .before .before .before .args .e) (ready (c .before .before .before) .entry) (sym (c .before .before .before .form-code .ensures) ∙ c .before .before .match .keys5))), refl, held-none (cells (c .before .before .before)) (c .before .before .before .before .before .before .before .before .before .before .before .before .before .before .before .before .before .before .before .pre .3), held-none (cells (c .before .before .before)) (c .before .before .before .before .before .before .before .before .before .before .before .before .before .before .before .before .before .before .before .pre .4))
 
 ends-set-requires-4 : tie.Need-ends-set-requires-4
-unfolding conditionOk endOk
+unfolding conditionOk endKnown
 ends-set-requires-4 c κs = (ready (c .before .before .before) .tables, lt-ltb (c .before .before .before .before .before .before .before .before .before .before .before .before .wide .result) (pathCount (cells (c .before .before .before))) (entry (c .before .before .before) (lesseq-path (cells (c .before .before .before)) (ready (c .before .before .before) .tables) [] (c .before .before .before .before .before .before .before .before .before .before .before .before .before .before .before .before .before .before .before .args .e) (ready (c .before .before .before) .entry) (sym (c .before .before .before .form-code .ensures) ∙ c .before .before .match .keys6))), refl, held-none (cells (c .before .before .before)) (c .before .before .before .before .before .before .before .before .before .before .before .before .before .before .before .before .before .before .before .pre .3), held-none (cells (c .before .before .before)) (c .before .before .before .before .before .before .before .before .before .before .before .before .before .before .before .before .before .before .before .pre .4))
 
 lang-set-requires : tie.Need-lang-set-requires
