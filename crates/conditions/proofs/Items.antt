@@ -21,7 +21,8 @@ use Rattle.tables.proofs.WellFormed.{sound}
 use Rattle.paths.specs.Facts.{Tables}
 use Rattle.plan.specs.Conditions.{someUnlisted}
 use Rattle.plan.proofs.Complements.{not-closed}
-use Rattle.conditions.specs.Pairs.{onlyListed, unlisted}
+use Rattle.model.specs.Shapes.{onlyListed}
+use Rattle.conditions.specs.Pairs.{unlisted}
 use Rattle.conditions.specs.Searches.{first, found, nothing}
 use Rattle.conditions.proofs.Searches.{kept, first-found}
 
@@ -53,7 +54,6 @@ module _ (cs : List ℕ) where
     unlisted-breaks = first-found (unlisted cs ps v) (factCount cs) ∙ sym (any-values (tripleAt cs) (λ t. eqb (t .subject) v && not (member (t .predicate) ps)) (factCount cs))
 
     pub unlisted-keeps : nothing (first (unlisted cs ps v) (factCount cs)) ≡ onlyListed (triplesAt cs) ps v
-    unfolding onlyListed
     unlisted-keeps = kept (first (unlisted cs ps v) (factCount cs)) (onlyListed (triplesAt cs) ps v) (unlisted-breaks ∙ sym (not-closed (triplesAt cs) ps v))
 
 -- ---- the search along the chain of a node, which has come to `next`: what it has found is the first after what is left

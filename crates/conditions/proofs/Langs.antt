@@ -13,12 +13,11 @@ use Rattle.base.proofs.Bools.{bool-cases, same-test, and-left}
 use Rattle.nodeset.specs.Words.{has, wordsOf}
 use Rattle.nodeset.proofs.Sets.{has-of, wordsOf-ext}
 use Rattle.model.specs.Graph.{languageOf, holds, holds₂}
-use Rattle.model.specs.Shapes.{sameLang}
+use Rattle.model.specs.Shapes.{sameLang, unlikeLangs}
 use Rattle.tables.specs.Layout.{nodeCount, kindAt, langAt}
 use Rattle.tables.specs.Decode.{termAt}
 use Rattle.plan.specs.Conditions.{somePair, clash}
 use Rattle.plan.proofs.Complements.{not-clash}
-use Rattle.conditions.specs.Pairs.{unlikeLangs}
 use Rattle.conditions.specs.Searches.{firstPair, among, found, nothing}
 use Rattle.conditions.proofs.Terms.{lang-test}
 use Rattle.conditions.proofs.Searches.{pair-ext, pair-breaks, pair-keeps}
@@ -50,7 +49,7 @@ module _ (cs : List ℕ) (vs : List ℤ) where
   clash-ordered w = ordered-first w alike alike-turn (nodeCount cs)
 
   -- nothing is found where no two different members have the same language; something where two have
-  pub lang-keeps : (w : ℕ → Bool) → nothing (firstClash w) ≡ unlikeLangs cs vs w
+  pub lang-keeps : (w : ℕ → Bool) → nothing (firstClash w) ≡ unlikeLangs (termAt cs vs) (nodeCount cs) w
   lang-keeps w = pair-keeps (nodeCount cs) w w (clash (termAt cs vs)) (λ x y. not (eqb x y) ⇒ not (alike x y)) (not-clash (termAt cs vs))
 
   pub lang-breaks : (w : ℕ → Bool) → found (firstClash w) ≡ somePair (nodeCount cs) w w (clash (termAt cs vs))
@@ -77,7 +76,7 @@ module _ (cs : List ℕ) (vs : List ℤ) where
     pub only-tagged : firstClash w ≡ firstClash a
     only-tagged = pair-ext (among w w (clash (termAt cs vs))) (among a a (clash (termAt cs vs))) (nodeCount cs) both-tagged
 
-    pub unlike-tagged : unlikeLangs cs vs w ≡ unlikeLangs cs vs a
+    pub unlike-tagged : unlikeLangs (termAt cs vs) (nodeCount cs) w ≡ unlikeLangs (termAt cs vs) (nodeCount cs) a
     unlike-tagged = sym (lang-keeps w) ∙ ap nothing only-tagged ∙ lang-keeps a
 
     pub clash-tagged : somePair (nodeCount cs) w w (clash (termAt cs vs)) ≡ somePair (nodeCount cs) a a (clash (termAt cs vs))

@@ -5,19 +5,12 @@ use mathlib.Core.Bool.{Bool, not, _&&_}
 use lib.Dec.{eqb}
 use lib.IntN.{ℤ}
 use lib.Signed.{ltZ, leZ}
-use Rattle.base.specs.Bounded.{_⇒_}
-use Rattle.base.specs.Lists.{member, allb}
-use Rattle.model.specs.Graph.{Term, Triple}
-use Rattle.model.specs.Shapes.{allPairs, sameLang}
-use Rattle.tables.specs.Layout.{nodeCount, subjectAt, predicateAt}
-use Rattle.tables.specs.Decode.{termAt}
+use Rattle.base.specs.Lists.{member}
+use Rattle.model.specs.Graph.{Term}
+use Rattle.tables.specs.Layout.{subjectAt, predicateAt}
 use Rattle.plan.specs.Conditions.{notLess, notLessEq}
 use Rattle.conditions.specs.declared.Order.{Order}
 use Rattle.conditions.specs.declared.Order.the-variants.{Less, LessEq}
-
--- every triple out of v has one of the predicates ps
-unfoldable pub onlyListed : List Triple → List ℕ → ℕ → Bool
-onlyListed ts ps v = allb (λ t. eqb (t .subject) v ⇒ member (t .predicate) ps) ts
 
 -- triple i of the tables goes out of v and has none of the predicates ps
 unfoldable pub unlisted : List ℕ → List ℕ → ℕ → ℕ → Bool
@@ -32,7 +25,3 @@ unordered LessEq a b = notLessEq a b
 unfoldable pub comesBack : Order → ℤ → ℤ → Bool
 comesBack Less x y = leZ y x
 comesBack LessEq x y = ltZ y x
-
--- no two different members of a have the same language
-abbrev pub unlikeLangs : List ℕ → List ℤ → (ℕ → Bool) → Bool
-unlikeLangs cs vs a = allPairs (nodeCount cs) a a (λ x y. not (eqb x y) ⇒ not (sameLang (termAt cs vs x) (termAt cs vs y)))

@@ -51,13 +51,13 @@ ghost use lib.IntN.{ℤ};
 ghost use Rattle.base.specs.Lists.{member};
 ghost use Rattle.nodeset.specs.Words.{has, wordsOf};
 ghost use Rattle.model.specs.Graph.{holds};
-ghost use Rattle.model.specs.Shapes.{nodeKind, datatype, satisfies, conforms, subset, noneShared, allPairs, less, lessEq};
+ghost use Rattle.model.specs.Shapes.{nodeKind, datatype, satisfies, conforms, subset, noneShared, allPairs, less, lessEq, onlyListed, unlikeLangs};
 ghost use Rattle.tables.specs.Layout.{nodeCount, factCount, kindAt, langAt, numberAt, predicateAt, formCodeAt, formFirstAt, formSecondAt};
 ghost use Rattle.tables.specs.Decode.{termAt, triplesAt, graphAt, kindOf, itemsAt, entryAt, shapeAt};
 ghost use Rattle.paths.specs.Facts.{Tables};
 ghost use Rattle.plan.specs.Sets.{testOf};
 ghost use Rattle.plan.specs.Conditions.{failsTest, notLess, notLessEq, someInOne, someShared, somePair, clash, someUnlisted};
-ghost use Rattle.conditions.specs.Pairs.{onlyListed, unlisted, unordered, comesBack, unlikeLangs};
+ghost use Rattle.conditions.specs.Pairs.{unlisted, unordered, comesBack};
 ghost use Rattle.conditions.specs.Searches.{first, firstPair, among, firstInOne, found, nothing, nodeFound, pairFound, sideFound, factFound, Listed};
 
 // What a search found: a node; a pair of nodes; a node in exactly one of two sets, by the set that lacks it; a fact.
@@ -537,7 +537,7 @@ pub fn first_clash(cells: &[u16], a: &[u64], b: &[u64]) -> FoundPair
 // No two numbers in both sets have the same language; two have.
 pub fn onelang_holds(cells: &[u16], a: &[u64], b: &[u64]) -> bool
     requires { ⌜ nodeCount (now cells) ≤ 1024 ⌝ }
-    ensures { λ r. ⌜ ((vs : List ℤ) → r ≡ unlikeLangs (now (cells .entry)) vs (λ w. has (now (a .entry)) w && has (now (b .entry)) w)) ⌝ }
+    ensures { λ r. ⌜ ((vs : List ℤ) → r ≡ unlikeLangs (termAt (now (cells .entry)) vs) (nodeCount (now (cells .entry))) (λ w. has (now (a .entry)) w && has (now (b .entry)) w)) ⌝ }
 {
     no_pair(first_clash(cells, a, b))
 }

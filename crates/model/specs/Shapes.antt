@@ -9,7 +9,7 @@ use lib.IntN.{ℤ}
 use lib.Signed.{ltZ, leZ}
 use Rattle.base.specs.Bounded.{_⇒_, every, size}
 use Rattle.base.specs.Lists.{member, allb}
-use Rattle.model.specs.Graph.{Term, iri, blankNode, numeric, plain, tagged, Graph, valueOf, datatypeOf, languageOf, holds, holds₂}
+use Rattle.model.specs.Graph.{Term, iri, blankNode, numeric, plain, tagged, Graph, valueOf, datatypeOf, languageOf, holds, holds₂, Triple}
 use Rattle.model.specs.Paths.{Path, predicate, End, ends, endsOf}
 
 -- 01: kind thing, blank, literal
@@ -93,6 +93,23 @@ lessEq a b = holds₂ leZ (valueOf a) (valueOf b)
 unfoldable pub sameLang : Term → Term → Bool
 sameLang a b = holds₂ eqb (languageOf a) (languageOf b)
 
+-- ---- what rows of Table 1 ask of sets of nodes below n, given the nodes' terms: the same members; each first value < (≤) each
+-- second; no two different members with the same language tag. And of triples: each one out of v has one of the predicates ps
+abbrev pub sameMembers : ℕ → (ℕ → Bool) → (ℕ → Bool) → Bool
+sameMembers n a b = subset n a b && subset n b a
+
+abbrev pub allLess : (ℕ → Term) → ℕ → (ℕ → Bool) → (ℕ → Bool) → Bool
+allLess term n a b = allPairs n a b (λ x y. less (term x) (term y))
+
+abbrev pub allLessEq : (ℕ → Term) → ℕ → (ℕ → Bool) → (ℕ → Bool) → Bool
+allLessEq term n a b = allPairs n a b (λ x y. lessEq (term x) (term y))
+
+abbrev pub unlikeLangs : (ℕ → Term) → ℕ → (ℕ → Bool) → Bool
+unlikeLangs term n a = allPairs n a a (λ x y. not (eqb x y) ⇒ not (sameLang (term x) (term y)))
+
+abbrev pub onlyListed : List Triple → List ℕ → ℕ → Bool
+onlyListed ts ps v = allb (λ t. eqb (t .subject) v ⇒ member (t .predicate) ps) ts
+
 module _ (g : Graph) where
   -- the ends of a path from v; the objects of v's triples by p; what a condition END starts from
   abbrev pub from : Path → ℕ → ℕ → Bool
@@ -117,12 +134,12 @@ module _ (g : Graph) where
   conforms (test t) v = satisfies t (g .term v)
   conforms (count lo hi e ψ) v = within lo hi (size (λ b. from e v b && conforms ψ b) (g .nodes))
   conforms (forAll e ψ) v = every (λ b. from e v b ⇒ conforms ψ b) (g .nodes)
-  conforms (equals f p) v = subset (g .nodes) (starts f v) (objects p v) && subset (g .nodes) (objects p v) (starts f v)
+  conforms (equals f p) v = sameMembers (g .nodes) (starts f v) (objects p v)
   conforms (disjoint f p) v = noneShared (g .nodes) (starts f v) (objects p v)
-  conforms (closed ps) v = allb (λ t. eqb (t .subject) v ⇒ member (t .predicate) ps) (g .triples)
-  conforms (lessThan e p) v = allPairs (g .nodes) (from e v) (objects p v) (λ b c. less (g .term b) (g .term c))
-  conforms (lessThanEq e p) v = allPairs (g .nodes) (from e v) (objects p v) (λ b c. lessEq (g .term b) (g .term c))
-  conforms (uniqueLang e) v = allPairs (g .nodes) (from e v) (from e v) (λ b c. not (eqb b c) ⇒ not (sameLang (g .term b) (g .term c)))
+  conforms (closed ps) v = onlyListed (g .triples) ps v
+  conforms (lessThan e p) v = allLess (g .term) (g .nodes) (from e v) (objects p v)
+  conforms (lessThanEq e p) v = allLessEq (g .term) (g .nodes) (from e v) (objects p v)
+  conforms (uniqueLang e) v = unlikeLangs (g .term) (g .nodes) (from e v)
 
 -- def(s, H): the shape that a schema H defines under the number s; ⊤ where it defines none
 abbrev pub def : List Shape → ℕ → Shape

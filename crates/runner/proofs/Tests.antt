@@ -2,14 +2,14 @@
 use Prim.Native.Nat.{ℕ}
 use mathlib.Core.List.{List}
 use mathlib.Core.Option.{Option}
-use mathlib.Core.Bool.{Bool, true, true≢false}
+use mathlib.Core.Bool.{true, true≢false}
 use mathlib.Core.Path.{_≡_, refl, sym, ap, _∙_}
 use lib.Dec.{eqb}
 use lib.IntN.{ℤ}
 use Rattle.base.specs.Bounded.{_⇒_}
 use Rattle.base.specs.Lists.{member, allb}
 use Rattle.model.specs.Graph.{holds}
-use Rattle.model.specs.Shapes.{Shape, satisfies, conforms}
+use Rattle.model.specs.Shapes.{Shape, satisfies, conforms, onlyListed}
 use Rattle.tables.specs.Layout.{formCodeAt, formFirstAt, formSecondAt, formThirdAt, formFourthAt, limitAt}
 use Rattle.tables.specs.Entries.{Entry, entryOf}
 use Rattle.tables.specs.Decode.{graphAt, triplesAt, itemsAt, entryAt, shapeOf, shapeAt}
@@ -17,7 +17,6 @@ use Rattle.tables.proofs.Decode.{shape-number}
 use Rattle.plan.specs.Conditions.{someUnlisted}
 use Rattle.plan.specs.Sets.{testOf, linksOf}
 use Rattle.plan.specs.WellFormed.{testOk, closedOk}
-use Rattle.conditions.specs.Pairs.{onlyListed}
 use Rattle.plancheck.proofs.Codes.{test-code, test-codes, closed-codes}
 
 module _ (cs : List ℕ) (vs : List ℤ) where
@@ -69,5 +68,5 @@ module _ (cs : List ℕ) (vs : List ℤ) where
     opened-by v = sym (ap (holds (λ ps. someUnlisted (triplesAt cs) ps v)) links-of)
 
     pub closed-by : (v : ℕ) → onlyListed (triplesAt cs) items v ≡ holds (λ ps. allb (λ t. eqb (t .subject) v ⇒ member (t .predicate) ps) (graphAt cs vs .triples)) (linksOf cs (entryAt cs vs e))
-    unfolding onlyListed holds graphAt
+    unfolding holds graphAt
     closed-by v = sym (ap (holds (λ ps. allb (λ t. eqb (t .subject) v ⇒ member (t .predicate) ps) (triplesAt cs))) links-of)

@@ -10,11 +10,10 @@ use borrow.Author.Tests.{leb-true, lt-ltb}
 use Rattle.base.specs.Bounded.{_⇒_, some, every}
 use Rattle.base.proofs.Bools.{and-left, and-right}
 use Rattle.base.proofs.Bounded.{some-ext, every-ext, size-ext}
-use Rattle.model.specs.Shapes.{within, subset, noneShared, allPairs}
+use Rattle.model.specs.Shapes.{within, subset, noneShared, allPairs, unlikeLangs}
 use Rattle.tables.specs.Layout.{nodeCount, kindAt, formCodeAt}
 use Rattle.tables.specs.Decode.{termAt, upperOf}
 use Rattle.plan.specs.Conditions.{someInOne, someShared, somePair, clash}
-use Rattle.conditions.specs.Pairs.{unlikeLangs}
 use Rattle.conditions.proofs.Langs.{unlike-tagged, clash-tagged}
 use Rattle.stepsets.specs.Conditions.{nodesOf, holdsOf, tagged, conditionOk}
 use Rattle.stepsets.proofs.Nodes.{nodes-ext}
@@ -88,7 +87,7 @@ split : (cs : List ℕ) (a : ℕ → Bool) (x : ℕ) → x < nodeCount cs → (a
 split cs a x l = ap (λ (t : Bool). a x && (t && eqb (kindAt cs x) 4)) (lt-ltb x (nodeCount cs) l)
 
 module _ (cs : List ℕ) (vs : List ℤ) (a : ℕ → Bool) (v : ℕ) where
-  pub one-tagged : holdsOf cs vs OneLang a (tagged cs) v ≡ unlikeLangs cs vs a
+  pub one-tagged : holdsOf cs vs OneLang a (tagged cs) v ≡ unlikeLangs (termAt cs vs) (nodeCount cs) a
   unfolding holdsOf
   one-tagged = unlike-tagged cs vs a (λ x. a x && tagged cs x) (split cs a)
 

@@ -8,12 +8,11 @@ use lib.IntN.{ℤ}
 use Rattle.base.specs.Bounded.{size}
 use Rattle.nodeset.specs.Words.{wordsOf}
 use Rattle.model.specs.Graph.{holds}
-use Rattle.model.specs.Shapes.{conforms, within, subset, noneShared, allPairs, less, lessEq}
+use Rattle.model.specs.Shapes.{conforms, within, subset, noneShared, onlyListed, unlikeLangs, sameMembers, allLess, allLessEq}
 use Rattle.tables.specs.Layout.{nodeCount, kindAt, formCodeAt, formFirstAt, formSecondAt}
 use Rattle.tables.specs.Decode.{graphAt, termAt, triplesAt, itemsAt, entryAt, shapeAt, upperOf}
 use Rattle.plan.specs.Conditions.{failsTest, notLess, notLessEq, someInOne, someShared, somePair, clash, someUnlisted}
 use Rattle.plan.specs.Sets.{testOf}
-use Rattle.conditions.specs.Pairs.{onlyListed, unlikeLangs}
 use Rattle.stepsets.specs.declared.Condition.{Condition}
 use Rattle.stepsets.specs.declared.Condition.the-variants.{Is, IsNot, Test, Untest, Count, Every, Equal, Unequal, Apart, Meet, Less, NotLess, LessEq, NotLessEq, OneLang, ManyLang, Closed, Open}
 
@@ -29,15 +28,15 @@ holdsOf cs vs (Test e) a b v = conforms (graphAt cs vs) (shapeAt cs vs e) v
 holdsOf cs vs (Untest e) a b v = holds (λ t. failsTest t (termAt cs vs v)) (testOf cs (entryAt cs vs e))
 holdsOf cs vs (Count lo hi) a b v = within lo (upperOf hi) (size (λ w. a w && b w) 1024)
 holdsOf cs vs Every a b v = subset (nodeCount cs) a b
-holdsOf cs vs Equal a b v = subset (nodeCount cs) a b && subset (nodeCount cs) b a
+holdsOf cs vs Equal a b v = sameMembers (nodeCount cs) a b
 holdsOf cs vs Unequal a b v = someInOne (nodeCount cs) a b
 holdsOf cs vs Apart a b v = noneShared (nodeCount cs) a b
 holdsOf cs vs Meet a b v = someShared (nodeCount cs) a b
-holdsOf cs vs Less a b v = allPairs (nodeCount cs) a b (λ x y. less (termAt cs vs x) (termAt cs vs y))
+holdsOf cs vs Less a b v = allLess (termAt cs vs) (nodeCount cs) a b
 holdsOf cs vs NotLess a b v = somePair (nodeCount cs) a b (λ x y. notLess (termAt cs vs x) (termAt cs vs y))
-holdsOf cs vs LessEq a b v = allPairs (nodeCount cs) a b (λ x y. lessEq (termAt cs vs x) (termAt cs vs y))
+holdsOf cs vs LessEq a b v = allLessEq (termAt cs vs) (nodeCount cs) a b
 holdsOf cs vs NotLessEq a b v = somePair (nodeCount cs) a b (λ x y. notLessEq (termAt cs vs x) (termAt cs vs y))
-holdsOf cs vs OneLang a b v = unlikeLangs cs vs (λ w. a w && b w)
+holdsOf cs vs OneLang a b v = unlikeLangs (termAt cs vs) (nodeCount cs) (λ w. a w && b w)
 holdsOf cs vs ManyLang a b v = somePair (nodeCount cs) (λ w. a w && b w) (λ w. a w && b w) (clash (termAt cs vs))
 holdsOf cs vs (Closed e) a b v = onlyListed (triplesAt cs) (itemsAt cs (formFirstAt cs e) (formSecondAt cs e)) v
 holdsOf cs vs (Open e) a b v = someUnlisted (triplesAt cs) (itemsAt cs (formFirstAt cs e) (formSecondAt cs e)) v

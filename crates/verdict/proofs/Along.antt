@@ -14,12 +14,11 @@ use Rattle.base.proofs.Bounded.{every-ext, size-ext, size-beyond}
 use Rattle.nodeset.specs.Words.{has, wordsOf}
 use Rattle.nodeset.proofs.Sets.{has-of, has-wordsOf, has-drop}
 use Rattle.model.specs.Paths.{predicate, along, ends, endsOf}
-use Rattle.model.specs.Shapes.{within, subset, from, objects, starts, conforms}
+use Rattle.model.specs.Shapes.{within, subset, from, objects, starts, conforms, unlikeLangs}
 use Rattle.model.specs.Limits.{maxNodes}
 use Rattle.tables.specs.Layout.{nodeCount, formCodeAt, formFirstAt, formSecondAt, formThirdAt, formFourthAt}
 use Rattle.tables.specs.Entries.{entryOf}
-use Rattle.tables.specs.Decode.{triplesAt, graphAt, pathAt, endAt, upperOf, shapeOf, shapeAt}
-use Rattle.conditions.specs.Pairs.{unlikeLangs}
+use Rattle.tables.specs.Decode.{triplesAt, graphAt, pathAt, endAt, upperOf, shapeOf, shapeAt, termAt}
 use Rattle.paths.specs.Ends.{endIn}
 use Rattle.paths.specs.declared.End as paths
 use Rattle.paths.specs.declared.End.the-variants.{Path}
@@ -133,4 +132,4 @@ module _ {cs index : List ℕ} {vs : List ℤ} {memo : List ℕ} {e : ℕ} (r : 
     unfolding entryOf shapeOf conforms graphAt
     lang-tells q ew = tells (λ v. holdsOf cs vs OneLang (ends (nodeCount cs) (triplesAt cs) (pathAt cs p) v) (tagged cs) v) ew (λ v m k.
         one-tagged cs vs (ends (nodeCount cs) (triplesAt cs) (pathAt cs p) v) v
-        ∙ ap (λ (p : ℕ). unlikeLangs cs vs (ends (nodeCount cs) (triplesAt cs) (pathAt cs p) v)) ep ∙ conforms-by cs (r .tables) vs e (r .entry) 20 q v)
+        ∙ ap (λ (p : ℕ). unlikeLangs (termAt cs vs) (nodeCount cs) (ends (nodeCount cs) (triplesAt cs) (pathAt cs p) v)) ep ∙ conforms-by cs (r .tables) vs e (r .entry) 20 q v)

@@ -14,13 +14,12 @@ use Rattle.base.proofs.Bounded.{every-ext, size-ext}
 use Rattle.nodeset.specs.Words.{has, wordsOf}
 use Rattle.nodeset.proofs.Sets.{has-of}
 use Rattle.model.specs.Paths.{ends}
-use Rattle.model.specs.Shapes.{within, conforms}
+use Rattle.model.specs.Shapes.{within, conforms, onlyListed}
 use Rattle.model.specs.Limits.{maxNodes, maxForms}
 use Rattle.tables.specs.Layout.{nodeCount, formCodeAt, formFirstAt, formSecondAt, formThirdAt, formFourthAt, rootAt}
 use Rattle.tables.specs.Entries.{Entry, entryOf}
 use Rattle.tables.specs.Decode.{triplesAt, graphAt, pathAt, upperOf, itemsAt, shapeOf, shapeAt}
 use Rattle.tables.specs.WellFormed.{entryOk}
-use Rattle.conditions.specs.Pairs.{onlyListed}
 use Rattle.entries.specs.Tables.{Asked}
 use Rattle.entries.proofs.Codes.{entryBy, right-by, conforms-by, nodes-le, sound-of}
 use Rattle.verdict.specs.Memo.{yesPlace, Ready}
@@ -68,7 +67,7 @@ module _ {cs index : List ℕ} {vs : List ℤ} {memo : List ℕ} {e v : ℕ} (k 
   holds-is q c h = ap (eqb v) h ∙ means 1 q
 
   pub holds-closed : formCodeAt cs e ≡ 17 → onlyListed (triplesAt cs) (itemsAt cs (formFirstAt cs e) (formSecondAt cs e)) v ≡ holds
-  unfolding entryOf shapeOf conforms graphAt onlyListed
+  unfolding entryOf shapeOf conforms graphAt
   holds-closed q = means 17 q
 
   -- ---- entries with parts: a and b are their numbers, as the code has them
