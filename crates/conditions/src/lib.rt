@@ -19,6 +19,7 @@
 //   languages                          the nodes that have a language
 //   insert_if                          a number joins a set, or not
 use model::LinkNo;
+use model::MAX_NODES;
 use model::NodeNo;
 use nodeset::NodeSet;
 use nodeset::insert;
@@ -27,6 +28,7 @@ use nodeset::next_outside;
 use nodeset::next_shared;
 use paths::last_out;
 use paths::next_out;
+use tables::codes;
 use tables::reads::form_code;
 use tables::reads::form_first;
 use tables::reads::form_second;
@@ -52,6 +54,8 @@ ghost use Rattle.base.specs.Lists.{member};
 ghost use Rattle.nodeset.specs.Words.{has, wordsOf};
 ghost use Rattle.model.specs.Graph.{holds};
 ghost use Rattle.model.specs.Shapes.{nodeKind, datatype, satisfies, conforms, subset, noneShared, allPairs, less, lessEq, onlyListed, unlikeLangs};
+ghost use Rattle.model.specs.Limits.{maxNodes};
+ghost use Rattle.tables.specs.Codes as codes;
 ghost use Rattle.tables.specs.Layout.{nodeCount, factCount, kindAt, langAt, numberAt, predicateAt, formCodeAt, formFirstAt, formSecondAt};
 ghost use Rattle.tables.specs.Decode.{termAt, triplesAt, graphAt, kindOf, itemsAt, entryAt, shapeAt};
 ghost use Rattle.paths.specs.Facts.{Tables};
@@ -250,9 +254,11 @@ fn kind_holds(cells: &[u16], k: u16, v: usize) -> bool
 {
     let kind = node_kind(cells, v);
     match k {
-        0 => (kind == 0) | (4 < kind),
-        1 => kind == 1,
-        2..=65535 => (1 < kind) & (kind < 5),
+        codes::KIND_THING => (kind == codes::NODE_THING) | (codes::NODE_WORDS < kind),
+        codes::KIND_BLANK => kind == codes::NODE_BLANK,
+        codes::KIND_LITERAL..=codes::LAST => {
+            (codes::NODE_BLANK < kind) & (kind < codes::NODE_UNKNOWN)
+        }
     }
 }
 
@@ -262,7 +268,8 @@ fn datatype_holds(cells: &[u16], t: u16, v: usize) -> bool
     ensures { λ r. ⌜ ((vs : List ℤ) → r ≡ satisfies (datatype t) (termAt (now (cells .entry)) vs v)) ⌝ }
 {
     let kind = node_kind(cells, v);
-    (((kind == 2) | (kind == 3)) & (t == node_type(cells, v))) | ((kind == 4) & (t == 0))
+    (((kind == codes::NODE_NUMBER) | (kind == codes::NODE_TEXT)) & (t == node_type(cells, v)))
+        | ((kind == codes::NODE_WORDS) & (t == 0))
 }
 
 // Node v is of another kind than k.
@@ -272,9 +279,11 @@ fn kind_fails(cells: &[u16], k: u16, v: usize) -> bool
 {
     let kind = node_kind(cells, v);
     match k {
-        0 => (0 < kind) & (kind < 5),
-        1 => kind != 1,
-        2..=65535 => (kind < 2) | (4 < kind),
+        codes::KIND_THING => (codes::NODE_THING < kind) & (kind < codes::NODE_UNKNOWN),
+        codes::KIND_BLANK => kind != codes::NODE_BLANK,
+        codes::KIND_LITERAL..=codes::LAST => {
+            (kind < codes::NODE_NUMBER) | (codes::NODE_WORDS < kind)
+        }
     }
 }
 
@@ -284,53 +293,55 @@ fn datatype_fails(cells: &[u16], t: u16, v: usize) -> bool
     ensures { λ r. ⌜ ((vs : List ℤ) → r ≡ failsTest (datatype t) (termAt (now (cells .entry)) vs v)) ⌝ }
 {
     let kind = node_kind(cells, v);
-    (((kind != 2) & (kind != 3)) | (t != node_type(cells, v))) & ((kind != 4) | (t != 0))
+    (((kind != codes::NODE_NUMBER) & (kind != codes::NODE_TEXT)) | (t != node_type(cells, v)))
+        & ((kind != codes::NODE_WORDS) | (t != 0))
 }
 
 // Node v has a language; a number.
 fn has_language(cells: &[u16], v: usize) -> bool
-    ensures { λ r. ⌜ r ≡ eqb (kindAt (now (cells .entry)) v) 4 ⌝ }
+    ensures { λ r. ⌜ r ≡ eqb (kindAt (now (cells .entry)) v) codes.nodeWords ⌝ }
 {
-    node_kind(cells, v) == 4
+    node_kind(cells, v) == codes::NODE_WORDS
 }
 
 fn has_number(cells: &[u16], v: usize) -> bool
-    ensures { λ r. ⌜ r ≡ eqb (kindAt (now (cells .entry)) v) 2 ⌝ }
+    ensures { λ r. ⌜ r ≡ eqb (kindAt (now (cells .entry)) v) codes.nodeNumber ⌝ }
 {
-    node_kind(cells, v) == 2
+    node_kind(cells, v) == codes::NODE_NUMBER
 }
 
 // Node v meets the test that form entry e is.
 pub fn test_holds(cells: &[u16], values: &[i64], e: usize, v: usize) -> bool
-    requires { ⌜ (v < nodeCount (now cells)) × (6 ≤ formCodeAt (now cells) e) × (formCodeAt (now cells) e ≤ 12) ⌝ }
+    requires { ⌜ (v < nodeCount (now cells)) × (codes.formKind ≤ formCodeAt (now cells) e) × (formCodeAt (now cells) e ≤ codes.formBelow) ⌝ }
     ensures { λ r. ⌜ r ≡ conforms (graphAt (now (cells .entry)) (now (values .entry))) (shapeAt (now (cells .entry)) (now (values .entry)) e) v ⌝ }
 {
     let a = form_first(cells, e);
     match form_code(cells, e) {
-        6 => kind_holds(cells, a, v),
-        7 => datatype_holds(cells, a, v),
-        8 => has_language(cells, v) & listed(cells, a, form_second(cells, e), node_lang(cells, v)),
-        9 => has_number(cells, v) & (limit(values, e) <= number(values, v)),
-        10 => has_number(cells, v) & (limit(values, e) < number(values, v)),
-        11 => has_number(cells, v) & (number(values, v) <= limit(values, e)),
+        codes::FORM_KIND => kind_holds(cells, a, v),
+        codes::FORM_DATATYPE => datatype_holds(cells, a, v),
+        codes::FORM_LANG => has_language(cells, v)
+            & listed(cells, a, form_second(cells, e), node_lang(cells, v)),
+        codes::FORM_FROM => has_number(cells, v) & (limit(values, e) <= number(values, v)),
+        codes::FORM_ABOVE => has_number(cells, v) & (limit(values, e) < number(values, v)),
+        codes::FORM_TO => has_number(cells, v) & (number(values, v) <= limit(values, e)),
         _ => has_number(cells, v) & (number(values, v) < limit(values, e)),
     }
 }
 
 // Node v fails the test that form entry e is.
 pub fn test_fails(cells: &[u16], values: &[i64], e: usize, v: usize) -> bool
-    requires { ⌜ (v < nodeCount (now cells)) × (6 ≤ formCodeAt (now cells) e) × (formCodeAt (now cells) e ≤ 12) ⌝ }
+    requires { ⌜ (v < nodeCount (now cells)) × (codes.formKind ≤ formCodeAt (now cells) e) × (formCodeAt (now cells) e ≤ codes.formBelow) ⌝ }
     ensures { λ r. ⌜ r ≡ holds (λ t. failsTest t (termAt (now (cells .entry)) (now (values .entry)) v)) (testOf (now (cells .entry)) (entryAt (now (cells .entry)) (now (values .entry)) e)) ⌝ }
 {
     let a = form_first(cells, e);
     match form_code(cells, e) {
-        6 => kind_fails(cells, a, v),
-        7 => datatype_fails(cells, a, v),
-        8 => !has_language(cells, v)
+        codes::FORM_KIND => kind_fails(cells, a, v),
+        codes::FORM_DATATYPE => datatype_fails(cells, a, v),
+        codes::FORM_LANG => !has_language(cells, v)
             | !listed(cells, a, form_second(cells, e), node_lang(cells, v)),
-        9 => !has_number(cells, v) | (number(values, v) < limit(values, e)),
-        10 => !has_number(cells, v) | (number(values, v) <= limit(values, e)),
-        11 => !has_number(cells, v) | (limit(values, e) < number(values, v)),
+        codes::FORM_FROM => !has_number(cells, v) | (number(values, v) < limit(values, e)),
+        codes::FORM_ABOVE => !has_number(cells, v) | (number(values, v) <= limit(values, e)),
+        codes::FORM_TO => !has_number(cells, v) | (limit(values, e) < number(values, v)),
         _ => !has_number(cells, v) | (limit(values, e) <= number(values, v)),
     }
 }
@@ -368,7 +379,7 @@ fn breaks_order(
 
 // The numbers below n in both sets, lowest first, at the beginning of a list; how many there are.
 fn gather(into: &mut [u16], a: &[u64], b: &[u64], n: usize) -> usize
-    requires { ⌜ (n ≤ 1024) × (1024 ≤ length (now into)) ⌝ }
+    requires { ⌜ (n ≤ maxNodes) × (maxNodes ≤ length (now into)) ⌝ }
     ensures { λ r. ⌜ Listed (λ m. has (now (a .entry)) m && has (now (b .entry)) m) n (now (into .exit)) r ⌝ }
 {
     let mut count = 0;
@@ -384,7 +395,7 @@ fn gather(into: &mut [u16], a: &[u64], b: &[u64], n: usize) -> usize
 // The first pair of a member of a and one of b that are not so ordered. The members of b are gathered once, so that going from
 // one to the next costs nothing; what is asked of the first of a pair is asked once for all its seconds.
 fn first_unordered(order: Order, cells: &[u16], values: &[i64], a: &[u64], b: &[u64]) -> FoundPair
-    requires { ⌜ nodeCount (now cells) ≤ 1024 ⌝ }
+    requires { ⌜ nodeCount (now cells) ≤ maxNodes ⌝ }
     ensures { λ r. ⌜ pairFound r ≡ firstPair (among (has (now (a .entry))) (has (now (b .entry))) (λ x y. unordered order (termAt (now (cells .entry)) (now (values .entry)) x) (termAt (now (cells .entry)) (now (values .entry)) y))) (nodeCount (now (cells .entry))) ⌝ }
 {
     let n = node_count(cells);
@@ -393,7 +404,7 @@ fn first_unordered(order: Order, cells: &[u16], values: &[i64], a: &[u64], b: &[
     if n <= x {
         return answer;
     }
-    let mut seconds = [0u16; 1024];
+    let mut seconds = [0u16; MAX_NODES];
     let count = gather(&mut seconds, b, b, n);
     'search: while x < n {
         let known = has_number(cells, x);
@@ -414,7 +425,7 @@ fn first_unordered(order: Order, cells: &[u16], values: &[i64], a: &[u64], b: &[
 
 // The first pair of a member of a and one of b where not both have a number, the first less than the second.
 pub fn first_not_less(cells: &[u16], values: &[i64], a: &[u64], b: &[u64]) -> FoundPair
-    requires { ⌜ nodeCount (now cells) ≤ 1024 ⌝ }
+    requires { ⌜ nodeCount (now cells) ≤ maxNodes ⌝ }
     ensures { λ r. ⌜ pairFound r ≡ firstPair (among (has (now (a .entry))) (has (now (b .entry))) (λ x y. notLess (termAt (now (cells .entry)) (now (values .entry)) x) (termAt (now (cells .entry)) (now (values .entry)) y))) (nodeCount (now (cells .entry))) ⌝ }
 {
     first_unordered(Order::Less, cells, values, a, b)
@@ -422,7 +433,7 @@ pub fn first_not_less(cells: &[u16], values: &[i64], a: &[u64], b: &[u64]) -> Fo
 
 // The same with at most.
 pub fn first_not_lesseq(cells: &[u16], values: &[i64], a: &[u64], b: &[u64]) -> FoundPair
-    requires { ⌜ nodeCount (now cells) ≤ 1024 ⌝ }
+    requires { ⌜ nodeCount (now cells) ≤ maxNodes ⌝ }
     ensures { λ r. ⌜ pairFound r ≡ firstPair (among (has (now (a .entry))) (has (now (b .entry))) (λ x y. notLessEq (termAt (now (cells .entry)) (now (values .entry)) x) (termAt (now (cells .entry)) (now (values .entry)) y))) (nodeCount (now (cells .entry))) ⌝ }
 {
     first_unordered(Order::LessEq, cells, values, a, b)
@@ -430,14 +441,14 @@ pub fn first_not_lesseq(cells: &[u16], values: &[i64], a: &[u64], b: &[u64]) -> 
 
 // Each member of a has a number, and each of b, and the first is less than the second; some pair is not so.
 pub fn less_holds(cells: &[u16], values: &[i64], a: &[u64], b: &[u64]) -> bool
-    requires { ⌜ nodeCount (now cells) ≤ 1024 ⌝ }
+    requires { ⌜ nodeCount (now cells) ≤ maxNodes ⌝ }
     ensures { λ r. ⌜ r ≡ allPairs (nodeCount (now (cells .entry))) (has (now (a .entry))) (has (now (b .entry))) (λ x y. less (termAt (now (cells .entry)) (now (values .entry)) x) (termAt (now (cells .entry)) (now (values .entry)) y)) ⌝ }
 {
     no_pair(first_not_less(cells, values, a, b))
 }
 
 pub fn less_fails(cells: &[u16], values: &[i64], a: &[u64], b: &[u64]) -> bool
-    requires { ⌜ nodeCount (now cells) ≤ 1024 ⌝ }
+    requires { ⌜ nodeCount (now cells) ≤ maxNodes ⌝ }
     ensures { λ r. ⌜ r ≡ somePair (nodeCount (now (cells .entry))) (has (now (a .entry))) (has (now (b .entry))) (λ x y. notLess (termAt (now (cells .entry)) (now (values .entry)) x) (termAt (now (cells .entry)) (now (values .entry)) y)) ⌝ }
 {
     some_pair(first_not_less(cells, values, a, b))
@@ -445,14 +456,14 @@ pub fn less_fails(cells: &[u16], values: &[i64], a: &[u64], b: &[u64]) -> bool
 
 // The same with at most.
 pub fn lesseq_holds(cells: &[u16], values: &[i64], a: &[u64], b: &[u64]) -> bool
-    requires { ⌜ nodeCount (now cells) ≤ 1024 ⌝ }
+    requires { ⌜ nodeCount (now cells) ≤ maxNodes ⌝ }
     ensures { λ r. ⌜ r ≡ allPairs (nodeCount (now (cells .entry))) (has (now (a .entry))) (has (now (b .entry))) (λ x y. lessEq (termAt (now (cells .entry)) (now (values .entry)) x) (termAt (now (cells .entry)) (now (values .entry)) y)) ⌝ }
 {
     no_pair(first_not_lesseq(cells, values, a, b))
 }
 
 pub fn lesseq_fails(cells: &[u16], values: &[i64], a: &[u64], b: &[u64]) -> bool
-    requires { ⌜ nodeCount (now cells) ≤ 1024 ⌝ }
+    requires { ⌜ nodeCount (now cells) ≤ maxNodes ⌝ }
     ensures { λ r. ⌜ r ≡ somePair (nodeCount (now (cells .entry))) (has (now (a .entry))) (has (now (b .entry))) (λ x y. notLessEq (termAt (now (cells .entry)) (now (values .entry)) x) (termAt (now (cells .entry)) (now (values .entry)) y)) ⌝ }
 {
     some_pair(first_not_lesseq(cells, values, a, b))
@@ -469,7 +480,7 @@ pub fn insert_if(words: &mut [u64], x: usize, yes: bool)
 
 // The members of a that have a language.
 fn with_language(cells: &[u16], a: &[u64]) -> NodeSet
-    ensures { λ r. ⌜ r .words ≡ wordsOf (λ m. ltb m (nodeCount (now (cells .entry))) && (has (now (a .entry)) m && eqb (kindAt (now (cells .entry)) m) 4)) 16 ⌝ }
+    ensures { λ r. ⌜ r .words ≡ wordsOf (λ m. ltb m (nodeCount (now (cells .entry))) && (has (now (a .entry)) m && eqb (kindAt (now (cells .entry)) m) codes.nodeWords)) 16 ⌝ }
 {
     let n = node_count(cells);
     let mut words = [0u64; 16];
@@ -483,7 +494,7 @@ fn with_language(cells: &[u16], a: &[u64]) -> NodeSet
 
 // The nodes that have a language.
 pub fn languages(cells: &[u16]) -> NodeSet
-    ensures { λ r. ⌜ r .words ≡ wordsOf (λ m. ltb m (nodeCount (now (cells .entry))) && eqb (kindAt (now (cells .entry)) m) 4) 16 ⌝ }
+    ensures { λ r. ⌜ r .words ≡ wordsOf (λ m. ltb m (nodeCount (now (cells .entry))) && eqb (kindAt (now (cells .entry)) m) codes.nodeWords) 16 ⌝ }
 {
     let all = NodeSet::whole(node_count(cells));
     let words = all.words;
@@ -507,12 +518,12 @@ fn same_language(tagged: bool, lang: u16, cells: &[u16], y: NodeNo) -> bool
 // The first two numbers in both sets that have the same language. The second set is that of the nodes that have one, since
 // others never clash; or any other. The inner loop starts after the outer.
 pub fn first_clash(cells: &[u16], a: &[u64], b: &[u64]) -> FoundPair
-    requires { ⌜ nodeCount (now cells) ≤ 1024 ⌝ }
+    requires { ⌜ nodeCount (now cells) ≤ maxNodes ⌝ }
     ensures { λ r. ⌜ ((vs : List ℤ) → pairFound r ≡ firstPair (among (λ w. has (now (a .entry)) w && has (now (b .entry)) w) (λ w. has (now (a .entry)) w && has (now (b .entry)) w) (clash (termAt (now (cells .entry)) vs))) (nodeCount (now (cells .entry)))) ⌝ }
 {
     let n = node_count(cells);
     let mut answer = FoundPair::NoPair;
-    let mut ends = [0u16; 1024];
+    let mut ends = [0u16; MAX_NODES];
     let count = gather(&mut ends, a, b, n);
     let mut i = 0;
     'search: while i < count {
@@ -536,14 +547,14 @@ pub fn first_clash(cells: &[u16], a: &[u64], b: &[u64]) -> FoundPair
 
 // No two numbers in both sets have the same language; two have.
 pub fn onelang_holds(cells: &[u16], a: &[u64], b: &[u64]) -> bool
-    requires { ⌜ nodeCount (now cells) ≤ 1024 ⌝ }
+    requires { ⌜ nodeCount (now cells) ≤ maxNodes ⌝ }
     ensures { λ r. ⌜ ((vs : List ℤ) → r ≡ unlikeLangs (termAt (now (cells .entry)) vs) (nodeCount (now (cells .entry))) (λ w. has (now (a .entry)) w && has (now (b .entry)) w)) ⌝ }
 {
     no_pair(first_clash(cells, a, b))
 }
 
 pub fn onelang_fails(cells: &[u16], a: &[u64], b: &[u64]) -> bool
-    requires { ⌜ nodeCount (now cells) ≤ 1024 ⌝ }
+    requires { ⌜ nodeCount (now cells) ≤ maxNodes ⌝ }
     ensures { λ r. ⌜ ((vs : List ℤ) → r ≡ somePair (nodeCount (now (cells .entry))) (λ w. has (now (a .entry)) w && has (now (b .entry)) w) (λ w. has (now (a .entry)) w && has (now (b .entry)) w) (clash (termAt (now (cells .entry)) vs))) ⌝ }
 {
     some_pair(first_clash(cells, a, b))
@@ -551,7 +562,7 @@ pub fn onelang_fails(cells: &[u16], a: &[u64], b: &[u64]) -> bool
 
 // x where it is below n, as what a search found.
 fn found_below(x: usize, n: usize) -> Found
-    requires { ⌜ n ≤ 1024 ⌝ }
+    requires { ⌜ n ≤ maxNodes ⌝ }
     ensures { λ r. ⌜ nodeFound r ≡ cond (ltb x n) (Option.some x) Option.none ⌝ }
 {
     if x < n {
@@ -562,7 +573,7 @@ fn found_below(x: usize, n: usize) -> Found
 
 // The first number of a below n that is not in b.
 pub fn first_outside(a: &[u64], b: &[u64], n: usize) -> Found
-    requires { ⌜ n ≤ 1024 ⌝ }
+    requires { ⌜ n ≤ maxNodes ⌝ }
     ensures { λ r. ⌜ nodeFound r ≡ first (λ x. has (now (a .entry)) x && not (has (now (b .entry)) x)) n ⌝ }
 {
     found_below(next_outside(a, b, 0, n), n)
@@ -570,7 +581,7 @@ pub fn first_outside(a: &[u64], b: &[u64], n: usize) -> Found
 
 // The first number below n that is in both sets.
 pub fn first_shared(a: &[u64], b: &[u64], n: usize) -> Found
-    requires { ⌜ n ≤ 1024 ⌝ }
+    requires { ⌜ n ≤ maxNodes ⌝ }
     ensures { λ r. ⌜ nodeFound r ≡ first (λ x. has (now (a .entry)) x && has (now (b .entry)) x) n ⌝ }
 {
     found_below(next_shared(a, b, 0, n), n)
@@ -578,7 +589,7 @@ pub fn first_shared(a: &[u64], b: &[u64], n: usize) -> Found
 
 // The first number below n that is in exactly one of two sets, by the set that lacks it.
 pub fn first_in_one(a: &[u64], b: &[u64], n: usize) -> FoundSide
-    requires { ⌜ n ≤ 1024 ⌝ }
+    requires { ⌜ n ≤ maxNodes ⌝ }
     ensures { λ r. ⌜ sideFound r ≡ firstInOne n (has (now (a .entry))) (has (now (b .entry))) ⌝ }
 {
     let x = next_outside(a, b, 0, n);
@@ -594,7 +605,7 @@ pub fn first_in_one(a: &[u64], b: &[u64], n: usize) -> FoundSide
 
 // Each number of a below n is in b.
 pub fn subset_holds(a: &[u64], b: &[u64], n: usize) -> bool
-    requires { ⌜ n ≤ 1024 ⌝ }
+    requires { ⌜ n ≤ maxNodes ⌝ }
     ensures { λ r. ⌜ r ≡ subset n (has (now (a .entry))) (has (now (b .entry))) ⌝ }
 {
     no_node(first_outside(a, b, n))
@@ -602,14 +613,14 @@ pub fn subset_holds(a: &[u64], b: &[u64], n: usize) -> bool
 
 // The two sets have the same numbers below n; they have not.
 pub fn equal_holds(a: &[u64], b: &[u64], n: usize) -> bool
-    requires { ⌜ n ≤ 1024 ⌝ }
+    requires { ⌜ n ≤ maxNodes ⌝ }
     ensures { λ r. ⌜ r ≡ (subset n (has (now (a .entry))) (has (now (b .entry))) && subset n (has (now (b .entry))) (has (now (a .entry)))) ⌝ }
 {
     no_side(first_in_one(a, b, n))
 }
 
 pub fn equal_fails(a: &[u64], b: &[u64], n: usize) -> bool
-    requires { ⌜ n ≤ 1024 ⌝ }
+    requires { ⌜ n ≤ maxNodes ⌝ }
     ensures { λ r. ⌜ r ≡ someInOne n (has (now (a .entry))) (has (now (b .entry))) ⌝ }
 {
     some_side(first_in_one(a, b, n))
@@ -617,14 +628,14 @@ pub fn equal_fails(a: &[u64], b: &[u64], n: usize) -> bool
 
 // No number below n is in both sets; some is.
 pub fn apart_holds(a: &[u64], b: &[u64], n: usize) -> bool
-    requires { ⌜ n ≤ 1024 ⌝ }
+    requires { ⌜ n ≤ maxNodes ⌝ }
     ensures { λ r. ⌜ r ≡ noneShared n (has (now (a .entry))) (has (now (b .entry))) ⌝ }
 {
     no_node(first_shared(a, b, n))
 }
 
 pub fn apart_fails(a: &[u64], b: &[u64], n: usize) -> bool
-    requires { ⌜ n ≤ 1024 ⌝ }
+    requires { ⌜ n ≤ maxNodes ⌝ }
     ensures { λ r. ⌜ r ≡ someShared n (has (now (a .entry))) (has (now (b .entry))) ⌝ }
 {
     some_node(first_shared(a, b, n))

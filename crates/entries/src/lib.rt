@@ -20,6 +20,7 @@ use nodeset::count_both;
 use nodeset::insert;
 use paths::End;
 use paths::add_table_ends;
+use tables::codes;
 use tables::layout::NO_NUMBER;
 use tables::reads::form_code;
 use tables::reads::form_first;
@@ -35,6 +36,8 @@ ghost use Rattle.base.specs.Bounded.{_⇒_, every, size};
 ghost use Rattle.nodeset.specs.Words.{has, wordsOf};
 ghost use Rattle.model.specs.Paths.{ends, endsOf};
 ghost use Rattle.model.specs.Shapes.{within, conforms};
+ghost use Rattle.model.specs.Limits.{maxNodes};
+ghost use Rattle.tables.specs.Codes as codes;
 ghost use Rattle.tables.specs.Layout.{nodeCount, formCodeAt, formFirstAt, formThirdAt, formFourthAt};
 ghost use Rattle.tables.specs.Decode.{triplesAt, graphAt, pathAt, upperOf, shapeAt};
 ghost use Rattle.paths.specs.Facts.{Tables};
@@ -81,7 +84,7 @@ pub fn between(lo: usize, hi: usize, k: usize) -> bool
 
 // `count`: the ones in the end set ANDed with those that conform to the part, which are nodes.
 pub fn count_holds(cells: &[u16], index: &[u16], e: usize, v: usize, part: &[u64]) -> bool
-    requires { ⌜ Asked (now cells) (now index) e v × (formCodeAt (now cells) e ≡ 13) × ((b : ℕ) → b < 1024 → has (now part) b ≡ true → b < nodeCount (now cells)) ⌝ }
+    requires { ⌜ Asked (now cells) (now index) e v × (formCodeAt (now cells) e ≡ codes.formCount) × ((b : ℕ) → b < maxNodes → has (now part) b ≡ true → b < nodeCount (now cells)) ⌝ }
     ensures { λ r. ⌜ r ≡ within (formThirdAt (now (cells .entry)) e) (upperOf (formFourthAt (now (cells .entry)) e)) (size (λ b. ends (nodeCount (now (cells .entry))) (triplesAt (now (cells .entry))) (pathAt (now (cells .entry)) (formFirstAt (now (cells .entry)) e)) v b && has (now (part .entry)) b) (nodeCount (now (cells .entry)))) ⌝ }
 {
     let set = ends_of(cells, index, End::Path(wide(form_first(cells, e))), v);
@@ -92,7 +95,7 @@ pub fn count_holds(cells: &[u16], index: &[u16], e: usize, v: usize, part: &[u64
 
 // `all`: every end conforms to the part.
 pub fn all_holds(cells: &[u16], index: &[u16], e: usize, v: usize, part: &[u64]) -> bool
-    requires { ⌜ Asked (now cells) (now index) e v × (formCodeAt (now cells) e ≡ 14) ⌝ }
+    requires { ⌜ Asked (now cells) (now index) e v × (formCodeAt (now cells) e ≡ codes.formAll) ⌝ }
     ensures { λ r. ⌜ r ≡ every (λ b. ends (nodeCount (now (cells .entry))) (triplesAt (now (cells .entry))) (pathAt (now (cells .entry)) (formFirstAt (now (cells .entry)) e)) v b ⇒ has (now (part .entry)) b) (nodeCount (now (cells .entry))) ⌝ }
 {
     let set = ends_of(cells, index, End::Path(wide(form_first(cells, e))), v);
@@ -102,7 +105,7 @@ pub fn all_holds(cells: &[u16], index: &[u16], e: usize, v: usize, part: &[u64])
 
 // `equal`, `apart`, `less`, `lesseq`: the ends and the objects of a link.
 pub fn sets_hold(cells: &[u16], index: &[u16], values: &[i64], e: usize, v: usize) -> bool
-    requires { ⌜ Asked (now cells) (now index) e v × (15 ≤ formCodeAt (now cells) e) × (formCodeAt (now cells) e ≤ 19) × (formCodeAt (now cells) e ≡ 17 → ⊥) ⌝ }
+    requires { ⌜ Asked (now cells) (now index) e v × (codes.formEqual ≤ formCodeAt (now cells) e) × (formCodeAt (now cells) e ≤ codes.formLesseq) × (formCodeAt (now cells) e ≡ codes.formClosed → ⊥) ⌝ }
     ensures { λ r. ⌜ r ≡ conforms (graphAt (now (cells .entry)) (now (values .entry))) (shapeAt (now (cells .entry)) (now (values .entry)) e) v ⌝ }
 {
     let first = ends_of(cells, index, end_at(wide(form_first(cells, e))), v);
@@ -110,16 +113,16 @@ pub fn sets_hold(cells: &[u16], index: &[u16], values: &[i64], e: usize, v: usiz
     let second = ends_of(cells, index, End::Link(form_link(cells, e)), v);
     let b = second.words;
     match form_code(cells, e) {
-        15 => equal_holds(&a, &b, node_count(cells)),
-        16 => apart_holds(&a, &b, node_count(cells)),
-        18 => less_holds(cells, values, &a, &b),
+        codes::FORM_EQUAL => equal_holds(&a, &b, node_count(cells)),
+        codes::FORM_APART => apart_holds(&a, &b, node_count(cells)),
+        codes::FORM_LESS => less_holds(cells, values, &a, &b),
         _ => lesseq_holds(cells, values, &a, &b),
     }
 }
 
 // `onelang`.
 pub fn lang_holds(cells: &[u16], index: &[u16], values: &[i64], e: usize, v: usize) -> bool
-    requires { ⌜ Asked (now cells) (now index) e v × (formCodeAt (now cells) e ≡ 20) ⌝ }
+    requires { ⌜ Asked (now cells) (now index) e v × (formCodeAt (now cells) e ≡ codes.formOnelang) ⌝ }
     ensures { λ r. ⌜ r ≡ conforms (graphAt (now (cells .entry)) (now (values .entry))) (shapeAt (now (cells .entry)) (now (values .entry)) e) v ⌝ }
 {
     let set = ends_of(cells, index, End::Path(wide(form_first(cells, e))), v);

@@ -9,6 +9,8 @@ use Rattle.base.specs.Bounded.{size}
 use Rattle.nodeset.specs.Words.{wordsOf}
 use Rattle.model.specs.Graph.{holds}
 use Rattle.model.specs.Shapes.{conforms, within, subset, noneShared, onlyListed, unlikeLangs, sameMembers, allLess, allLessEq}
+use Rattle.model.specs.Limits.{maxNodes}
+use Rattle.tables.specs.Codes as codes
 use Rattle.tables.specs.Layout.{nodeCount, kindAt, formCodeAt, formFirstAt, formSecondAt}
 use Rattle.tables.specs.Decode.{graphAt, termAt, triplesAt, itemsAt, entryAt, shapeAt, upperOf}
 use Rattle.plan.specs.Conditions.{failsTest, notLess, notLessEq, someInOne, someShared, somePair, clash, someUnlisted}
@@ -26,7 +28,7 @@ holdsOf cs vs (Is c) a b v = eqb v (c .0)
 holdsOf cs vs (IsNot c) a b v = not (eqb v (c .0))
 holdsOf cs vs (Test e) a b v = conforms (graphAt cs vs) (shapeAt cs vs e) v
 holdsOf cs vs (Untest e) a b v = holds (λ t. failsTest t (termAt cs vs v)) (testOf cs (entryAt cs vs e))
-holdsOf cs vs (Count lo hi) a b v = within lo (upperOf hi) (size (λ w. a w && b w) 1024)
+holdsOf cs vs (Count lo hi) a b v = within lo (upperOf hi) (size (λ w. a w && b w) maxNodes)
 holdsOf cs vs Every a b v = subset (nodeCount cs) a b
 holdsOf cs vs Equal a b v = sameMembers (nodeCount cs) a b
 holdsOf cs vs Unequal a b v = someInOne (nodeCount cs) a b
@@ -43,14 +45,14 @@ holdsOf cs vs (Open e) a b v = someUnlisted (triplesAt cs) (itemsAt cs (formFirs
 
 -- node m has a language
 abbrev pub tagged : List ℕ → ℕ → Bool
-tagged cs m = ltb m (nodeCount cs) && eqb (kindAt cs m) 4
+tagged cs m = ltb m (nodeCount cs) && eqb (kindAt cs m) codes.nodeWords
 
 -- a test names a form entry that is one
 unfoldable pub conditionOk : List ℕ → Condition → Bool
 conditionOk cs (Is c) = true
 conditionOk cs (IsNot c) = true
-conditionOk cs (Test e) = leb 6 (formCodeAt cs e) && leb (formCodeAt cs e) 12
-conditionOk cs (Untest e) = leb 6 (formCodeAt cs e) && leb (formCodeAt cs e) 12
+conditionOk cs (Test e) = leb codes.formKind (formCodeAt cs e) && leb (formCodeAt cs e) codes.formBelow
+conditionOk cs (Untest e) = leb codes.formKind (formCodeAt cs e) && leb (formCodeAt cs e) codes.formBelow
 conditionOk cs (Count lo hi) = true
 conditionOk cs Every = true
 conditionOk cs Equal = true

@@ -47,6 +47,7 @@ ghost use Prim.Native.Nat.{_*_, _<_};
 ghost use lib.ListN.{drop};
 ghost use Rattle.nodeset.specs.Words.{has};
 ghost use Rattle.model.specs.Shapes.{from, objects, starts};
+ghost use Rattle.model.specs.Limits.{maxNodes};
 ghost use Rattle.tables.specs.Layout.{nodeCount, pathCount};
 ghost use Rattle.tables.specs.Decode.{graphAt, pathAt};
 ghost use Rattle.paths.specs.Facts.{Tables};
@@ -141,7 +142,7 @@ fn part(words: &[u64], at: usize) -> &[u64]
 
 // Where the set that goes with node v begins: a row for each node, or one set for all.
 fn place(each: bool, v: usize) -> usize
-    requires { ⌜ v < 1024 ⌝ }
+    requires { ⌜ v < maxNodes ⌝ }
     ensures { λ r. ⌜ r ≡ cond each (16 * v) 0 ⌝ }
 {
     if each { 16 * v } else { 0 }
