@@ -1,20 +1,24 @@
 -- Conditions on the triples out of a node, and on pairs of nodes.
-use Prim.Native.Nat.{ℕ}
+use Prim.Native.Nat.{ℕ, _/_}
 use mathlib.Core.List.{List}
 use mathlib.Core.Bool.{Bool, not, _&&_}
 use lib.Dec.{eqb}
 use lib.IntN.{ℤ}
 use lib.Signed.{ltZ, leZ}
-use Rattle.base.specs.Lists.{member}
 use Rattle.model.specs.Graph.{Term}
+use Rattle.model.specs.Limits.{maxLinks}
 use Rattle.tables.specs.Layout.{subjectAt, predicateAt}
 use Rattle.plan.specs.Conditions.{notLess, notLessEq}
 use Rattle.conditions.specs.declared.Order.{Order}
 use Rattle.conditions.specs.declared.Order.the-variants.{Less, LessEq}
 
--- triple i of the tables goes out of v and has none of the predicates ps
-unfoldable pub unlisted : List ℕ → List ℕ → ℕ → ℕ → Bool
-unlisted cs ps v i = eqb (subjectAt cs i) v && not (member (predicateAt cs i) ps)
+-- how many words a set of links takes
+abbrev pub linkWords : ℕ
+linkWords = maxLinks / 64
+
+-- triple i of the tables goes out of v and has a predicate that is not listed
+unfoldable pub unlisted : List ℕ → (ℕ → Bool) → ℕ → ℕ → Bool
+unlisted cs listed v i = eqb (subjectAt cs i) v && not (listed (predicateAt cs i))
 
 -- a pair of terms is not so ordered
 unfoldable pub unordered : Order → Term → Term → Bool

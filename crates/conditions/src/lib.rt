@@ -9,6 +9,7 @@
 //
 // For the crates above, which show what a function asks for; _holds where the condition is kept, _fails where it is broken:
 //   test_holds, test_fails             the test that a form entry is, of a node
+//   listed_links                       the links that a form entry lists, for the next two
 //   closed_holds, closed_fails         every fact out of a node has a listed link
 //   less_holds, less_fails, lesseq_holds, lesseq_fails
 //                                      each member of one set has a number less than, or at most, that of each member of another
@@ -18,7 +19,7 @@
 //                                      two sets with the same members, with none in common
 //   languages                          the nodes that have a language
 //   insert_if                          a number joins a set, or not
-use model::LinkNo;
+use model::MAX_LINKS;
 use model::MAX_NODES;
 use model::NodeNo;
 use nodeset::NodeSet;
@@ -26,6 +27,7 @@ use nodeset::insert;
 use nodeset::next_member;
 use nodeset::next_outside;
 use nodeset::next_shared;
+use nodeset::test;
 use paths::last_out;
 use paths::next_out;
 use tables::codes;
@@ -61,8 +63,15 @@ ghost use Rattle.tables.specs.Decode.{termAt, triplesAt, graphAt, kindOf, items
 ghost use Rattle.paths.specs.Facts.{Tables};
 ghost use Rattle.plan.specs.Sets.{testOf};
 ghost use Rattle.plan.specs.Conditions.{failsTest, notLess, notLessEq, someInOne, someShared, somePair, clash, someUnlisted};
-ghost use Rattle.conditions.specs.Pairs.{unlisted, unordered, comesBack};
+ghost use Rattle.conditions.specs.Pairs.{linkWords, unlisted, unordered, comesBack};
 ghost use Rattle.conditions.specs.Searches.{first, firstPair, among, firstInOne, found, nothing, nodeFound, pairFound, sideFound, factFound, Listed};
+
+// A set of links, a bit for each: link l is at bit l mod 64 of word l div 64.
+pub struct LinkSet {
+    pub words: [u64; LINK_WORDS],
+}
+
+const LINK_WORDS: usize = MAX_LINKS / 64;
 
 // What a search found: a node; a pair of nodes; a node in exactly one of two sets, by the set that lacks it; a fact.
 pub enum Found {
@@ -183,30 +192,17 @@ fn listed(cells: &[u16], i: u16, n: u16, x: u16) -> bool
     false
 }
 
-// Link l is one of n links from item i on.
-fn link_listed(cells: &[u16], i: u16, n: u16, l: LinkNo) -> bool
-    ensures { λ r. ⌜ r ≡ member (l .0) (itemsAt (now (cells .entry)) i n) ⌝ }
+// The links that form entry e lists.
+pub fn listed_links(cells: &[u16], e: usize) -> LinkSet
+    ensures { λ r. ⌜ r .words ≡ wordsOf (λ l. member l (itemsAt (now (cells .entry)) (formFirstAt (now (cells .entry)) e) (formSecondAt (now (cells .entry)) e))) linkWords ⌝ }
 {
-    let from = wide(i);
-    let count = wide(n);
+    let from = wide(form_first(cells, e));
+    let count = wide(form_second(cells, e));
+    let mut words = [0u64; LINK_WORDS];
     for k in 0..count {
-        if item_link(cells, from + k).0 == l.0 {
-            return true;
-        }
+        insert(&mut words, item_link(cells, from + k).0 as usize);
     }
-    false
-}
-
-// Fact i has a link that form entry e does not list.
-fn fact_unlisted(cells: &[u16], e: usize, i: usize) -> bool
-    ensures { λ r. ⌜ r ≡ not (member (predicateAt (now (cells .entry)) i) (itemsAt (now (cells .entry)) (formFirstAt (now (cells .entry)) e) (formSecondAt (now (cells .entry)) e))) ⌝ }
-{
-    !link_listed(
-        cells,
-        form_first(cells, e),
-        form_second(cells, e),
-        predicate(cells, i),
-    )
+    LinkSet { words }
 }
 
 // Fact i, where yes; else what was found before.
@@ -216,41 +212,42 @@ fn fact_if(yes: bool, i: usize, answer: FoundFact) -> FoundFact
     if yes { FoundFact::Fact(i) } else { answer }
 }
 
-// The first fact out of v that has a link that form entry e does not list. The chain of v goes downward, so the last on it that has
+// The first fact out of v that has a link that is not listed. The chain of v goes downward, so the last on it that has
 // is the first.
-pub fn first_unlisted(cells: &[u16], index: &[u16], e: usize, v: usize) -> FoundFact
+pub fn first_unlisted(cells: &[u16], index: &[u16], links: &[u64], v: NodeNo) -> FoundFact
     requires { ⌜ Tables (now cells) (now index) ⌝ }
-    ensures { λ r. ⌜ factFound r ≡ first (unlisted (now (cells .entry)) (itemsAt (now (cells .entry)) (formFirstAt (now (cells .entry)) e) (formSecondAt (now (cells .entry)) e)) v) (factCount (now (cells .entry))) ⌝ }
+    ensures { λ r. ⌜ factFound r ≡ first (unlisted (now (cells .entry)) (has (now (links .entry))) (v .0)) (factCount (now (cells .entry))) ⌝ }
 {
     let mut answer = FoundFact::NoFact;
     let mut next = last_out(index, v);
     while 0 < next {
         let i = next - 1;
-        answer = fact_if(fact_unlisted(cells, e, i), i, answer);
+        let listed = test(links, predicate(cells, i).0 as usize);
+        answer = fact_if(!listed, i, answer);
         next = next_out(index, i);
     }
     answer
 }
 
-// Every fact out of v has one of the links that form entry e lists; some has not.
-pub fn closed_holds(cells: &[u16], index: &[u16], e: usize, v: usize) -> bool
+// Every fact out of v has a listed link; some has not.
+pub fn closed_holds(cells: &[u16], index: &[u16], links: &[u64], v: NodeNo) -> bool
     requires { ⌜ Tables (now cells) (now index) ⌝ }
-    ensures { λ r. ⌜ r ≡ onlyListed (triplesAt (now (cells .entry))) (itemsAt (now (cells .entry)) (formFirstAt (now (cells .entry)) e) (formSecondAt (now (cells .entry)) e)) v ⌝ }
+    ensures { λ r. ⌜ r ≡ onlyListed (triplesAt (now (cells .entry))) (has (now (links .entry))) (v .0) ⌝ }
 {
-    no_fact(first_unlisted(cells, index, e, v))
+    no_fact(first_unlisted(cells, index, links, v))
 }
 
-pub fn closed_fails(cells: &[u16], index: &[u16], e: usize, v: usize) -> bool
+pub fn closed_fails(cells: &[u16], index: &[u16], links: &[u64], v: NodeNo) -> bool
     requires { ⌜ Tables (now cells) (now index) ⌝ }
-    ensures { λ r. ⌜ r ≡ someUnlisted (triplesAt (now (cells .entry))) (itemsAt (now (cells .entry)) (formFirstAt (now (cells .entry)) e) (formSecondAt (now (cells .entry)) e)) v ⌝ }
+    ensures { λ r. ⌜ r ≡ someUnlisted (triplesAt (now (cells .entry))) (has (now (links .entry))) (v .0) ⌝ }
 {
-    some_fact(first_unlisted(cells, index, e, v))
+    some_fact(first_unlisted(cells, index, links, v))
 }
 
 // Node v is of kind k. The codes of kinds in the tables: 0 thing, 1 blank, 2 number, 3 text, 4 words; another counts as 0.
-fn kind_holds(cells: &[u16], k: u16, v: usize) -> bool
-    requires { ⌜ v < nodeCount (now cells) ⌝ }
-    ensures { λ r. ⌜ ((vs : List ℤ) → r ≡ satisfies (nodeKind (kindOf k)) (termAt (now (cells .entry)) vs v)) ⌝ }
+fn kind_holds(cells: &[u16], k: u16, v: NodeNo) -> bool
+    requires { ⌜ v .0 < nodeCount (now cells) ⌝ }
+    ensures { λ r. ⌜ ((vs : List ℤ) → r ≡ satisfies (nodeKind (kindOf k)) (termAt (now (cells .entry)) vs (v .0))) ⌝ }
 {
     let kind = node_kind(cells, v);
     match k {
@@ -263,9 +260,9 @@ fn kind_holds(cells: &[u16], k: u16, v: usize) -> bool
 }
 
 // Node v is a literal of datatype t; type 0 is that of words with a language.
-fn datatype_holds(cells: &[u16], t: u16, v: usize) -> bool
-    requires { ⌜ v < nodeCount (now cells) ⌝ }
-    ensures { λ r. ⌜ ((vs : List ℤ) → r ≡ satisfies (datatype t) (termAt (now (cells .entry)) vs v)) ⌝ }
+fn datatype_holds(cells: &[u16], t: u16, v: NodeNo) -> bool
+    requires { ⌜ v .0 < nodeCount (now cells) ⌝ }
+    ensures { λ r. ⌜ ((vs : List ℤ) → r ≡ satisfies (datatype t) (termAt (now (cells .entry)) vs (v .0))) ⌝ }
 {
     let kind = node_kind(cells, v);
     (((kind == codes::NODE_NUMBER) | (kind == codes::NODE_TEXT)) & (t == node_type(cells, v)))
@@ -273,9 +270,9 @@ fn datatype_holds(cells: &[u16], t: u16, v: usize) -> bool
 }
 
 // Node v is of another kind than k.
-fn kind_fails(cells: &[u16], k: u16, v: usize) -> bool
-    requires { ⌜ v < nodeCount (now cells) ⌝ }
-    ensures { λ r. ⌜ ((vs : List ℤ) → r ≡ failsTest (nodeKind (kindOf k)) (termAt (now (cells .entry)) vs v)) ⌝ }
+fn kind_fails(cells: &[u16], k: u16, v: NodeNo) -> bool
+    requires { ⌜ v .0 < nodeCount (now cells) ⌝ }
+    ensures { λ r. ⌜ ((vs : List ℤ) → r ≡ failsTest (nodeKind (kindOf k)) (termAt (now (cells .entry)) vs (v .0))) ⌝ }
 {
     let kind = node_kind(cells, v);
     match k {
@@ -288,9 +285,9 @@ fn kind_fails(cells: &[u16], k: u16, v: usize) -> bool
 }
 
 // Node v is no literal of datatype t.
-fn datatype_fails(cells: &[u16], t: u16, v: usize) -> bool
-    requires { ⌜ v < nodeCount (now cells) ⌝ }
-    ensures { λ r. ⌜ ((vs : List ℤ) → r ≡ failsTest (datatype t) (termAt (now (cells .entry)) vs v)) ⌝ }
+fn datatype_fails(cells: &[u16], t: u16, v: NodeNo) -> bool
+    requires { ⌜ v .0 < nodeCount (now cells) ⌝ }
+    ensures { λ r. ⌜ ((vs : List ℤ) → r ≡ failsTest (datatype t) (termAt (now (cells .entry)) vs (v .0))) ⌝ }
 {
     let kind = node_kind(cells, v);
     (((kind != codes::NODE_NUMBER) & (kind != codes::NODE_TEXT)) | (t != node_type(cells, v)))
@@ -298,22 +295,22 @@ fn datatype_fails(cells: &[u16], t: u16, v: usize) -> bool
 }
 
 // Node v has a language; a number.
-fn has_language(cells: &[u16], v: usize) -> bool
-    ensures { λ r. ⌜ r ≡ eqb (kindAt (now (cells .entry)) v) codes.nodeWords ⌝ }
+fn has_language(cells: &[u16], v: NodeNo) -> bool
+    ensures { λ r. ⌜ r ≡ eqb (kindAt (now (cells .entry)) (v .0)) codes.nodeWords ⌝ }
 {
     node_kind(cells, v) == codes::NODE_WORDS
 }
 
-fn has_number(cells: &[u16], v: usize) -> bool
-    ensures { λ r. ⌜ r ≡ eqb (kindAt (now (cells .entry)) v) codes.nodeNumber ⌝ }
+fn has_number(cells: &[u16], v: NodeNo) -> bool
+    ensures { λ r. ⌜ r ≡ eqb (kindAt (now (cells .entry)) (v .0)) codes.nodeNumber ⌝ }
 {
     node_kind(cells, v) == codes::NODE_NUMBER
 }
 
 // Node v meets the test that form entry e is.
-pub fn test_holds(cells: &[u16], values: &[i64], e: usize, v: usize) -> bool
-    requires { ⌜ (v < nodeCount (now cells)) × (codes.formKind ≤ formCodeAt (now cells) e) × (formCodeAt (now cells) e ≤ codes.formBelow) ⌝ }
-    ensures { λ r. ⌜ r ≡ conforms (graphAt (now (cells .entry)) (now (values .entry))) (shapeAt (now (cells .entry)) (now (values .entry)) e) v ⌝ }
+pub fn test_holds(cells: &[u16], values: &[i64], e: usize, v: NodeNo) -> bool
+    requires { ⌜ (v .0 < nodeCount (now cells)) × (codes.formKind ≤ formCodeAt (now cells) e) × (formCodeAt (now cells) e ≤ codes.formBelow) ⌝ }
+    ensures { λ r. ⌜ r ≡ conforms (graphAt (now (cells .entry)) (now (values .entry))) (shapeAt (now (cells .entry)) (now (values .entry)) e) (v .0) ⌝ }
 {
     let a = form_first(cells, e);
     match form_code(cells, e) {
@@ -329,9 +326,9 @@ pub fn test_holds(cells: &[u16], values: &[i64], e: usize, v: usize) -> bool
 }
 
 // Node v fails the test that form entry e is.
-pub fn test_fails(cells: &[u16], values: &[i64], e: usize, v: usize) -> bool
-    requires { ⌜ (v < nodeCount (now cells)) × (codes.formKind ≤ formCodeAt (now cells) e) × (formCodeAt (now cells) e ≤ codes.formBelow) ⌝ }
-    ensures { λ r. ⌜ r ≡ holds (λ t. failsTest t (termAt (now (cells .entry)) (now (values .entry)) v)) (testOf (now (cells .entry)) (entryAt (now (cells .entry)) (now (values .entry)) e)) ⌝ }
+pub fn test_fails(cells: &[u16], values: &[i64], e: usize, v: NodeNo) -> bool
+    requires { ⌜ (v .0 < nodeCount (now cells)) × (codes.formKind ≤ formCodeAt (now cells) e) × (formCodeAt (now cells) e ≤ codes.formBelow) ⌝ }
+    ensures { λ r. ⌜ r ≡ holds (λ t. failsTest t (termAt (now (cells .entry)) (now (values .entry)) (v .0))) (testOf (now (cells .entry)) (entryAt (now (cells .entry)) (now (values .entry)) e)) ⌝ }
 {
     let a = form_first(cells, e);
     match form_code(cells, e) {
@@ -367,13 +364,12 @@ fn breaks_order(
     if !known {
         return true;
     }
-    let w = wide(y.0);
-    if !has_number(cells, w) {
+    if !has_number(cells, y) {
         return true;
     }
     match order {
-        Order::Less => number(values, w) <= value,
-        Order::LessEq => number(values, w) < value,
+        Order::Less => number(values, y) <= value,
+        Order::LessEq => number(values, y) < value,
     }
 }
 
@@ -407,13 +403,14 @@ fn first_unordered(order: Order, cells: &[u16], values: &[i64], a: &[u64], b: &[
     let mut seconds = [0u16; MAX_NODES];
     let count = gather(&mut seconds, b, b, n);
     'search: while x < n {
-        let known = has_number(cells, x);
-        let value = number(values, x);
+        let first = NodeNo(x as u16);
+        let known = has_number(cells, first);
+        let value = number(values, first);
         let mut k = 0;
         while k < count {
             let second = NodeNo(seconds[k]);
             if breaks_order(order, known, value, cells, values, second) {
-                answer = FoundPair::Pair(node(x), second);
+                answer = FoundPair::Pair(first, second);
                 break 'search;
             }
             k += 1;
@@ -470,11 +467,11 @@ pub fn lesseq_fails(cells: &[u16], values: &[i64], a: &[u64], b: &[u64]) -> bool
 }
 
 // x joins the set, where yes.
-pub fn insert_if(words: &mut [u64], x: usize, yes: bool)
-    ensures { λ _. ⌜ now (words .exit) ≡ wordsOf (λ m. has (now (words .entry)) m || (yes && eqb m x)) (length (now (words .entry))) ⌝ }
+pub fn insert_if(words: &mut [u64], x: NodeNo, yes: bool)
+    ensures { λ _. ⌜ now (words .exit) ≡ wordsOf (λ m. has (now (words .entry)) m || (yes && eqb m (x .0))) (length (now (words .entry))) ⌝ }
 {
     if yes {
-        insert(words, x);
+        insert(words, x.0 as usize);
     }
 }
 
@@ -484,10 +481,11 @@ fn with_language(cells: &[u16], a: &[u64]) -> NodeSet
 {
     let n = node_count(cells);
     let mut words = [0u64; 16];
-    let mut v = next_member(a, 0, n);
-    while v < n {
+    let mut x = next_member(a, 0, n);
+    while x < n {
+        let v = NodeNo(x as u16);
         insert_if(&mut words, v, has_language(cells, v));
-        v = next_member(a, v + 1, n);
+        x = next_member(a, x + 1, n);
     }
     NodeSet { words }
 }
@@ -508,11 +506,10 @@ fn same_language(tagged: bool, lang: u16, cells: &[u16], y: NodeNo) -> bool
     if !tagged {
         return false;
     }
-    let w = wide(y.0);
-    if lang != node_lang(cells, w) {
+    if lang != node_lang(cells, y) {
         return false;
     }
-    has_language(cells, w)
+    has_language(cells, y)
 }
 
 // The first two numbers in both sets that have the same language. The second set is that of the nodes that have one, since
@@ -528,9 +525,8 @@ pub fn first_clash(cells: &[u16], a: &[u64], b: &[u64]) -> FoundPair
     let mut i = 0;
     'search: while i < count {
         let first = NodeNo(ends[i]);
-        let x = wide(first.0);
-        let known = has_language(cells, x);
-        let lang = node_lang(cells, x);
+        let known = has_language(cells, first);
+        let lang = node_lang(cells, first);
         let mut k = i + 1;
         while k < count {
             let second = NodeNo(ends[k]);

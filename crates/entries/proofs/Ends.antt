@@ -12,6 +12,7 @@ use Rattle.base.proofs.Bounded.{some-ext, some-eq}
 use Rattle.nodeset.specs.Words.{has, wordsOf, with}
 use Rattle.nodeset.proofs.Sets.{wordsOf-ext, has-of, has-zeros, zeros, with-step}
 use Rattle.model.specs.Paths.{self, along}
+use Rattle.model.specs.Limits.{maxNodes}
 use Rattle.model.specs.Shapes.{within, atMost, unbounded}
 use Rattle.tables.specs.Layout.{noNumber}
 use Rattle.tables.specs.WellFormed as tables
@@ -31,7 +32,7 @@ image-zeros n r from = ap (wordsOf (λ w. has (replicate 16 0) w || image n r (h
 pub single : (v : ℕ) → with (replicate 16 0) v ≡ wordsOf (λ m. eqb v m) 16
 single v = with-step (λ m. false) (λ m. eqb v m) 16 v (zeros 16) (λ m l. same-test (eqb m v) (eqb v m) (λ h. eq-eqb v m (sym (eqb-true m v h))) (λ h. eq-eqb m v (sym (eqb-true v m h))))
 
-pub image-single : (n : ℕ) (r : ℕ → ℕ → Bool) (from : List ℕ) (v : ℕ) → n ≤ 1024 → v < n → from ≡ with (replicate 16 0) v → wordsOf (image n r (has from)) 16 ≡ wordsOf (r v) 16
+pub image-single : (n : ℕ) (r : ℕ → ℕ → Bool) (from : List ℕ) (v : ℕ) → n ≤ maxNodes → v < n → from ≡ with (replicate 16 0) v → wordsOf (image n r (has from)) 16 ≡ wordsOf (r v) 16
 unfolding image
 image-single n r from v room l e = wordsOf-ext (image n r (has from)) (r v) 16 λ w _.
     some-ext (λ u. has from u && r u w) (λ u. eqb v u && r u w) n (λ u lu. ap (λ (b : Bool). b && r u w) (has-of (λ m. eqb v m) 16 (e ∙ single v) u (omega arith)))

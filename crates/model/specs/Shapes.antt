@@ -107,8 +107,8 @@ allLessEq term n a b = allPairs n a b (λ x y. lessEq (term x) (term y))
 abbrev pub unlikeLangs : (ℕ → Term) → ℕ → (ℕ → Bool) → Bool
 unlikeLangs term n a = allPairs n a a (λ x y. not (eqb x y) ⇒ not (sameLang (term x) (term y)))
 
-abbrev pub onlyListed : List Triple → List ℕ → ℕ → Bool
-onlyListed ts ps v = allb (λ t. eqb (t .subject) v ⇒ member (t .predicate) ps) ts
+abbrev pub onlyListed : List Triple → (ℕ → Bool) → ℕ → Bool
+onlyListed ts listed v = allb (λ t. eqb (t .subject) v ⇒ listed (t .predicate)) ts
 
 module _ (g : Graph) where
   -- the ends of a path from v; the objects of v's triples by p; what a condition END starts from
@@ -136,7 +136,7 @@ module _ (g : Graph) where
   conforms (forAll e ψ) v = every (λ b. from e v b ⇒ conforms ψ b) (g .nodes)
   conforms (equals f p) v = sameMembers (g .nodes) (starts f v) (objects p v)
   conforms (disjoint f p) v = noneShared (g .nodes) (starts f v) (objects p v)
-  conforms (closed ps) v = onlyListed (g .triples) ps v
+  conforms (closed ps) v = onlyListed (g .triples) (λ p. member p ps) v
   conforms (lessThan e p) v = allLess (g .term) (g .nodes) (from e v) (objects p v)
   conforms (lessThanEq e p) v = allLessEq (g .term) (g .nodes) (from e v) (objects p v)
   conforms (uniqueLang e) v = unlikeLangs (g .term) (g .nodes) (from e v)

@@ -16,6 +16,7 @@
 //   last_out, next_out     the same of the facts out of a node
 use base::cell;
 use base::pick;
+use base::pick_cell;
 use chains::link;
 use model::LinkNo;
 use model::MAX_FACTS;
@@ -81,14 +82,16 @@ fn node_at(column: &[u16], i: usize) -> NodeNo
 }
 
 // Node far joins each set that near is in.
-fn join(into: &mut [u64], far: usize, many: bool, from: &[u64], near: usize)
-    ensures { λ _. ⌜ now (into .exit) ≡ joinedSets (setCount many) near far (now (from .entry)) (now (into .entry)) ⌝ }
+fn join(into: &mut [u64], far: NodeNo, many: bool, from: &[u64], near: NodeNo)
+    ensures { λ _. ⌜ now (into .exit) ≡ joinedSets (setCount many) (near .0) (far .0) (now (from .entry)) (now (into .entry)) ⌝ }
 {
+    let v = far.0 as usize;
+    let w = near.0 as usize;
     if many {
-        let x = word(into, far) | word(from, near);
-        put_word(into, far, x);
-    } else if test(from, near) {
-        insert(into, far);
+        let x = word(into, v) | word(from, w);
+        put_word(into, v, x);
+    } else if test(from, w) {
+        insert(into, v);
     }
 }
 
@@ -139,11 +142,12 @@ pub fn next_fact(index: &[u16], i: usize) -> usize
 }
 
 // The last fact out of node v, as its number and one; 0 where there is none.
-pub fn last_out(index: &[u16], v: usize) -> usize
-    ensures { λ r. ⌜ r ≡ cond (ltb v maxNodes) (getD (now (index .entry)) (maxLinks + maxFacts + v) 0) 0 ⌝ }
+pub fn last_out(index: &[u16], v: NodeNo) -> usize
+    ensures { λ r. ⌜ r ≡ cond (ltb (v .0) maxNodes) (getD (now (index .entry)) (maxLinks + maxFacts + (v .0)) 0) 0 ⌝ }
 {
-    if v < MAX_NODES {
-        wide(cell(index, SUBJECT_HEADS + v))
+    let x = v.0 as usize;
+    if x < MAX_NODES {
+        wide(cell(index, SUBJECT_HEADS + x))
     } else {
         0
     }
@@ -162,9 +166,11 @@ fn join_fact(into: &mut [u64], i: usize, back: bool, many: bool, from: &[u64], s
     requires { ⌜ (i < length (now s)) × (i < length (now o)) ⌝ }
     ensures { λ _. ⌜ now (into .exit) ≡ joinedSets (setCount many) (cond back (getD (now (o .entry)) i 0) (getD (now (s .entry)) i 0)) (cond back (getD (now (s .entry)) i 0) (getD (now (o .entry)) i 0)) (now (from .entry)) (now (into .entry)) ⌝ }
 {
-    let v = wide(node_at(s, i).0);
-    let w = wide(node_at(o, i).0);
-    join(into, pick(back, v, w), many, from, pick(back, w, v));
+    let v = node_at(s, i).0;
+    let w = node_at(o, i).0;
+    let far = NodeNo(pick_cell(back, v, w));
+    let near = NodeNo(pick_cell(back, w, v));
+    join(into, far, many, from, near);
 }
 
 // What the facts of link l add; read backwards where back. Only these are looked at: p, of which the index is made, is there
@@ -244,9 +250,11 @@ fn spread(
 
 // Each node joins the sets that it is in already.
 fn join_itself(into: &mut [u64], many: bool, from: &[u64], n: usize)
+    requires { ⌜ n ≤ maxNodes ⌝ }
     ensures { λ _. ⌜ now (into .exit) ≡ withImages (setCount many) n eqb (now (from .entry)) (now (into .entry)) ⌝ }
 {
-    for v in 0..n {
+    for x in 0..n {
+        let v = NodeNo(x as u16);
         join(into, v, many, from, v);
     }
 }

@@ -14,7 +14,7 @@ use Rattle.base.specs.Lists.{member, anyb, allb}
 use Rattle.base.proofs.Bools.{bool-cases, not-and}
 use Rattle.base.proofs.Bounded.{not-every, some-or}
 use Rattle.model.specs.Graph.{Term, iri, blankNode, numeric, plain, tagged, Triple, valueOf, datatypeOf, languageOf, holds}
-use Rattle.model.specs.Shapes.{Kind, anIri, aBlank, aLiteral, isKind, Test, nodeKind, datatype, languageIn, minInclusive, minExclusive, maxInclusive, maxExclusive, satisfies, Upper, atMost, unbounded, within, subset, noneShared, allPairs, less, lessEq, sameLang}
+use Rattle.model.specs.Shapes.{Kind, anIri, aBlank, aLiteral, isKind, Test, nodeKind, datatype, languageIn, minInclusive, minExclusive, maxInclusive, maxExclusive, satisfies, Upper, atMost, unbounded, within, subset, noneShared, allPairs, less, lessEq, sameLang, onlyListed}
 use Rattle.model.specs.Limits.{maxCount}
 use Rattle.tables.specs.Layout.{noNumber}
 use Rattle.tables.specs.Decode.{upperOf}
@@ -108,10 +108,10 @@ module _ (n : ℕ) (a b : ℕ → Bool) where
       ∙ ap (λ (t : Bool). a x && t) (not-every (λ y. b y ⇒ r x y) (λ y. b y && q x y) n (λ y m. not-implies (b y) (r x y) ∙ ap (λ (t : Bool). b y && t) (h x y))))
 
 -- ---- triples
-pub not-closed : (ts : List Triple) (ps : List ℕ) (v : ℕ) → not (allb (λ t. eqb (t .subject) v ⇒ member (t .predicate) ps) ts) ≡ someUnlisted ts ps v
+pub not-closed : (ts : List Triple) (listed : ℕ → Bool) (v : ℕ) → not (onlyListed ts listed v) ≡ someUnlisted ts listed v
 unfolding allb anyb someUnlisted
-not-closed [] ps v = refl
-not-closed (t ∷ ts) ps v = not-and (eqb (t .subject) v ⇒ member (t .predicate) ps) (allb (λ t. eqb (t .subject) v ⇒ member (t .predicate) ps) ts) ∙ ap₂ (λ (x y : Bool). x || y) (not-implies (eqb (t .subject) v) (member (t .predicate) ps)) (not-closed ts ps v)
+not-closed [] listed v = refl
+not-closed (t ∷ ts) listed v = not-and (eqb (t .subject) v ⇒ listed (t .predicate)) (onlyListed ts listed v) ∙ ap₂ (λ (x y : Bool). x || y) (not-implies (eqb (t .subject) v) (listed (t .predicate))) (not-closed ts listed v)
 
 -- ---- counts: not every end is in m is at least one end outside
 some-size : (p : ℕ → Bool) (n : ℕ) → leb 1 (size p n) ≡ some p n

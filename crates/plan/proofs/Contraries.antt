@@ -73,4 +73,4 @@ module _ (cs : List ℕ) (vs : List ℤ) (sets others : ℕ → ℕ → Bool) wh
 
     pub closed-opened : (ls : List ℕ) → linksOf cs (entryAt cs vs e) ≡ Option.some ls → Contrary (Step.closed e) (Step.opened e)
     unfolding inStep conforms holds
-    closed-opened ls q = ap (λ (o : Option (List ℕ)). λ v. holds (λ ps. someUnlisted (g .triples) ps v) o) q ∙ ext (λ v. sym (not-closed (g .triples) ls v)) ∙ ap (λ (p : ℕ → Bool). λ v. not (p v)) (sym (closed-set ls q))
+    closed-opened ls q = ap (λ (o : Option (List ℕ)). λ v. holds (λ ps. someUnlisted (g .triples) (λ p. member p ps) v) o) q ∙ ext (λ v. sym (not-closed (g .triples) (λ p. member p ls) v)) ∙ ap (λ (p : ℕ → Bool). λ v. not (p v)) (sym (closed-set ls q))

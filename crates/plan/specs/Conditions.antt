@@ -54,5 +54,5 @@ unfoldable pub clash : (ℕ → Term) → ℕ → ℕ → Bool
 clash term x y = not (eqb x y) && sameLang (term x) (term y)
 
 -- ---- of triples: some triple out of v has an unlisted predicate
-unfoldable pub someUnlisted : List Triple → List ℕ → ℕ → Bool
-someUnlisted ts ps v = anyb (λ t. eqb (t .subject) v && not (member (t .predicate) ps)) ts
+unfoldable pub someUnlisted : List Triple → (ℕ → Bool) → ℕ → Bool
+someUnlisted ts listed v = anyb (λ t. eqb (t .subject) v && not (listed (t .predicate))) ts

@@ -7,6 +7,7 @@ use mathlib.Core.Bool.{Bool, true, false, not, _&&_, _||_}
 use lib.Dec.{eqb}
 use lib.IntN.{ℤ}
 use Rattle.base.specs.Bounded.{_⇒_, every, size}
+use Rattle.base.specs.Lists.{member}
 use Rattle.base.specs.Numbered.{numbered}
 use Rattle.model.specs.Graph.{Graph, holds}
 use Rattle.model.specs.Shapes.{Test, nodeKind, datatype, languageIn, minInclusive, minExclusive, maxInclusive, maxExclusive, hasValue, test, equals, disjoint, closed, lessThan, lessThanEq, uniqueLang, within, from, objects, starts, conforms}
@@ -89,7 +90,7 @@ module _ (cs : List ℕ) (vs : List ℤ) where
   inStep (Step.apart f l) sets v = conforms g (disjoint (endAt cs f) l) v
   inStep (Step.meet f l) sets v = someShared (g .nodes) (starts g (endAt cs f) v) (objects g l v)
   inStep (Step.closed e) sets v = holds (λ ps. conforms g (closed ps) v) (linksOf cs (entryAt cs vs e))
-  inStep (Step.opened e) sets v = holds (λ ps. someUnlisted (g .triples) ps v) (linksOf cs (entryAt cs vs e))
+  inStep (Step.opened e) sets v = holds (λ ps. someUnlisted (g .triples) (λ p. member p ps) v) (linksOf cs (entryAt cs vs e))
   inStep (Step.less p l) sets v = conforms g (lessThan (pathAt cs p) l) v
   inStep (Step.notless p l) sets v = somePair (g .nodes) (from g (pathAt cs p) v) (objects g l v) (λ b c. notLess (g .term b) (g .term c))
   inStep (Step.lesseq p l) sets v = conforms g (lessThanEq (pathAt cs p) l) v

@@ -1,6 +1,6 @@
 -- What a step asks for: the words that the calls give for it are the step's set, and a right step meets what they require.
 use Prim.Native.Nat.{ℕ, _+_, _-_, _*_, _≤_, _<_, suc}
-use mathlib.Core.List.{List}
+use mathlib.Core.List.{List, []}
 use mathlib.Core.Bool.{Bool, true, false, _&&_, _||_, true≢false}
 use mathlib.Core.Path.{_≡_, refl, sym, ap, _∙_}
 use native.Mathlib.Omega.{arith}
@@ -9,24 +9,27 @@ use lib.IntN.{ℤ}
 use lib.ListN.{drop, replicate}
 use borrow.Author.Tests.{ltb-true}
 use Rattle.base.specs.Bounded.{size}
+use Rattle.base.specs.Lists.{member}
 use Rattle.base.proofs.Bools.{bool-cases, and-left}
 use Rattle.base.proofs.Bounded.{size-beyond}
 use Rattle.nodeset.specs.Words.{has, wordsOf}
 use Rattle.nodeset.proofs.Sets.{zeros}
+use Rattle.model.specs.Graph.{holds}
 use Rattle.model.specs.Limits.{maxCount, maxNodes, maxSteps}
 use Rattle.model.specs.Paths as model
 use Rattle.model.specs.Paths.{along, endsOf}
 use Rattle.model.specs.Shapes.{within, subset, from, objects, starts, conforms}
-use Rattle.tables.specs.Layout.{nodeCount, linkCount, pathCount}
-use Rattle.tables.specs.Decode.{graphAt, pathAt, endAt, upperOf}
+use Rattle.tables.specs.Codes as codes
+use Rattle.tables.specs.Layout.{nodeCount, linkCount, pathCount, formCount, formCodeAt, formFirstAt, formSecondAt}
+use Rattle.tables.specs.Decode.{graphAt, itemsAt, pathAt, endAt, upperOf, entryAt}
 use Rattle.tables.specs.WellFormed as tables
 use Rattle.tables.specs.WellFormed.{upperOk}
 use Rattle.tables.proofs.WellFormed.{sound}
 use Rattle.plan.specs.Steps.{Step}
 use Rattle.plan.specs.Layout.{stepAt}
-use Rattle.plan.specs.Sets.{inStep}
-use Rattle.plan.specs.WellFormed.{stepOk}
-use Rattle.plancheck.proofs.Codes.{test-codes}
+use Rattle.plan.specs.Sets.{linksOf, inStep}
+use Rattle.plan.specs.WellFormed.{closedOk, stepOk}
+use Rattle.plancheck.proofs.Codes.{test-codes, closed-codes}
 use Rattle.paths.specs.Facts.{Tables}
 use Rattle.paths.specs.Ends.{endIn, endKnown}
 use Rattle.entries.specs.Tables.{endFor}
@@ -40,7 +43,7 @@ use Rattle.stepsets.proofs.Nodes.{nodes-ext, nodes-all, nodes-never}
 use Rattle.stepsets.proofs.Rows.{ends-low}
 use Rattle.stepsets.proofs.Targets.{picked-from, picked-into, picked-typed}
 use Rattle.runner.specs.declared.Kind.{Kind}
-use Rattle.runner.specs.declared.Kind.the-variants.{Whole, Empty, Node, Both, Either, Path, Ends, Lang, Facts}
+use Rattle.runner.specs.declared.Kind.the-variants.{Whole, Empty, Node, Both, Either, Path, Ends, Lang, Facts, Links}
 use Rattle.runner.specs.Kinds.{kindOf}
 use Rattle.runner.specs.Steps.{stepFrom}
 use Rattle.runner.proofs.Steps.{two-low}
@@ -58,6 +61,7 @@ module _ (cs : List ℕ) (vs : List ℤ) (ws : List ℕ) where
   kindSet (Ends condition end l) = nodesOf (λ v. holdsOf cs vs condition (starts (graphAt cs vs) (endIn cs end) v) (objects (graphAt cs vs) (l .0) v) v) (nodeCount cs)
   kindSet (Lang condition p) = nodesOf (λ v. holdsOf cs vs condition (from (graphAt cs vs) (pathAt cs p) v) (tagged cs) v) (nodeCount cs)
   kindSet (Facts target) = nodesOf (picked cs target) (nodeCount cs)
+  kindSet (Links condition e) = nodesOf (λ v. holdsOf cs vs condition (λ w. false) (λ l. member l (itemsAt cs (formFirstAt cs e) (formSecondAt cs e))) v) (nodeCount cs)
 
 -- what the calls require
 abbrev pub KindOk : List ℕ → Kind → Type 0
@@ -70,10 +74,11 @@ KindOk cs (Path condition p j) = (p < pathCount cs) × (j < 65536) × (condition
 KindOk cs (Ends condition end l) = (endKnown cs end ≡ true) × (conditionOk cs condition ≡ true)
 KindOk cs (Lang condition p) = (p < pathCount cs) × (conditionOk cs condition ≡ true)
 KindOk cs (Facts target) = Unit {0}
+KindOk cs (Links condition e) = (e < formCount cs) × (formCodeAt cs e ≡ codes.formClosed) × (conditionOk cs condition ≡ true)
 
 -- ---- a right step meets it
 module _ (cs : List ℕ) (k : ℕ) (low : k < maxSteps) where
-  -- two lower steps; a path entry and a lower step; a path entry as an END
+  -- two lower steps; a path entry and a lower step; a path entry as an END; a list of links
   lower : (i j : ℕ) → (ltb i k && ltb j k) ≡ true → (i < 65536) × (j < 65536)
   lower i j w = let l : (i < k) × (j < k) = two-low i j k k w in (omega arith, omega arith)
 
@@ -82,6 +87,10 @@ module _ (cs : List ℕ) (k : ℕ) (low : k < maxSteps) where
 
   an-end : (f l : ℕ) → (tables.endNumberOk cs f && ltb l (linkCount cs)) ≡ true → endKnown cs (endFor f) ≡ true
   an-end f l w = end-ok cs f (and-left (tables.endNumberOk cs f) (ltb l (linkCount cs)) w)
+
+  listing : (e : ℕ) → closedOk cs e ≡ true → (e < formCount cs) × (formCodeAt cs e ≡ codes.formClosed) × (true ≡ true)
+  unfolding closedOk
+  listing e w = (ltb-true e (formCount cs) (and-left (ltb e (formCount cs)) (holds (λ ps. true) (linksOf cs (entryAt cs [] e))) w), closed-codes cs e w, refl)
 
   pub kind-ok : (s : Step) → stepOk cs k s ≡ true → KindOk cs (kindOf s)
   unfolding kindOf stepOk conditionOk endKnown
@@ -99,8 +108,8 @@ module _ (cs : List ℕ) (k : ℕ) (low : k < maxSteps) where
   kind-ok (Step.unequal f l) w = (an-end f l w, refl)
   kind-ok (Step.apart f l) w = (an-end f l w, refl)
   kind-ok (Step.meet f l) w = (an-end f l w, refl)
-  kind-ok (Step.closed e) w = refl
-  kind-ok (Step.opened e) w = refl
+  kind-ok (Step.closed e) w = listing e w
+  kind-ok (Step.opened e) w = listing e w
   kind-ok (Step.less p l) w = (and-left (ltb p (pathCount cs)) (ltb l (linkCount cs)) w, refl)
   kind-ok (Step.notless p l) w = (and-left (ltb p (pathCount cs)) (ltb l (linkCount cs)) w, refl)
   kind-ok (Step.lesseq p l) w = (and-left (ltb p (pathCount cs)) (ltb l (linkCount cs)) w, refl)

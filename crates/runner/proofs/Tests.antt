@@ -4,10 +4,8 @@ use mathlib.Core.List.{List}
 use mathlib.Core.Option.{Option}
 use mathlib.Core.Bool.{true, true≢false}
 use mathlib.Core.Path.{_≡_, refl, sym, ap, _∙_}
-use lib.Dec.{eqb}
 use lib.IntN.{ℤ}
-use Rattle.base.specs.Bounded.{_⇒_}
-use Rattle.base.specs.Lists.{member, allb}
+use Rattle.base.specs.Lists.{member}
 use Rattle.model.specs.Graph.{holds}
 use Rattle.model.specs.Shapes.{Shape, satisfies, conforms, onlyListed}
 use Rattle.tables.specs.Layout.{formCodeAt, formFirstAt, formSecondAt, formThirdAt, formFourthAt, limitAt}
@@ -63,10 +61,10 @@ module _ (cs : List ℕ) (vs : List ℤ) where
     abbrev items : List ℕ
     items = itemsAt cs (formFirstAt cs e) (formSecondAt cs e)
 
-    pub opened-by : (v : ℕ) → someUnlisted (triplesAt cs) items v ≡ holds (λ ps. someUnlisted (graphAt cs vs .triples) ps v) (linksOf cs (entryAt cs vs e))
+    pub opened-by : (v : ℕ) → someUnlisted (triplesAt cs) (λ l. member l items) v ≡ holds (λ ps. someUnlisted (graphAt cs vs .triples) (λ l. member l ps) v) (linksOf cs (entryAt cs vs e))
     unfolding holds graphAt
-    opened-by v = sym (ap (holds (λ ps. someUnlisted (triplesAt cs) ps v)) links-of)
+    opened-by v = sym (ap (holds (λ ps. someUnlisted (triplesAt cs) (λ l. member l ps) v)) links-of)
 
-    pub closed-by : (v : ℕ) → onlyListed (triplesAt cs) items v ≡ holds (λ ps. allb (λ t. eqb (t .subject) v ⇒ member (t .predicate) ps) (graphAt cs vs .triples)) (linksOf cs (entryAt cs vs e))
+    pub closed-by : (v : ℕ) → onlyListed (triplesAt cs) (λ l. member l items) v ≡ holds (λ ps. onlyListed (graphAt cs vs .triples) (λ l. member l ps) v) (linksOf cs (entryAt cs vs e))
     unfolding holds graphAt
-    closed-by v = sym (ap (holds (λ ps. allb (λ t. eqb (t .subject) v ⇒ member (t .predicate) ps) (triplesAt cs))) links-of)
+    closed-by v = sym (ap (holds (λ ps. onlyListed (triplesAt cs) (λ l. member l ps) v)) links-of)

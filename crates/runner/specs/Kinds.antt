@@ -10,7 +10,7 @@ use Rattle.stepsets.specs.declared.Kept.the-variants.{RowsOf}
 use Rattle.stepsets.specs.declared.Condition.the-variants.{Is, IsNot, Test, Untest, Count, Every, Equal, Unequal, Apart, Meet, Less, NotLess, LessEq, NotLessEq, OneLang, ManyLang, Closed, Open}
 use Rattle.stepsets.specs.declared.Target.the-variants.{From, Into, Typed}
 use Rattle.runner.specs.declared.Kind.{Kind}
-use Rattle.runner.specs.declared.Kind.the-variants.{Whole, Empty, Node, Both, Either, Path, Ends, Lang, Facts}
+use Rattle.runner.specs.declared.Kind.the-variants.{Whole, Empty, Node, Both, Either, Path, Ends, Lang, Facts, Links}
 
 -- a number as that of a node, of a link
 abbrev pub node : ℕ → NodeNo
@@ -34,8 +34,8 @@ kindOf (Step.equal f l) = Ends Equal (endFor f) (link l)
 kindOf (Step.unequal f l) = Ends Unequal (endFor f) (link l)
 kindOf (Step.apart f l) = Ends Apart (endFor f) (link l)
 kindOf (Step.meet f l) = Ends Meet (endFor f) (link l)
-kindOf (Step.closed e) = Node (Closed e)
-kindOf (Step.opened e) = Node (Open e)
+kindOf (Step.closed e) = Links Closed e
+kindOf (Step.opened e) = Links Open e
 kindOf (Step.less p l) = Ends Less (End.Path p) (link l)
 kindOf (Step.notless p l) = Ends NotLess (End.Path p) (link l)
 kindOf (Step.lesseq p l) = Ends LessEq (End.Path p) (link l)
@@ -58,6 +58,7 @@ firstAfter (Path condition p j) kept = RowsOf (End.Path p)
 firstAfter (Ends condition end l) kept = RowsOf end
 firstAfter (Lang condition p) kept = RowsOf (End.Path p)
 firstAfter (Facts target) kept = kept
+firstAfter (Links condition e) kept = kept
 
 unfoldable pub secondAfter : Kind → Kept → Kept
 secondAfter Whole kept = kept
@@ -69,3 +70,4 @@ secondAfter (Path condition p j) kept = kept
 secondAfter (Ends condition end l) kept = RowsOf (End.Link l)
 secondAfter (Lang condition p) kept = kept
 secondAfter (Facts target) kept = kept
+secondAfter (Links condition e) kept = kept

@@ -33,6 +33,7 @@ use stepsets::either_set;
 use stepsets::ends_set;
 use stepsets::facts_set;
 use stepsets::lang_set;
+use stepsets::links_set;
 use stepsets::path_set;
 use stepsets::plain_set;
 use tables::layout::CELLS;
@@ -81,6 +82,7 @@ enum Kind {
     Ends(Condition, End, LinkNo),
     Lang(Condition, usize),
     Facts(Target),
+    Links(Condition, usize),
 }
 
 // What step k asks for, by its code.
@@ -110,8 +112,8 @@ fn step_kind(plan: &[u16], k: usize) -> Kind
         steps::UNEQUAL => Kind::Ends(Condition::Unequal, end, l),
         steps::APART => Kind::Ends(Condition::Apart, end, l),
         steps::MEET => Kind::Ends(Condition::Meet, end, l),
-        steps::CLOSED => Kind::Node(Condition::Closed(a)),
-        steps::OPEN => Kind::Node(Condition::Open(a)),
+        steps::CLOSED => Kind::Links(Condition::Closed, a),
+        steps::OPEN => Kind::Links(Condition::Open, a),
         steps::LESS => Kind::Ends(Condition::Less, End::Path(a), l),
         steps::NOTLESS => Kind::Ends(Condition::NotLess, End::Path(a), l),
         steps::LESSEQ => Kind::Ends(Condition::LessEq, End::Path(a), l),
@@ -139,6 +141,7 @@ fn first_after(kind: Kind, kept: Kept) -> Kept
         Kind::Ends(_, end, _) => Kept::RowsOf(end),
         Kind::Lang(_, p) => Kept::RowsOf(End::Path(p)),
         Kind::Facts(_) => kept,
+        Kind::Links(_, _) => kept,
     }
 }
 
@@ -155,6 +158,7 @@ fn second_after(kind: Kind, kept: Kept) -> Kept
         Kind::Ends(_, _, l) => Kept::RowsOf(End::Link(l)),
         Kind::Lang(_, _) => kept,
         Kind::Facts(_) => kept,
+        Kind::Links(_, _) => kept,
     }
 }
 
@@ -202,6 +206,7 @@ fn step_set(
         }
         Kind::Lang(condition, p) => lang_set(first, kept, condition, cells, index, values, p),
         Kind::Facts(target) => facts_set(target, cells, index),
+        Kind::Links(condition, e) => links_set(condition, cells, index, values, e),
     }
 }
 

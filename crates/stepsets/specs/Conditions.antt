@@ -1,5 +1,5 @@
--- What is asked of each node, over two sets that go with it: its ends, and the ends of a link, the set of a step or the nodes
--- that have a language. A line for each keeping and each breaking step, as plan/specs/Sets says the step.
+-- What is asked of each node, over two sets that go with it: its ends, and the ends of a link, the set of a step, the nodes
+-- that have a language or the links of a list. A line for each keeping and each breaking step, as plan/specs/Sets says the step.
 use Prim.Native.Nat.{ℕ}
 use mathlib.Core.List.{List}
 use mathlib.Core.Bool.{Bool, true, not, _&&_}
@@ -11,8 +11,8 @@ use Rattle.model.specs.Graph.{holds}
 use Rattle.model.specs.Shapes.{conforms, within, subset, noneShared, onlyListed, unlikeLangs, sameMembers, allLess, allLessEq}
 use Rattle.model.specs.Limits.{maxNodes}
 use Rattle.tables.specs.Codes as codes
-use Rattle.tables.specs.Layout.{nodeCount, kindAt, formCodeAt, formFirstAt, formSecondAt}
-use Rattle.tables.specs.Decode.{graphAt, termAt, triplesAt, itemsAt, entryAt, shapeAt, upperOf}
+use Rattle.tables.specs.Layout.{nodeCount, kindAt, formCodeAt}
+use Rattle.tables.specs.Decode.{graphAt, termAt, triplesAt, entryAt, shapeAt, upperOf}
 use Rattle.plan.specs.Conditions.{failsTest, notLess, notLessEq, someInOne, someShared, somePair, clash, someUnlisted}
 use Rattle.plan.specs.Sets.{testOf}
 use Rattle.stepsets.specs.declared.Condition.{Condition}
@@ -40,8 +40,8 @@ holdsOf cs vs LessEq a b v = allLessEq (termAt cs vs) (nodeCount cs) a b
 holdsOf cs vs NotLessEq a b v = somePair (nodeCount cs) a b (λ x y. notLessEq (termAt cs vs x) (termAt cs vs y))
 holdsOf cs vs OneLang a b v = unlikeLangs (termAt cs vs) (nodeCount cs) (λ w. a w && b w)
 holdsOf cs vs ManyLang a b v = somePair (nodeCount cs) (λ w. a w && b w) (λ w. a w && b w) (clash (termAt cs vs))
-holdsOf cs vs (Closed e) a b v = onlyListed (triplesAt cs) (itemsAt cs (formFirstAt cs e) (formSecondAt cs e)) v
-holdsOf cs vs (Open e) a b v = someUnlisted (triplesAt cs) (itemsAt cs (formFirstAt cs e) (formSecondAt cs e)) v
+holdsOf cs vs Closed a b v = onlyListed (triplesAt cs) b v
+holdsOf cs vs Open a b v = someUnlisted (triplesAt cs) b v
 
 -- node m has a language
 abbrev pub tagged : List ℕ → ℕ → Bool
@@ -65,5 +65,5 @@ conditionOk cs LessEq = true
 conditionOk cs NotLessEq = true
 conditionOk cs OneLang = true
 conditionOk cs ManyLang = true
-conditionOk cs (Closed e) = true
-conditionOk cs (Open e) = true
+conditionOk cs Closed = true
+conditionOk cs Open = true

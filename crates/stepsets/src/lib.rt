@@ -4,6 +4,7 @@
 // For the crate above, which shows that the tables and the step are well formed:
 //   nodes_where   the nodes of which a condition holds: one loop for all conditions
 //   plain_set     .. that looks at the node alone
+//   links_set     .. that looks at the links of a list
 //   path_set      .. on the ends of a path and the set of a step
 //   lang_set      .. on the ends of a path that have a language
 //   ends_set      .. on two end sets
@@ -22,6 +23,7 @@ use conditions::less_fails;
 use conditions::less_holds;
 use conditions::lesseq_fails;
 use conditions::lesseq_holds;
+use conditions::listed_links;
 use conditions::onelang_fails;
 use conditions::onelang_holds;
 use conditions::subset_holds;
@@ -40,7 +42,6 @@ use rows::all_table_ends;
 use tables::reads::node_count;
 use tables::reads::object;
 use tables::reads::subject;
-use tables::reads::wide;
 ghost use mathlib.Core.Path.{_≡_};
 ghost use mathlib.Core.Bool.{true, false, cond, _&&_, _||_};
 ghost use Prim.Native.Nat.{_*_, _<_};
@@ -48,8 +49,10 @@ ghost use lib.ListN.{drop};
 ghost use Rattle.nodeset.specs.Words.{has};
 ghost use Rattle.model.specs.Shapes.{from, objects, starts};
 ghost use Rattle.model.specs.Limits.{maxNodes};
-ghost use Rattle.tables.specs.Layout.{nodeCount, pathCount};
-ghost use Rattle.tables.specs.Decode.{graphAt, pathAt};
+ghost use Rattle.base.specs.Lists.{member};
+ghost use Rattle.tables.specs.Codes as codes;
+ghost use Rattle.tables.specs.Layout.{nodeCount, pathCount, formCount, formCodeAt, formFirstAt, formSecondAt};
+ghost use Rattle.tables.specs.Decode.{graphAt, itemsAt, pathAt};
 ghost use Rattle.paths.specs.Facts.{Tables};
 ghost use Rattle.paths.specs.Ends.{endIn, endKnown};
 ghost use Rattle.stepsets.specs.Conditions.{nodesOf, holdsOf, tagged, conditionOk};
@@ -64,7 +67,7 @@ pub enum Kept {
 
 // What is asked of each node, a case for each keeping and each breaking step: whether it is a node; whether it meets the test of a
 // form entry; how many of its ends are in a set, and that all are; whether two end sets are equal, are apart, whether each pair is
-// less, or at most; whether no two ends in a set have the same language; whether each fact out of it has a link that a form entry lists.
+// less, or at most; whether no two ends in a set have the same language; whether each fact out of it has a listed link.
 pub enum Condition {
     Is(NodeNo),
     IsNot(NodeNo),
@@ -82,8 +85,8 @@ pub enum Condition {
     NotLessEq,
     OneLang,
     ManyLang,
-    Closed(usize),
-    Open(usize),
+    Closed,
+    Open,
 }
 
 // The target of a rule, as its facts select nodes: subjects, objects of a link; subjects that the link `a` leads to a node.
@@ -101,15 +104,15 @@ fn condition_holds(
     values: &[i64],
     a: &[u64],
     b: &[u64],
-    v: usize,
+    v: NodeNo,
 ) -> bool
-    requires { ⌜ Tables (now cells) (now index) × (v < nodeCount (now cells)) × (conditionOk (now cells) condition ≡ true) ⌝ }
-    ensures { λ r. ⌜ r ≡ holdsOf (now (cells .entry)) (now (values .entry)) condition (has (now (a .entry))) (has (now (b .entry))) v ⌝ }
+    requires { ⌜ Tables (now cells) (now index) × (v .0 < nodeCount (now cells)) × (conditionOk (now cells) condition ≡ true) ⌝ }
+    ensures { λ r. ⌜ r ≡ holdsOf (now (cells .entry)) (now (values .entry)) condition (has (now (a .entry))) (has (now (b .entry))) (v .0) ⌝ }
 {
     let n = node_count(cells);
     match condition {
-        Condition::Is(c) => v == wide(c.0),
-        Condition::IsNot(c) => v != wide(c.0),
+        Condition::Is(c) => v.0 == c.0,
+        Condition::IsNot(c) => v.0 != c.0,
         Condition::Test(e) => test_holds(cells, values, e, v),
         Condition::Untest(e) => test_fails(cells, values, e, v),
         Condition::Count(lo, hi) => between(lo, hi, count_both(a, b)),
@@ -124,8 +127,8 @@ fn condition_holds(
         Condition::NotLessEq => lesseq_fails(cells, values, a, b),
         Condition::OneLang => onelang_holds(cells, a, b),
         Condition::ManyLang => onelang_fails(cells, a, b),
-        Condition::Closed(e) => closed_holds(cells, index, e, v),
-        Condition::Open(e) => closed_fails(cells, index, e, v),
+        Condition::Closed => closed_holds(cells, index, b, v),
+        Condition::Open => closed_fails(cells, index, b, v),
     }
 }
 
@@ -141,11 +144,11 @@ fn part(words: &[u64], at: usize) -> &[u64]
 }
 
 // Where the set that goes with node v begins: a row for each node, or one set for all.
-fn place(each: bool, v: usize) -> usize
-    requires { ⌜ v < maxNodes ⌝ }
-    ensures { λ r. ⌜ r ≡ cond each (16 * v) 0 ⌝ }
+fn place(each: bool, v: NodeNo) -> usize
+    requires { ⌜ v .0 < maxNodes ⌝ }
+    ensures { λ r. ⌜ r ≡ cond each (16 * (v .0)) 0 ⌝ }
 {
-    if each { 16 * v } else { 0 }
+    if each { 16 * (v.0 as usize) } else { 0 }
 }
 
 // The nodes of which the condition holds. first has a row for each node, second one where each.
@@ -163,8 +166,9 @@ fn nodes_where(
 {
     let n = node_count(cells);
     let mut words = [0u64; 16];
-    for v in 0..n {
-        let a = part(first, 16 * v);
+    for x in 0..n {
+        let v = NodeNo(x as u16);
+        let a = part(first, 16 * x);
         let b = part(second, place(each, v));
         let yes = condition_holds(condition, cells, index, values, a, b, v);
         insert_if(&mut words, v, yes);
@@ -179,6 +183,23 @@ pub fn plain_set(condition: Condition, cells: &[u16], index: &[u16], values: &[i
 {
     let none = [0u64; 16];
     nodes_where(condition, cells, index, values, &none, &none, false)
+}
+
+// A condition on the links that form entry e lists.
+pub fn links_set(
+    condition: Condition,
+    cells: &[u16],
+    index: &[u16],
+    values: &[i64],
+    e: usize,
+) -> NodeSet
+    requires { ⌜ Tables (now cells) (now index) × (e < formCount (now cells)) × (formCodeAt (now cells) e ≡ codes.formClosed) × (conditionOk (now cells) condition ≡ true) ⌝ }
+    ensures { λ r. ⌜ r .words ≡ nodesOf (λ v. holdsOf (now (cells .entry)) (now (values .entry)) condition (λ w. false) (λ l. member l (itemsAt (now (cells .entry)) (formFirstAt (now (cells .entry)) e) (formSecondAt (now (cells .entry)) e))) v) (nodeCount (now (cells .entry))) ⌝ }
+{
+    let none = [0u64; 16];
+    let links = listed_links(cells, e);
+    let words = links.words;
+    nodes_where(condition, cells, index, values, &none, &words, false)
 }
 
 // Two ends are the same.
@@ -304,13 +325,13 @@ pub fn ends_set(
 }
 
 // The node that fact i picks, where it picks one.
-fn node_of(target: Target, cells: &[u16], i: usize) -> usize
-    ensures { λ r. ⌜ r ≡ nodeOf (now (cells .entry)) target i ⌝ }
+fn node_of(target: Target, cells: &[u16], i: usize) -> NodeNo
+    ensures { λ r. ⌜ r .0 ≡ nodeOf (now (cells .entry)) target i ⌝ }
 {
     match target {
-        Target::From(_) => wide(subject(cells, i).0),
-        Target::Into(_) => wide(object(cells, i).0),
-        Target::Typed(_) => wide(subject(cells, i).0),
+        Target::From(_) => subject(cells, i),
+        Target::Into(_) => object(cells, i),
+        Target::Typed(_) => subject(cells, i),
     }
 }
 

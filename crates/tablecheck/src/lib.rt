@@ -1,5 +1,6 @@
 // Refusal 9: whether tables that somebody lends are well formed. Operations: well_formed; it takes any content of any length,
 // and reads some fifty thousand cells at the most.
+use model::NodeNo;
 use tables::codes;
 use tables::layout::NO_NUMBER;
 use tables::layout::OBJECTS;
@@ -40,8 +41,8 @@ fn counts_ok(cells: &[u16]) -> bool
                                         & (reads::rule_count(cells) <= model::MAX_RULES)))))))))
 }
 
-fn node_ok(cells: &[u16], v: usize) -> bool
-    ensures { λ r. ⌜ r ≡ nodeOk (now (cells .entry)) v ⌝ }
+fn node_ok(cells: &[u16], v: NodeNo) -> bool
+    ensures { λ r. ⌜ r ≡ nodeOk (now (cells .entry)) (v .0) ⌝ }
 {
     match reads::node_kind(cells, v) {
         codes::NODE_THING | codes::NODE_BLANK => true,
@@ -60,7 +61,7 @@ fn nodes_ok(cells: &[u16]) -> bool
     let n = reads::node_count(cells);
     let mut ok = true;
     for v in 0..n {
-        ok = ok & node_ok(cells, v);
+        ok = ok & node_ok(cells, NodeNo(v as u16));
     }
     ok
 }

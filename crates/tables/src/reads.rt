@@ -107,22 +107,22 @@ pub fn rule_count(cells: &[u16]) -> usize
 }
 
 // Node v: its kind's code, its datatype, its language.
-pub fn node_kind(cells: &[u16], v: usize) -> u16
-    ensures { λ r. ⌜ r ≡ kindAt (now (cells .entry)) v ⌝ }
+pub fn node_kind(cells: &[u16], v: NodeNo) -> u16
+    ensures { λ r. ⌜ r ≡ kindAt (now (cells .entry)) (v .0) ⌝ }
 {
-    cell_at(cells, NODE_KINDS, v)
+    cell_at(cells, NODE_KINDS, v.0 as usize)
 }
 
-pub fn node_type(cells: &[u16], v: usize) -> u16
-    ensures { λ r. ⌜ r ≡ typeAt (now (cells .entry)) v ⌝ }
+pub fn node_type(cells: &[u16], v: NodeNo) -> u16
+    ensures { λ r. ⌜ r ≡ typeAt (now (cells .entry)) (v .0) ⌝ }
 {
-    cell_at(cells, NODE_TYPES, v)
+    cell_at(cells, NODE_TYPES, v.0 as usize)
 }
 
-pub fn node_lang(cells: &[u16], v: usize) -> u16
-    ensures { λ r. ⌜ r ≡ langAt (now (cells .entry)) v ⌝ }
+pub fn node_lang(cells: &[u16], v: NodeNo) -> u16
+    ensures { λ r. ⌜ r ≡ langAt (now (cells .entry)) (v .0) ⌝ }
 {
-    cell_at(cells, NODE_LANGS, v)
+    cell_at(cells, NODE_LANGS, v.0 as usize)
 }
 
 // Triple i.
@@ -258,10 +258,11 @@ pub fn rule_link(cells: &[u16], k: usize) -> LinkNo
 }
 
 // The number of node v, and V of form entry e.
-pub fn number(values: &[i64], v: usize) -> i64
-    ensures { λ r. ⌜ r ≡ numberAt (now (values .entry)) v ⌝ }
+pub fn number(values: &[i64], v: NodeNo) -> i64
+    ensures { λ r. ⌜ r ≡ numberAt (now (values .entry)) (v .0) ⌝ }
 {
-    if v < values.len() { values[v] } else { 0 }
+    let i = v.0 as usize;
+    if i < values.len() { values[i] } else { 0 }
 }
 
 pub fn limit(values: &[i64], e: usize) -> i64

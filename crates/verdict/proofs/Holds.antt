@@ -9,6 +9,7 @@ use lib.IntN.{ℤ}
 use lib.ListN.{List·getD-eq-default}
 use borrow.Author.Tests.{leb-true, leb-false}
 use Rattle.base.specs.Bounded.{_⇒_, every, size}
+use Rattle.base.specs.Lists.{member}
 use Rattle.base.proofs.Bools.{bool-cases, never-both}
 use Rattle.base.proofs.Bounded.{every-ext, size-ext}
 use Rattle.nodeset.specs.Words.{has, wordsOf}
@@ -66,7 +67,7 @@ module _ {cs index : List ℕ} {vs : List ℤ} {memo : List ℕ} {e v : ℕ} (k 
   unfolding entryOf shapeOf conforms
   holds-is q c h = ap (eqb v) h ∙ means 1 q
 
-  pub holds-closed : formCodeAt cs e ≡ 17 → onlyListed (triplesAt cs) (itemsAt cs (formFirstAt cs e) (formSecondAt cs e)) v ≡ holds
+  pub holds-closed : formCodeAt cs e ≡ 17 → onlyListed (triplesAt cs) (λ l. member l (itemsAt cs (formFirstAt cs e) (formSecondAt cs e))) v ≡ holds
   unfolding entryOf shapeOf conforms graphAt
   holds-closed q = means 17 q
 

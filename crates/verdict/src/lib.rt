@@ -6,7 +6,6 @@
 // what is known is kept. Few nodes are decided one by one, each from its own ends; many from the ends of all nodes at once. Of
 // entry e, the nodes that conform stand from word 32 * e of the memo on, and those that do not from word 32 * e + 16 on.
 use base::pick;
-use conditions::closed_holds;
 use conditions::insert_if;
 use conditions::test_holds;
 use entries::all_holds;
@@ -14,9 +13,11 @@ use entries::count_holds;
 use entries::end_at;
 use entries::ends_from;
 use entries::lang_holds;
+use entries::links_hold;
 use entries::sets_hold;
 use model::MAX_FORMS;
 use model::MAX_NODES;
+use model::NodeNo;
 use model::Refusal;
 use nodeset::NodeSet;
 use nodeset::insert;
@@ -71,19 +72,20 @@ const MEMO_WORDS: usize = 32 * MAX_FORMS;
 const ROWS_WORDS: usize = 16 * MAX_NODES;
 
 // Node v is known to conform to entry e.
-fn known(memo: &[u64], e: usize, v: usize) -> bool
-    requires { ⌜ (e < maxForms) × (v < maxNodes) ⌝ }
-    ensures { λ r. ⌜ r ≡ has (now (memo .entry)) (yesPlace e v) ⌝ }
+fn known(memo: &[u64], e: usize, v: NodeNo) -> bool
+    requires { ⌜ (e < maxForms) × (v .0 < maxNodes) ⌝ }
+    ensures { λ r. ⌜ r ≡ has (now (memo .entry)) (yesPlace e (v .0)) ⌝ }
 {
-    test(memo, 32 * e * 64 + v)
+    test(memo, 32 * e * 64 + v.0 as usize)
 }
 
 // Whether node v conforms to entry e is known from now on.
-fn remember(memo: &mut [u64], e: usize, v: usize, yes: bool)
-    requires { ⌜ (e < maxForms) × (v < maxNodes) ⌝ }
-    ensures { λ _. ⌜ now (memo .exit) ≡ with (now (memo .entry)) (cond yes (yesPlace e v) (noPlace e v)) ⌝ }
+fn remember(memo: &mut [u64], e: usize, v: NodeNo, yes: bool)
+    requires { ⌜ (e < maxForms) × (v .0 < maxNodes) ⌝ }
+    ensures { λ _. ⌜ now (memo .exit) ≡ with (now (memo .entry)) (cond yes (yesPlace e (v .0)) (noPlace e (v .0))) ⌝ }
 {
-    insert(memo, pick(yes, 32 * e * 64 + v, (32 * e + 16) * 64 + v));
+    let x = v.0 as usize;
+    insert(memo, pick(yes, 32 * e * 64 + x, (32 * e + 16) * 64 + x));
 }
 
 // The sixteen words from a word of the memo on.
@@ -166,10 +168,10 @@ fn entry_holds(
     index: &[u16],
     values: &[i64],
     e: usize,
-    v: usize,
+    v: NodeNo,
 ) -> bool
-    requires { ⌜ Enough (now cells) (now index) (now values) (now memo) e v ⌝ }
-    ensures { λ r. ⌜ r ≡ conforms (graphAt (now (cells .entry)) (now (values .entry))) (shapeAt (now (cells .entry)) (now (values .entry)) e) v ⌝ }
+    requires { ⌜ Enough (now cells) (now index) (now values) (now memo) e (v .0) ⌝ }
+    ensures { λ r. ⌜ r ≡ conforms (graphAt (now (cells .entry)) (now (values .entry))) (shapeAt (now (cells .entry)) (now (values .entry)) e) (v .0) ⌝ }
 {
     let a = first_part(cells, e);
     let b = second_part(cells, e);
@@ -177,7 +179,7 @@ fn entry_holds(
         codes::FORM_TRUE => true,
         codes::FORM_IS => {
             let node = form_node(cells, e);
-            v == wide(node.0)
+            v.0 == node.0
         }
         codes::FORM_SHAPE => known(memo, a, v),
         codes::FORM_AND => known(memo, a, v) & known(memo, b, v),
@@ -193,7 +195,7 @@ fn entry_holds(
             let words = part.words;
             all_holds(cells, index, e, v, &words)
         }
-        codes::FORM_CLOSED => closed_holds(cells, index, e, v),
+        codes::FORM_CLOSED => links_hold(cells, index, e, v),
         codes::FORM_ONELANG => lang_holds(cells, index, values, e, v),
         codes::FORM_KIND..=codes::FORM_BELOW => test_holds(cells, values, e, v),
         _ => sets_hold(cells, index, values, e, v),
@@ -273,11 +275,12 @@ fn set_among(
     let n = node_count(cells);
     let among = nodes.words;
     let mut words = [0u64; 16];
-    let mut v = next_member(&among, 0, n);
-    while v < n {
+    let mut x = next_member(&among, 0, n);
+    while x < n {
+        let v = NodeNo(x as u16);
         let yes = entry_holds(memo, cells, index, values, e, v);
         insert_if(&mut words, v, yes);
-        v = next_member(&among, v + 1, n);
+        x = next_member(&among, x + 1, n);
     }
     NodeSet { words }
 }
@@ -313,10 +316,10 @@ fn fill(memo: &mut [u64], e: usize, nodes: NodeSet, cells: &[u16], index: &[u16]
     let yes = set.words;
     let words = nodes.words;
     let n = node_count(cells);
-    let mut v = next_member(&words, 0, n);
-    while v < n {
-        remember(memo, e, v, test(&yes, v));
-        v = next_member(&words, v + 1, n);
+    let mut x = next_member(&words, 0, n);
+    while x < n {
+        remember(memo, e, NodeNo(x as u16), test(&yes, x));
+        x = next_member(&words, x + 1, n);
     }
 }
 
@@ -348,16 +351,16 @@ fn settle(memo: &mut [u64], e: usize, want: NodeSet, cells: &[u16], index: &[u16
 }
 
 // Node v conforms to entry e.
-fn conforming(cells: &[u16], values: &[i64], e: usize, v: usize) -> bool
-    requires { ⌜ (cellCount ≤ length (now cells)) × (wellFormed (now cells) ≡ true) × (e < formCount (now cells)) × (v < nodeCount (now cells)) ⌝ }
-    ensures { λ r. ⌜ r ≡ conforms (graphAt (now (cells .entry)) (now (values .entry))) (shapeAt (now (cells .entry)) (now (values .entry)) e) v ⌝ }
+fn conforming(cells: &[u16], values: &[i64], e: usize, v: NodeNo) -> bool
+    requires { ⌜ (cellCount ≤ length (now cells)) × (wellFormed (now cells) ≡ true) × (e < formCount (now cells)) × (v .0 < nodeCount (now cells)) ⌝ }
+    ensures { λ r. ⌜ r ≡ conforms (graphAt (now (cells .entry)) (now (values .entry))) (shapeAt (now (cells .entry)) (now (values .entry)) e) (v .0) ⌝ }
 {
     // the chains of the facts, made once
     let mut index = [0u16; INDEX_CELLS];
     index_table(&mut index, cells);
     let mut memo = [0u64; MEMO_WORDS];
     let none = NodeSet::EMPTY;
-    settle(&mut memo, e, none.with(v), cells, &index, values);
+    settle(&mut memo, e, none.with(v.0 as usize), cells, &index, values);
     known(&memo, e, v)
 }
 
@@ -387,7 +390,7 @@ fn answer_on(cells: &[u16], values: &[i64], node: usize, shape: usize) -> Judged
     if !there {
         return Judged::Refused(Refusal::Absent);
     }
-    if !conforming(cells, values, root(cells, shape), node) {
+    if !conforming(cells, values, root(cells, shape), NodeNo(node as u16)) {
         return Judged::No;
     }
     Judged::Yes

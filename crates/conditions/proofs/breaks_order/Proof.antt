@@ -1,5 +1,4 @@
 -- `breaks_order` meets its contract: by what each of the two has, and by the order.
-use Prim.Native.Nat.{ℕ}
 use mathlib.Core.Bool.{true, false, not, _||_}
 use mathlib.Core.Path.{_≡_, refl, sym, ap, _∙_}
 use lib.Dec.{eqb}
@@ -16,19 +15,16 @@ use Rattle.conditions.proofs.breaks_order.Tie as tie
 returns : tie.Need-returns
 returns c = search needs
 
-wide-requires : tie.Need-wide-requires
-wide-requires c κs = search needs
-
 has-number-requires : tie.Need-has-number-requires
 has-number-requires c κs = search needs
 
 returns-2 : tie.Need-returns-2
 returns-2 c =
-    let a = c .before .before .before .before .before .args in
+    let a = c .before .before .before .before .args in
     let cs = a .cells .now in
     let vs = a .values .now in
-    let kn : a .known ≡ true = not-false (a .known) (c .before .before .before .if1 .left) in
-    let h : eqb (kindAt cs (a .y .0)) 2 ≡ false = sym (c .before .has-number .ensures ∙ ap (λ (k : ℕ). eqb (kindAt cs k) 2) (c .before .before .wide .ensures)) ∙ not-true (c .before .has-number .result) (c .if2 .taken) in
+    let kn : a .known ≡ true = not-false (a .known) (c .before .before .if1 .left) in
+    let h : eqb (kindAt cs (a .y .0)) 2 ≡ false = sym (c .before .has-number .ensures) ∙ not-true (c .before .has-number .result) (c .if2 .taken) in
     sym (λ i. not (kn i) || (not (h i) || comesBack (a .order) (a .value) (numberAt vs (a .y .0))))
 
 enum-told : tie.Need-enum-told
@@ -46,24 +42,24 @@ number-requires-2 c κs = search needs
 returns-3 : tie.Need-returns-3
 unfolding comesBack
 returns-3 c =
-    let a = c .before .before .before .before .before .before .before .before .args in
+    let a = c .before .before .before .before .before .before .before .args in
     let cs = a .cells .now in
     let vs = a .values .now in
-    let kn : a .known ≡ true = not-false (a .known) (c .before .before .before .before .before .before .if1 .left) in
-    let h : eqb (kindAt cs (a .y .0)) 2 ≡ true = sym (c .before .before .before .before .has-number .ensures ∙ ap (λ (k : ℕ). eqb (kindAt cs k) 2) (c .before .before .before .before .before .wide .ensures)) ∙ not-false (c .before .before .before .before .has-number .result) (c .before .before .before .if2 .left) in
-    (λ i. leZ (read-back (c .number .result) (c .number .ok) (c .number .ensures ∙ ap (numberAt vs) (c .before .before .before .before .before .wide .ensures)) i) (read-back (a .value) (c .before .before .before .before .before .before .before .before .fits .value .sfits) refl i))
+    let kn : a .known ≡ true = not-false (a .known) (c .before .before .before .before .before .if1 .left) in
+    let h : eqb (kindAt cs (a .y .0)) 2 ≡ true = sym (c .before .before .before .before .has-number .ensures) ∙ not-false (c .before .before .before .before .has-number .result) (c .before .before .before .if2 .left) in
+    (λ i. leZ (read-back (c .number .result) (c .number .ok) (c .number .ensures) i) (read-back (a .value) (c .before .before .before .before .before .before .before .fits .value .sfits) refl i))
     ∙ sym (λ i. not (kn i) || (not (h i) || leZ (numberAt vs (a .y .0)) (a .value)))
     ∙ ap (λ (o : Order). not (a .known) || (not (eqb (kindAt cs (a .y .0)) 2) || comesBack o (a .value) (numberAt vs (a .y .0)))) (sym (c .before .enum-told .given .1))
 
 returns-4 : tie.Need-returns-4
 unfolding comesBack
 returns-4 c =
-    let a = c .before .before .before .before .before .before .before .before .args in
+    let a = c .before .before .before .before .before .before .before .args in
     let cs = a .cells .now in
     let vs = a .values .now in
-    let kn : a .known ≡ true = not-false (a .known) (c .before .before .before .before .before .before .if1 .left) in
-    let h : eqb (kindAt cs (a .y .0)) 2 ≡ true = sym (c .before .before .before .before .has-number .ensures ∙ ap (λ (k : ℕ). eqb (kindAt cs k) 2) (c .before .before .before .before .before .wide .ensures)) ∙ not-false (c .before .before .before .before .has-number .result) (c .before .before .before .if2 .left) in
-    (λ i. ltZ (read-back (c .number2 .result) (c .number2 .ok) (c .number2 .ensures ∙ ap (numberAt vs) (c .before .before .before .before .before .wide .ensures)) i) (read-back (a .value) (c .before .before .before .before .before .before .before .before .fits .value .sfits) refl i))
+    let kn : a .known ≡ true = not-false (a .known) (c .before .before .before .before .before .if1 .left) in
+    let h : eqb (kindAt cs (a .y .0)) 2 ≡ true = sym (c .before .before .before .before .has-number .ensures) ∙ not-false (c .before .before .before .before .has-number .result) (c .before .before .before .if2 .left) in
+    (λ i. ltZ (read-back (c .number2 .result) (c .number2 .ok) (c .number2 .ensures) i) (read-back (a .value) (c .before .before .before .before .before .before .before .fits .value .sfits) refl i))
     ∙ sym (λ i. not (kn i) || (not (h i) || ltZ (numberAt vs (a .y .0)) (a .value)))
     ∙ ap (λ (o : Order). not (a .known) || (not (eqb (kindAt cs (a .y .0)) 2) || comesBack o (a .value) (numberAt vs (a .y .0)))) (sym (c .before .enum-told2 .given .1))
 
@@ -72,7 +68,6 @@ breaks-order-spec =
     tie.close
     (tie.spec
     returns
-    wide-requires
     has-number-requires
     returns-2
     enum-told

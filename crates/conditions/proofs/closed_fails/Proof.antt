@@ -1,8 +1,7 @@
 -- `closed_fails` meets its contract: something is found where some fact out of v has no listed link.
 use mathlib.Core.Path.{ap, _∙_}
 use Rattle.conditions.specs.Searches.{found}
-use Rattle.tables.specs.Layout.{formFirstAt, formSecondAt}
-use Rattle.tables.specs.Decode.{itemsAt}
+use Rattle.nodeset.specs.Words.{has}
 use Rattle.conditions.proofs.Items.{unlisted-breaks}
 use borrow.Author.Needs.{needs}
 use Rattle.conditions.proofs.closed_fails.Statement.{statement}
@@ -15,7 +14,7 @@ some-fact-requires : tie.Need-some-fact-requires
 some-fact-requires c κs = search needs
 
 returns : tie.Need-returns
-returns c = let a = c .before .before .before .before .args in let cs = a .cells .now in c .some-fact .ensures ∙ ap found (c .before .first-unlisted .ensures) ∙ unlisted-breaks cs (itemsAt cs (formFirstAt cs (a .e)) (formSecondAt cs (a .e))) (a .v)
+returns c = let a = c .before .before .before .before .before .args in let cs = a .cells .now in c .some-fact .ensures ∙ ap found (c .before .first-unlisted .ensures) ∙ unlisted-breaks cs (has (a .links .now)) (a .v .0)
 
 pub closed-fails-spec : {M : Type 1} → statement M
 closed-fails-spec = tie.close (tie.spec first-unlisted-requires some-fact-requires returns)

@@ -11,7 +11,7 @@ node-type-requires : tie.Need-node-type-requires
 node-type-requires c κs = search needs
 
 returns : tie.Need-returns
-returns c = λ vs. let a = c .before .before .before .args in datatype-test (a .cells .now) vs (a .v) (c .before .before .before .pre) (a .t) (c .before .node-kind .result) (c .node-type .result) (c .before .node-kind .ensures) (c .node-type .ensures)
+returns c = λ vs. let a = c .before .before .before .args in datatype-test (a .cells .now) vs (a .v .0) (c .before .before .before .pre) (a .t) (c .before .node-kind .result) (c .node-type .result) (c .before .node-kind .ensures) (c .node-type .ensures)
 
 pub datatype-holds-spec : {M : Type 1} → statement M
 datatype-holds-spec = tie.close (tie.spec node-kind-requires node-type-requires returns)

@@ -11,6 +11,7 @@ use borrow.Author.Needs.{needs}
 use Rattle.base.specs.Bounded.{every}
 use Rattle.base.proofs.Bounded.{every-more}
 use Rattle.nodeset.specs.Words.{has}
+use Rattle.model.specs.Limits.{maxNodes}
 use Rattle.tables.specs.Layout.{nodeCount, kindAt, numberAt}
 use Rattle.tables.specs.Decode.{termAt}
 use Rattle.conditions.specs.Pairs.{unordered, comesBack}
@@ -24,10 +25,10 @@ use Rattle.conditions.proofs.first_unordered.Statement.{statement}
 use Rattle.conditions.proofs.first_unordered.Tie as tie
 
 abbrev Inv-loop : tie.InvT-loop
-Inv-loop order cells values a b n answer₀ x seconds count known value k₀ answer k = (answer ≡ NoPair) × (k ≤ count) × (passedBy (λ x y. unordered order (termAt cells values x) (termAt cells values y)) x seconds k ≡ true)
+Inv-loop order cells values a b n answer₀ x seconds count first known value k₀ answer k = (answer ≡ NoPair) × (k ≤ count) × (passedBy (λ x y. unordered order (termAt cells values x) (termAt cells values y)) x seconds k ≡ true)
 
 abbrev μ-loop : tie.MeasureT-loop
-μ-loop order cells values a b n answer₀ x seconds count known value k₀ answer k = count - k
+μ-loop order cells values a b n answer₀ x seconds count first known value k₀ answer k = count - k
 
 abbrev Inv-search : tie.InvT-search
 Inv-search order cells values a b n answer₀ x₀ seconds count answer x = (answer ≡ NoPair) × (n ≡ nodeCount cells) × Listed (has b) n seconds count × Passed (has a) (quiet (has b) (λ x y. unordered order (termAt cells values x) (termAt cells values y)) n) n x
@@ -54,7 +55,7 @@ slice-aggregate-gather : tie.Need-slice-aggregate-gather Inv-loop μ-loop Inv-se
 slice-aggregate-gather c = search needs
 
 gather-requires : tie.Need-gather-requires Inv-loop μ-loop Inv-search μ-search
-gather-requires c κs = (omega (arith, c .before .before .before .node-count .ensures, c .before .before .before .before .before .before .before .pre), omega (arith, length-replicate {A = ℕ} 1024 0))
+gather-requires c κs = (omega (arith, c .before .before .before .node-count .ensures, c .before .before .before .before .before .before .before .pre), omega (arith, length-replicate {A = ℕ} maxNodes 0))
 
 search-holds : tie.Need-search-holds Inv-loop μ-loop Inv-search μ-search
 search-holds c =
@@ -64,6 +65,9 @@ search-holds c =
     let f : ℕ → ℕ → Bool = λ x y. unordered (a .order) (termAt cs vs x) (termAt cs vs y) in
     let n = c .before .before .before .before .before .node-count .result in
     (refl, c .before .before .before .before .before .node-count .ensures, listed-once (c .before .gather .ensures), passed-none (has (a .a .now)) (quiet (has (a .b .now)) f n) n (c .before .before .before .before .next-member .ensures))
+
+cast-t20 : tie.Need-cast-t20 Inv-loop μ-loop Inv-search μ-search
+cast-t20 c = omega (arith, c .search-test, c .before .search .inv .1, c .before .before .before .before .before .before .before .before .before .before .before .pre)
 
 has-number-requires : tie.Need-has-number-requires Inv-loop μ-loop Inv-search μ-search
 has-number-requires c κs = search needs
@@ -76,14 +80,14 @@ unfolding every
 loop-holds c = (c .before .before .before .search .inv .0, omega arith, refl)
 
 -- there is room for the seconds
-room : (c : tie.In-loop Inv-loop μ-loop Inv-search μ-search) → c .before .loop .k < 1024
+room : (c : tie.In-loop Inv-loop μ-loop Inv-search μ-search) → c .before .loop .k < maxNodes
 room c = omega (arith, c .loop-test, c .before .before .before .before .before .search .inv .1, c .before .before .before .before .before .search .inv .2 .few, c .before .before .before .before .before .before .before .before .before .before .before .before .before .before .before .pre)
 
-mul-t20 : tie.Need-mul-t20 Inv-loop μ-loop Inv-search μ-search
-mul-t20 c = omega (arith, room c)
+mul-t22 : tie.Need-mul-t22 Inv-loop μ-loop Inv-search μ-search
+mul-t22 c = omega (arith, room c)
 
-array-read-t23 : tie.Need-array-read-t23 Inv-loop μ-loop Inv-search μ-search
-array-read-t23 c = room c
+array-read-t25 : tie.Need-array-read-t25 Inv-loop μ-loop Inv-search μ-search
+array-read-t25 c = room c
 
 breaks-order-requires : tie.Need-breaks-order-requires Inv-loop μ-loop Inv-search μ-search
 breaks-order-requires c κs = search needs
@@ -101,9 +105,6 @@ told c =
     c .breaks-order .ensures
     ∙ (λ j. not (c .before .before .before .before .has-number .ensures j) || (not (eqb (kindAt cs y) 2) || comesBack (a .order) (read-back (c .before .before .before .number .result) (c .before .before .before .number .ok) (c .before .before .before .number .ensures) j) (numberAt vs y)))
     ∙ order-test cs vs (c .before .before .before .before .before .before .search .x) y (omega (arith, c .before .before .before .before .before .search-test, i .1)) (omega (arith, i .1, i .2 .inside (c .before .before .loop .k) (c .before .loop-test .taken) .0)) (a .order)
-
-node-requires : tie.Need-node-requires Inv-loop μ-loop Inv-search μ-search
-node-requires c κs = omega (arith, c .before .before .before .before .before .before .search-test, c .before .before .before .before .before .before .before .search .inv .1, c .before .before .before .before .before .before .before .before .before .before .before .before .before .before .before .before .before .pre)
 
 add-k : tie.Need-add-k Inv-loop μ-loop Inv-search μ-search
 add-k c = search needs
@@ -153,16 +154,15 @@ returns-2 c =
 
 returns-3 : tie.Need-returns-3 Inv-loop μ-loop Inv-search μ-search
 returns-3 c =
-    let a = c .before .before .before .before .before .before .before .before .before .before .before .before .before .before .before .before .before .before .args in
+    let a = c .before .before .before .before .before .before .before .before .before .before .before .before .before .before .before .before .before .args in
     let cs = a .cells .now in
     let vs = a .values .now in
     let f : ℕ → ℕ → Bool = λ x y. unordered (a .order) (termAt cs vs x) (termAt cs vs y) in
-    let n = c .before .before .before .before .before .before .before .before .before .before .before .before .before .before .node-count .result in
-    let s = c .before .before .before .before .before .before .before .before .search in
-    let l = c .before .before .before .before .loop in
-    let y : ℕ = getD (c .before .before .before .before .before .before .before .before .before .before .gather .last .0) (l .k) 0 in
-    ap (λ (k : ℕ). Option.some (k, y)) (c .node .ensures)
-    ∙ sym (ap (firstPair (among (has (a .a .now)) (has (a .b .now)) f)) (sym (s .inv .1)) ∙ pair-hit (has (a .a .now)) (has (a .b .now)) f n (s .inv .2) (s .inv .3) (omega (arith, c .before .before .before .before .before .before .before .search-test)) (omega (arith, c .before .before .before .loop-test)) (l .inv .2) (sym (told (c .before .before)) ∙ c .before .if2 .taken))
+    let n = c .before .before .before .before .before .before .before .before .before .before .before .before .before .node-count .result in
+    let s = c .before .before .before .before .before .before .before .search in
+    let l = c .before .before .before .loop in
+    let y : ℕ = getD (c .before .before .before .before .before .before .before .before .before .gather .last .0) (l .k) 0 in
+    sym (ap (firstPair (among (has (a .a .now)) (has (a .b .now)) f)) (sym (s .inv .1)) ∙ pair-hit (has (a .a .now)) (has (a .b .now)) f n (s .inv .2) (s .inv .3) (omega (arith, c .before .before .before .before .before .before .search-test)) (omega (arith, c .before .before .loop-test)) (l .inv .2) (sym (told (c .before)) ∙ c .if2 .taken))
 
 pub first-unordered-spec : {M : Type 1} → statement M
 first-unordered-spec =
@@ -178,13 +178,13 @@ first-unordered-spec =
     slice-aggregate-gather
     gather-requires
     search-holds
+    cast-t20
     has-number-requires
     number-requires
     loop-holds
-    mul-t20
-    array-read-t23
+    mul-t22
+    array-read-t25
     breaks-order-requires
-    node-requires
     add-k
     loop-less
     loop-again

@@ -83,7 +83,7 @@ returns c =
     let a = c .before .before .before .before .before .args in
     let cs = a .cells .now in
     let vs = a .values .now in
-    c .kind-fails .ensures vs ∙ ap (λ (k : ℕ). failsTest (nodeKind (kindOf k)) (termAt cs vs (a .v))) (c .before .before .before .form-first .ensures) ∙ fails-by cs vs (a .e) (a .v) 6 (sym (c .before .before .form-code .ensures) ∙ c .before .match .keys1)
+    c .kind-fails .ensures vs ∙ ap (λ (k : ℕ). failsTest (nodeKind (kindOf k)) (termAt cs vs (a .v .0))) (c .before .before .before .form-first .ensures) ∙ fails-by cs vs (a .e) (a .v .0) 6 (sym (c .before .before .form-code .ensures) ∙ c .before .match .keys1)
 
 returns-2 : tie.Need-returns-2
 unfolding entryOf testOf holds failsTest
@@ -91,7 +91,7 @@ returns-2 c =
     let a = c .before .before .before .before .before .args in
     let cs = a .cells .now in
     let vs = a .values .now in
-    c .datatype-fails .ensures vs ∙ ap (λ (k : ℕ). failsTest (datatype k) (termAt cs vs (a .v))) (c .before .before .before .form-first .ensures) ∙ fails-by cs vs (a .e) (a .v) 7 (sym (c .before .before .form-code .ensures) ∙ c .before .match .keys2)
+    c .datatype-fails .ensures vs ∙ ap (λ (k : ℕ). failsTest (datatype k) (termAt cs vs (a .v .0))) (c .before .before .before .form-first .ensures) ∙ fails-by cs vs (a .e) (a .v .0) 7 (sym (c .before .before .form-code .ensures) ∙ c .before .match .keys2)
 
 returns-3 : tie.Need-returns-3
 unfolding entryOf testOf holds failsTest
@@ -99,7 +99,7 @@ returns-3 c =
     let a = c .before .before .before .before .before .before .before .before .args in
     let cs = a .cells .now in
     let vs = a .values .now in
-    (λ i. not (c .before .before .before .has-language .ensures i) || not ((c .listed .ensures ∙ (λ j. member (c .before .node-lang .ensures j) (itemsAt cs (c .before .before .before .before .before .before .form-first .ensures j) (c .before .before .form-second .ensures j)))) i)) ∙ sym (language-lacks cs vs (a .v) (c .before .before .before .before .before .before .before .before .pre .0) (λ l. not (member l (itemsAt cs (formFirstAt cs (a .e)) (formSecondAt cs (a .e)))))) ∙ fails-by cs vs (a .e) (a .v) 8 (sym (c .before .before .before .before .before .form-code .ensures) ∙ c .before .before .before .before .match .keys3)
+    (λ i. not (c .before .before .before .has-language .ensures i) || not ((c .listed .ensures ∙ (λ j. member (c .before .node-lang .ensures j) (itemsAt cs (c .before .before .before .before .before .before .form-first .ensures j) (c .before .before .form-second .ensures j)))) i)) ∙ sym (language-lacks cs vs (a .v .0) (c .before .before .before .before .before .before .before .before .pre .0) (λ l. not (member l (itemsAt cs (formFirstAt cs (a .e)) (formSecondAt cs (a .e)))))) ∙ fails-by cs vs (a .e) (a .v .0) 8 (sym (c .before .before .before .before .before .form-code .ensures) ∙ c .before .before .before .before .match .keys3)
 
 returns-4 : tie.Need-returns-4
 unfolding entryOf testOf holds failsTest
@@ -107,7 +107,7 @@ returns-4 c =
     let a = c .before .before .before .before .before .before .before .args in
     let cs = a .cells .now in
     let vs = a .values .now in
-    (λ i. not (c .before .before .has-number .ensures i) || ltZ (read-back (c .before .number .result) (c .before .number .ok) (c .before .number .ensures) i) (read-back (c .limit .result) (c .limit .ok) (c .limit .ensures) i)) ∙ sym (value-lacks cs vs (a .v) (c .before .before .before .before .before .before .before .pre .0) (λ y. ltZ y (limitAt vs (a .e)))) ∙ fails-by cs vs (a .e) (a .v) 9 (sym (c .before .before .before .before .form-code .ensures) ∙ c .before .before .before .match .keys4)
+    (λ i. not (c .before .before .has-number .ensures i) || ltZ (read-back (c .before .number .result) (c .before .number .ok) (c .before .number .ensures) i) (read-back (c .limit .result) (c .limit .ok) (c .limit .ensures) i)) ∙ sym (value-lacks cs vs (a .v .0) (c .before .before .before .before .before .before .before .pre .0) (λ y. ltZ y (limitAt vs (a .e)))) ∙ fails-by cs vs (a .e) (a .v .0) 9 (sym (c .before .before .before .before .form-code .ensures) ∙ c .before .before .before .match .keys4)
 
 returns-5 : tie.Need-returns-5
 unfolding entryOf testOf holds failsTest
@@ -115,7 +115,7 @@ returns-5 c =
     let a = c .before .before .before .before .before .before .before .args in
     let cs = a .cells .now in
     let vs = a .values .now in
-    (λ i. not (c .before .before .has-number2 .ensures i) || leZ (read-back (c .before .number2 .result) (c .before .number2 .ok) (c .before .number2 .ensures) i) (read-back (c .limit2 .result) (c .limit2 .ok) (c .limit2 .ensures) i)) ∙ sym (value-lacks cs vs (a .v) (c .before .before .before .before .before .before .before .pre .0) (λ y. leZ y (limitAt vs (a .e)))) ∙ fails-by cs vs (a .e) (a .v) 10 (sym (c .before .before .before .before .form-code .ensures) ∙ c .before .before .before .match .keys5)
+    (λ i. not (c .before .before .has-number2 .ensures i) || leZ (read-back (c .before .number2 .result) (c .before .number2 .ok) (c .before .number2 .ensures) i) (read-back (c .limit2 .result) (c .limit2 .ok) (c .limit2 .ensures) i)) ∙ sym (value-lacks cs vs (a .v .0) (c .before .before .before .before .before .before .before .pre .0) (λ y. leZ y (limitAt vs (a .e)))) ∙ fails-by cs vs (a .e) (a .v .0) 10 (sym (c .before .before .before .before .form-code .ensures) ∙ c .before .before .before .match .keys5)
 
 returns-6 : tie.Need-returns-6
 unfolding entryOf testOf holds failsTest
@@ -123,7 +123,7 @@ returns-6 c =
     let a = c .before .before .before .before .before .before .before .args in
     let cs = a .cells .now in
     let vs = a .values .now in
-    (λ i. not (c .before .before .has-number3 .ensures i) || ltZ (read-back (c .before .limit3 .result) (c .before .limit3 .ok) (c .before .limit3 .ensures) i) (read-back (c .number3 .result) (c .number3 .ok) (c .number3 .ensures) i)) ∙ sym (value-lacks cs vs (a .v) (c .before .before .before .before .before .before .before .pre .0) (λ y. ltZ (limitAt vs (a .e)) y)) ∙ fails-by cs vs (a .e) (a .v) 11 (sym (c .before .before .before .before .form-code .ensures) ∙ c .before .before .before .match .keys6)
+    (λ i. not (c .before .before .has-number3 .ensures i) || ltZ (read-back (c .before .limit3 .result) (c .before .limit3 .ok) (c .before .limit3 .ensures) i) (read-back (c .number3 .result) (c .number3 .ok) (c .number3 .ensures) i)) ∙ sym (value-lacks cs vs (a .v .0) (c .before .before .before .before .before .before .before .pre .0) (λ y. ltZ (limitAt vs (a .e)) y)) ∙ fails-by cs vs (a .e) (a .v .0) 11 (sym (c .before .before .before .before .form-code .ensures) ∙ c .before .before .before .match .keys6)
 
 returns-7 : tie.Need-returns-7
 unfolding entryOf testOf holds failsTest
@@ -131,7 +131,7 @@ returns-7 c =
     let a = c .before .before .before .before .before .before .before .args in
     let cs = a .cells .now in
     let vs = a .values .now in
-    (λ i. not (c .before .before .has-number4 .ensures i) || leZ (read-back (c .before .limit4 .result) (c .before .limit4 .ok) (c .before .limit4 .ensures) i) (read-back (c .number4 .result) (c .number4 .ok) (c .number4 .ensures) i)) ∙ sym (value-lacks cs vs (a .v) (c .before .before .before .before .before .before .before .pre .0) (λ y. leZ (limitAt vs (a .e)) y)) ∙ fails-by cs vs (a .e) (a .v) 12 (sym (c .before .before .before .before .form-code .ensures) ∙ (let h : 12 ≤ c .before .before .before .before .form-code .result = past (c .before .before .before .before .form-code .result) 6 6 (omega (arith, c .before .before .before .before .before .before .before .pre, c .before .before .before .before .form-code .ensures)) (c .before .before .before .match .rest) in omega (arith, c .before .before .before .before .before .before .before .pre, c .before .before .before .before .form-code .ensures)))
+    (λ i. not (c .before .before .has-number4 .ensures i) || leZ (read-back (c .before .limit4 .result) (c .before .limit4 .ok) (c .before .limit4 .ensures) i) (read-back (c .number4 .result) (c .number4 .ok) (c .number4 .ensures) i)) ∙ sym (value-lacks cs vs (a .v .0) (c .before .before .before .before .before .before .before .pre .0) (λ y. leZ (limitAt vs (a .e)) y)) ∙ fails-by cs vs (a .e) (a .v .0) 12 (sym (c .before .before .before .before .form-code .ensures) ∙ (let h : 12 ≤ c .before .before .before .before .form-code .result = past (c .before .before .before .before .form-code .result) 6 6 (omega (arith, c .before .before .before .before .before .before .before .pre, c .before .before .before .before .form-code .ensures)) (c .before .before .before .match .rest) in omega (arith, c .before .before .before .before .before .before .before .pre, c .before .before .before .before .form-code .ensures)))
 
 pub test-fails-spec : {M : Type 1} → statement M
 test-fails-spec =

@@ -1,16 +1,13 @@
-use lib.Dec.{eqb, ltb}
-use Rattle.nodeset.specs.Words.{has, wordsOf}
-use Rattle.conditions.proofs.Members.{next-after, gathered-length}
 -- `with_language` meets its contract. The invariant: the set has the members before x that have a language.
 use mathlib.Core.Path.{_≡_, ap, _∙_}
 use mathlib.Core.Bool.{_&&_}
 use Prim.Native.Nat.{ℕ, _-_}
 use native.Mathlib.Omega.{arith}
-use lib.Dec.{eqb}
+use lib.Dec.{eqb, ltb}
 use borrow.Author.Needs.{needs}
-use Rattle.nodeset.specs.Words.{has}
+use Rattle.nodeset.specs.Words.{has, wordsOf}
 use Rattle.tables.specs.Layout.{nodeCount, kindAt}
-use Rattle.conditions.proofs.Members.{Gathered, gathered-none, gathered-more, gathered-all}
+use Rattle.conditions.proofs.Members.{next-after, Gathered, gathered-none, gathered-more, gathered-length, gathered-all}
 use Rattle.conditions.proofs.with_language.Statement.{statement}
 use Rattle.conditions.proofs.with_language.Tie as tie
 
@@ -32,6 +29,9 @@ loop-holds c = let a = c .before .before .before .before .args in (c .before .no
 slice-aggregate-insert-if : tie.Need-slice-aggregate-insert-if Inv-loop μ-loop
 slice-aggregate-insert-if c = let a = c .before .before .before .before .before .before .before .args in gathered-length (has (a .a .now)) (λ m. eqb (kindAt (a .cells .now) m) 4) (c .before .before .before .before .node-count .result) (c .before .before .loop .inv .1)
 
+cast-t8 : tie.Need-cast-t8 Inv-loop μ-loop
+cast-t8 c = omega (arith, c .loop-test, c .before .loop .inv .0, c .before .before .before .before .before .shared-slice-known .given 0 .fits)
+
 has-language-requires : tie.Need-has-language-requires Inv-loop μ-loop
 has-language-requires c κs = search needs
 
@@ -45,7 +45,7 @@ next-member-requires-2 : tie.Need-next-member-requires-2 Inv-loop μ-loop
 next-member-requires-2 c κs = search needs
 
 loop-less : tie.Need-loop-less Inv-loop μ-loop
-loop-less c = let a = c .before .before .before .before .before .before .before .before .before .before .before .args in omega (arith, next-after (has (a .a .now)) {x = c .before .before .before .before .before .before .loop .v} (omega (arith, c .before .before .before .before .before .loop-test)) (c .next-member2 .ensures), c .before .before .before .before .before .loop-test)
+loop-less c = let a = c .before .before .before .before .before .before .before .before .before .before .before .args in omega (arith, next-after (has (a .a .now)) {x = c .before .before .before .before .before .before .loop .x} (omega (arith, c .before .before .before .before .before .loop-test)) (c .next-member2 .ensures), c .before .before .before .before .before .loop-test)
 
 loop-again : tie.Need-loop-again Inv-loop μ-loop
 loop-again c =
@@ -68,6 +68,7 @@ with-language-spec =
     node-count-requires
     next-member-requires
     loop-holds
+    cast-t8
     slice-aggregate-insert-if
     has-language-requires
     insert-if-requires

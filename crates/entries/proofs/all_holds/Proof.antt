@@ -1,8 +1,8 @@
-use native.Mathlib.Omega.{arith}
 -- `all_holds` meets its contract: the end set lies in the part.
 use mathlib.Core.Path.{ap, _∙_}
 use Prim.Native.Nat.{ℕ}
 use Rattle.model.specs.Paths.{ends, endsOf}
+use native.Mathlib.Omega.{arith}
 use lib.Dec.{ltb}
 use borrow.Author.Tests.{lt-ltb}
 use Rattle.nodeset.specs.Words.{has, wordsOf}
@@ -47,7 +47,7 @@ returns c =
     let cs = a .cells .now in
     let p = c .before .before .before .before .before .before .before .before .before .before .pre in
     c .subset-holds .ensures ∙ ap (λ (n : ℕ). subset n (has (c .before .before .before .before .ends-of .result .words)) (has (a .part .now))) (c .before .node-count .ensures)
-    ∙ every-of (a .part .now) (ends (nodeCount cs) (triplesAt cs) (pathAt cs (formFirstAt cs (a .e))) (a .v)) (nodeCount cs) (nodes-le cs (p .0 .tables)) (c .before .before .before .before .ends-of .ensures ∙ ap (λ (i : ℕ). wordsOf (ends (nodeCount cs) (triplesAt cs) (pathAt cs i) (a .v)) 16) (c .before .before .before .before .before .wide .ensures ∙ c .before .before .before .before .before .before .form-first .ensures))
+    ∙ every-of (a .part .now) (ends (nodeCount cs) (triplesAt cs) (pathAt cs (formFirstAt cs (a .e))) (a .v .0)) (nodeCount cs) (nodes-le cs (p .0 .tables)) (c .before .before .before .before .ends-of .ensures ∙ ap (λ (i : ℕ). wordsOf (ends (nodeCount cs) (triplesAt cs) (pathAt cs i) (a .v .0)) 16) (c .before .before .before .before .before .wide .ensures ∙ c .before .before .before .before .before .before .form-first .ensures))
 
 pub all-holds-spec : {M : Type 1} → statement M
 all-holds-spec =

@@ -57,7 +57,7 @@ returns c =
     let a = c .before .before .before .before .before .before .before .before .before .before .before .before .before .before .args in
     let cs = a .cells .now in
     let p = c .before .before .before .before .before .before .before .before .before .before .before .before .before .before .pre in
-    let s = size-of (a .part .now) (ends (nodeCount cs) (triplesAt cs) (pathAt cs (formFirstAt cs (a .e))) (a .v)) (nodeCount cs) (nodes-le cs (p .0 .tables)) (c .before .before .before .before .before .before .before .before .ends-of .ensures ∙ ap (λ (i : ℕ). wordsOf (ends (nodeCount cs) (triplesAt cs) (pathAt cs i) (a .v)) 16) (c .before .before .before .before .before .before .before .before .before .wide .ensures ∙ c .before .before .before .before .before .before .before .before .before .before .form-first .ensures)) (p .2) in
+    let s = size-of (a .part .now) (ends (nodeCount cs) (triplesAt cs) (pathAt cs (formFirstAt cs (a .e))) (a .v .0)) (nodeCount cs) (nodes-le cs (p .0 .tables)) (c .before .before .before .before .before .before .before .before .ends-of .ensures ∙ ap (λ (i : ℕ). wordsOf (ends (nodeCount cs) (triplesAt cs) (pathAt cs i) (a .v .0)) 16) (c .before .before .before .before .before .before .before .before .before .wide .ensures ∙ c .before .before .before .before .before .before .before .before .before .before .form-first .ensures)) (p .2) in
     c .between .ensures ∙ (λ i. within ((c .before .before .before .wide2 .ensures ∙ c .before .before .before .before .form-third .ensures) i) (upperOf ((c .before .wide3 .ensures ∙ c .before .before .form-fourth .ensures) i)) ((c .before .before .before .before .before .count-both .ensures ∙ s) i))
 
 pub count-holds-spec : {M : Type 1} → statement M

@@ -52,7 +52,7 @@ returns c =
     let found : ℕ → Bool = has (c .before .before .before .before .before .before .ends-of .result .words) in
     let langs = c .before .before .before .before .languages in
     c .onelang-holds .ensures vs ∙ unlike-tagged cs vs found (λ w. found w && has (langs .result .words) w) (has-tagged cs (nodes-le cs (p .0 .tables)) (langs .ensures) found)
-    ∙ set-lang cs vs (a .e) (a .v) (p .0) (c .before .before .before .before .before .before .ends-of .ensures ∙ ap (λ (i : ℕ). wordsOf (ends (nodeCount cs) (triplesAt cs) (pathAt cs i) (a .v)) 16) (c .before .before .before .before .before .before .before .wide .ensures ∙ c .before .before .before .before .before .before .before .before .form-first .ensures)) (p .1)
+    ∙ set-lang cs vs (a .e) (a .v .0) (p .0) (c .before .before .before .before .before .before .ends-of .ensures ∙ ap (λ (i : ℕ). wordsOf (ends (nodeCount cs) (triplesAt cs) (pathAt cs i) (a .v .0)) 16) (c .before .before .before .before .before .before .before .wide .ensures ∙ c .before .before .before .before .before .before .before .before .form-first .ensures)) (p .1)
 
 pub lang-holds-spec : {M : Type 1} → statement M
 lang-holds-spec =

@@ -88,28 +88,28 @@ unfolding endIn
 returns c =
     let a = c .before .before .before .before .before .before .before .before .before .before .before .before .before .before .before .before .args in
     let cs = a .cells .now in
-    c .equal-holds .ensures ∙ set-equal cs (a .values .now) (a .e) (a .v) (c .before .before .before .before .before .before .before .before .before .before .before .before .before .before .before .before .pre .0) (c .before .before .before .before .before .before .before .before .before .before .ends-of .ensures ∙ ap (λ (x : End). wordsOf (endsOf (nodeCount cs) (triplesAt cs) x (a .v)) 16) (ap (endIn cs) (c .before .before .before .before .before .before .before .before .before .before .before .end-at .ensures) ∙ end-in cs (c .before .before .before .before .before .before .before .before .before .before .before .before .wide .result) ∙ ap (endAt cs) (c .before .before .before .before .before .before .before .before .before .before .before .before .wide .ensures ∙ c .before .before .before .before .before .before .before .before .before .before .before .before .before .form-first .ensures))) (c .before .before .before .before .before .before .before .ends-of2 .ensures ∙ ap (λ (i : ℕ). wordsOf (endsOf (nodeCount cs) (triplesAt cs) (along (predicate i)) (a .v)) 16) (c .before .before .before .before .before .before .before .before .form-link .ensures)) (c .before .node-count .result) (c .before .node-count .ensures) (sym (c .before .before .before .before .before .form-code .ensures) ∙ c .before .before .before .before .match .keys1)
+    c .equal-holds .ensures ∙ set-equal cs (a .values .now) (a .e) (a .v .0) (c .before .before .before .before .before .before .before .before .before .before .before .before .before .before .before .before .pre .0) (c .before .before .before .before .before .before .before .before .before .before .ends-of .ensures ∙ ap (λ (x : End). wordsOf (endsOf (nodeCount cs) (triplesAt cs) x (a .v .0)) 16) (ap (endIn cs) (c .before .before .before .before .before .before .before .before .before .before .before .end-at .ensures) ∙ end-in cs (c .before .before .before .before .before .before .before .before .before .before .before .before .wide .result) ∙ ap (endAt cs) (c .before .before .before .before .before .before .before .before .before .before .before .before .wide .ensures ∙ c .before .before .before .before .before .before .before .before .before .before .before .before .before .form-first .ensures))) (c .before .before .before .before .before .before .before .ends-of2 .ensures ∙ ap (λ (i : ℕ). wordsOf (endsOf (nodeCount cs) (triplesAt cs) (along (predicate i)) (a .v .0)) 16) (c .before .before .before .before .before .before .before .before .form-link .ensures)) (c .before .node-count .result) (c .before .node-count .ensures) (sym (c .before .before .before .before .before .form-code .ensures) ∙ c .before .before .before .before .match .keys1)
 
 returns-2 : tie.Need-returns-2
 unfolding endIn
 returns-2 c =
     let a = c .before .before .before .before .before .before .before .before .before .before .before .before .before .before .before .before .args in
     let cs = a .cells .now in
-    c .apart-holds .ensures ∙ set-apart cs (a .values .now) (a .e) (a .v) (c .before .before .before .before .before .before .before .before .before .before .before .before .before .before .before .before .pre .0) (c .before .before .before .before .before .before .before .before .before .before .ends-of .ensures ∙ ap (λ (x : End). wordsOf (endsOf (nodeCount cs) (triplesAt cs) x (a .v)) 16) (ap (endIn cs) (c .before .before .before .before .before .before .before .before .before .before .before .end-at .ensures) ∙ end-in cs (c .before .before .before .before .before .before .before .before .before .before .before .before .wide .result) ∙ ap (endAt cs) (c .before .before .before .before .before .before .before .before .before .before .before .before .wide .ensures ∙ c .before .before .before .before .before .before .before .before .before .before .before .before .before .form-first .ensures))) (c .before .before .before .before .before .before .before .ends-of2 .ensures ∙ ap (λ (i : ℕ). wordsOf (endsOf (nodeCount cs) (triplesAt cs) (along (predicate i)) (a .v)) 16) (c .before .before .before .before .before .before .before .before .form-link .ensures)) (c .before .node-count2 .result) (c .before .node-count2 .ensures) (sym (c .before .before .before .before .before .form-code .ensures) ∙ c .before .before .before .before .match .keys2)
+    c .apart-holds .ensures ∙ set-apart cs (a .values .now) (a .e) (a .v .0) (c .before .before .before .before .before .before .before .before .before .before .before .before .before .before .before .before .pre .0) (c .before .before .before .before .before .before .before .before .before .before .ends-of .ensures ∙ ap (λ (x : End). wordsOf (endsOf (nodeCount cs) (triplesAt cs) x (a .v .0)) 16) (ap (endIn cs) (c .before .before .before .before .before .before .before .before .before .before .before .end-at .ensures) ∙ end-in cs (c .before .before .before .before .before .before .before .before .before .before .before .before .wide .result) ∙ ap (endAt cs) (c .before .before .before .before .before .before .before .before .before .before .before .before .wide .ensures ∙ c .before .before .before .before .before .before .before .before .before .before .before .before .before .form-first .ensures))) (c .before .before .before .before .before .before .before .ends-of2 .ensures ∙ ap (λ (i : ℕ). wordsOf (endsOf (nodeCount cs) (triplesAt cs) (along (predicate i)) (a .v .0)) 16) (c .before .before .before .before .before .before .before .before .form-link .ensures)) (c .before .node-count2 .result) (c .before .node-count2 .ensures) (sym (c .before .before .before .before .before .form-code .ensures) ∙ c .before .before .before .before .match .keys2)
 
 returns-3 : tie.Need-returns-3
 unfolding endIn
 returns-3 c =
     let a = c .before .before .before .before .before .before .before .before .before .before .before .before .before .before .before .args in
     let cs = a .cells .now in
-    c .less-holds .ensures ∙ set-less cs (a .values .now) (a .e) (a .v) (c .before .before .before .before .before .before .before .before .before .before .before .before .before .before .before .pre .0) (c .before .before .before .before .before .before .before .before .before .ends-of .ensures ∙ ap (λ (x : End). wordsOf (endsOf (nodeCount cs) (triplesAt cs) x (a .v)) 16) (ap (endIn cs) (c .before .before .before .before .before .before .before .before .before .before .end-at .ensures) ∙ end-in cs (c .before .before .before .before .before .before .before .before .before .before .before .wide .result) ∙ ap (endAt cs) (c .before .before .before .before .before .before .before .before .before .before .before .wide .ensures ∙ c .before .before .before .before .before .before .before .before .before .before .before .before .form-first .ensures))) (c .before .before .before .before .before .before .ends-of2 .ensures ∙ ap (λ (i : ℕ). wordsOf (endsOf (nodeCount cs) (triplesAt cs) (along (predicate i)) (a .v)) 16) (c .before .before .before .before .before .before .before .form-link .ensures)) (sym (c .before .before .before .before .form-code .ensures) ∙ c .before .before .before .match .keys3)
+    c .less-holds .ensures ∙ set-less cs (a .values .now) (a .e) (a .v .0) (c .before .before .before .before .before .before .before .before .before .before .before .before .before .before .before .pre .0) (c .before .before .before .before .before .before .before .before .before .ends-of .ensures ∙ ap (λ (x : End). wordsOf (endsOf (nodeCount cs) (triplesAt cs) x (a .v .0)) 16) (ap (endIn cs) (c .before .before .before .before .before .before .before .before .before .before .end-at .ensures) ∙ end-in cs (c .before .before .before .before .before .before .before .before .before .before .before .wide .result) ∙ ap (endAt cs) (c .before .before .before .before .before .before .before .before .before .before .before .wide .ensures ∙ c .before .before .before .before .before .before .before .before .before .before .before .before .form-first .ensures))) (c .before .before .before .before .before .before .ends-of2 .ensures ∙ ap (λ (i : ℕ). wordsOf (endsOf (nodeCount cs) (triplesAt cs) (along (predicate i)) (a .v .0)) 16) (c .before .before .before .before .before .before .before .form-link .ensures)) (sym (c .before .before .before .before .form-code .ensures) ∙ c .before .before .before .match .keys3)
 
 returns-4 : tie.Need-returns-4
 unfolding endIn
 returns-4 c =
     let a = c .before .before .before .before .before .before .before .before .before .before .before .before .before .before .before .args in
     let cs = a .cells .now in
-    c .lesseq-holds .ensures ∙ set-lesseq cs (a .values .now) (a .e) (a .v) (c .before .before .before .before .before .before .before .before .before .before .before .before .before .before .before .pre .0) (c .before .before .before .before .before .before .before .before .before .ends-of .ensures ∙ ap (λ (x : End). wordsOf (endsOf (nodeCount cs) (triplesAt cs) x (a .v)) 16) (ap (endIn cs) (c .before .before .before .before .before .before .before .before .before .before .end-at .ensures) ∙ end-in cs (c .before .before .before .before .before .before .before .before .before .before .before .wide .result) ∙ ap (endAt cs) (c .before .before .before .before .before .before .before .before .before .before .before .wide .ensures ∙ c .before .before .before .before .before .before .before .before .before .before .before .before .form-first .ensures))) (c .before .before .before .before .before .before .ends-of2 .ensures ∙ ap (λ (i : ℕ). wordsOf (endsOf (nodeCount cs) (triplesAt cs) (along (predicate i)) (a .v)) 16) (c .before .before .before .before .before .before .before .form-link .ensures)) (sym (c .before .before .before .before .form-code .ensures) ∙ (let k = c .before .before .before .before .form-code .result in let ne : k ≡ 17 → ⊥ = λ h. c .before .before .before .before .before .before .before .before .before .before .before .before .before .before .before .pre .3 (sym (c .before .before .before .before .form-code .ensures) ∙ h) in let q : k ≡ 19 = omega (arith, c .before .before .before .before .form-code .ensures, c .before .before .before .before .before .before .before .before .before .before .before .before .before .before .before .pre .1, c .before .before .before .before .before .before .before .before .before .before .before .before .before .before .before .pre .2, c .before .before .before .match .rest) in q))
+    c .lesseq-holds .ensures ∙ set-lesseq cs (a .values .now) (a .e) (a .v .0) (c .before .before .before .before .before .before .before .before .before .before .before .before .before .before .before .pre .0) (c .before .before .before .before .before .before .before .before .before .ends-of .ensures ∙ ap (λ (x : End). wordsOf (endsOf (nodeCount cs) (triplesAt cs) x (a .v .0)) 16) (ap (endIn cs) (c .before .before .before .before .before .before .before .before .before .before .end-at .ensures) ∙ end-in cs (c .before .before .before .before .before .before .before .before .before .before .before .wide .result) ∙ ap (endAt cs) (c .before .before .before .before .before .before .before .before .before .before .before .wide .ensures ∙ c .before .before .before .before .before .before .before .before .before .before .before .before .form-first .ensures))) (c .before .before .before .before .before .before .ends-of2 .ensures ∙ ap (λ (i : ℕ). wordsOf (endsOf (nodeCount cs) (triplesAt cs) (along (predicate i)) (a .v .0)) 16) (c .before .before .before .before .before .before .before .form-link .ensures)) (sym (c .before .before .before .before .form-code .ensures) ∙ (let k = c .before .before .before .before .form-code .result in let ne : k ≡ 17 → ⊥ = λ h. c .before .before .before .before .before .before .before .before .before .before .before .before .before .before .before .pre .3 (sym (c .before .before .before .before .form-code .ensures) ∙ h) in let q : k ≡ 19 = omega (arith, c .before .before .before .before .form-code .ensures, c .before .before .before .before .before .before .before .before .before .before .before .before .before .before .before .pre .1, c .before .before .before .before .before .before .before .before .before .before .before .before .before .before .before .pre .2, c .before .before .before .match .rest) in q))
 
 pub sets-hold-spec : {M : Type 1} → statement M
 sets-hold-spec =

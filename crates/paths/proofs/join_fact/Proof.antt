@@ -10,20 +10,14 @@ use Rattle.paths.proofs.join_fact.Tie as tie
 node-at-requires : tie.Need-node-at-requires
 node-at-requires c κs = search needs
 
-wide-requires : tie.Need-wide-requires
-wide-requires c κs = search needs
-
 node-at-requires-2 : tie.Need-node-at-requires-2
 node-at-requires-2 c κs = search needs
 
-wide-requires-2 : tie.Need-wide-requires-2
-wide-requires-2 c κs = search needs
+pick-cell-requires : tie.Need-pick-cell-requires
+pick-cell-requires c κs = search needs
 
-pick-requires : tie.Need-pick-requires
-pick-requires c κs = search needs
-
-pick-requires-2 : tie.Need-pick-requires-2
-pick-requires-2 c κs = search needs
+pick-cell-requires-2 : tie.Need-pick-cell-requires-2
+pick-cell-requires-2 c κs = search needs
 
 join-requires : tie.Need-join-requires
 join-requires c κs = search needs
@@ -33,21 +27,19 @@ same-length c = search needs
 
 returns : tie.Need-returns
 returns c =
-    let a = c .before .before .before .before .before .before .before .before .before .before .before .before .before .before .args in
-    let v = c .before .before .before .before .before .before .before .before .wide .ensures ∙ c .before .before .before .before .before .before .before .before .before .node-at .ensures in
-    let w = c .before .before .before .before .before .before .wide2 .ensures ∙ c .before .before .before .before .before .before .before .node-at2 .ensures in
-    c .before .before .join .ensures ∙ ap₂ (λ (near far : ℕ). joinedSets (setCount (a .many)) near far (a .from .now) (a .into .now)) (c .before .before .before .pick2 .ensures ∙ ap₂ (cond (a .back)) w v) (c .before .before .before .before .pick .ensures ∙ ap₂ (cond (a .back)) v w)
+    let a = c .before .before .before .before .before .before .before .before .before .before .before .before .args in
+    let v = c .before .before .before .before .before .before .before .node-at .ensures in
+    let w = c .before .before .before .before .before .before .node-at2 .ensures in
+    c .before .before .join .ensures ∙ ap₂ (λ (near far : ℕ). joinedSets (setCount (a .many)) near far (a .from .now) (a .into .now)) (c .before .before .before .before .pick-cell2 .ensures ∙ ap₂ (cond (a .back)) w v) (c .before .before .before .before .before .pick-cell .ensures ∙ ap₂ (cond (a .back)) v w)
 
 pub join-fact-spec : {M : Type 1} → statement M
 join-fact-spec =
     tie.close
     (tie.spec
     node-at-requires
-    wide-requires
     node-at-requires-2
-    wide-requires-2
-    pick-requires
-    pick-requires-2
+    pick-cell-requires
+    pick-cell-requires-2
     join-requires
     same-length
     returns)

@@ -1,4 +1,4 @@
--- `join_itself` meets its contract. The invariant: the nodes below v have joined.
+-- `join_itself` meets its contract. The invariant: the nodes below x have joined.
 use Prim.Native.Nat.{_≤_, _-_}
 use mathlib.Core.Path.{_≡_, refl, _∙_}
 use native.Mathlib.Omega.{arith}
@@ -10,19 +10,22 @@ use Rattle.paths.proofs.join_itself.Statement.{statement}
 use Rattle.paths.proofs.join_itself.Tie as tie
 
 abbrev Inv-loop : tie.InvT-loop
-Inv-loop into₀ many from n v₀ into v = (v ≤ n) × (length into ≡ length into₀) × (into ≡ withImages (setCount many) n (itself v) from into₀)
+Inv-loop into₀ many from n x₀ into x = (x ≤ n) × (length into ≡ length into₀) × (into ≡ withImages (setCount many) n (itself x) from into₀)
 
 abbrev μ-loop : tie.MeasureT-loop
-μ-loop into₀ many from n v₀ into v = n - v
+μ-loop into₀ many from n x₀ into x = n - x
 
 loop-holds : tie.Need-loop-holds Inv-loop μ-loop
 loop-holds c = let a = c .before .before .args in (search needs, refl, itself-none (setCount (a .many)) (a .n) (a .from .now) (a .into .now) (λ i. c .before .slice-known .given i .fits))
 
+cast-t8 : tie.Need-cast-t8 Inv-loop μ-loop
+cast-t8 c = search needs
+
 join-requires : tie.Need-join-requires Inv-loop μ-loop
 join-requires c κs = search needs
 
-add-v : tie.Need-add-v Inv-loop μ-loop
-add-v c = search needs
+add-x : tie.Need-add-x Inv-loop μ-loop
+add-x c = search needs
 
 loop-less : tie.Need-loop-less Inv-loop μ-loop
 loop-less c = search needs
@@ -31,13 +34,13 @@ loop-again : tie.Need-loop-again Inv-loop μ-loop
 loop-again c =
     let a = c .before .before .before .before .before .before .before .before .args in
     let t = c .before .before .before .before .before .loop in
-    (search needs, c .before .before .join .kept .0 ∙ t .inv .1, c .before .before .join .ensures ∙ itself-more (setCount (a .many)) (a .n) (a .from .now) (a .into .now) (t .v) (search needs) (t .inv .2))
+    (search needs, c .before .before .join .kept .0 ∙ t .inv .1, c .before .before .join .ensures ∙ itself-more (setCount (a .many)) (a .n) (a .from .now) (a .into .now) (t .x) (search needs) (t .inv .2))
 
 same-length : tie.Need-same-length Inv-loop μ-loop
 same-length c = search needs
 
 returns : tie.Need-returns Inv-loop μ-loop
-returns c = let a = c .before .before .before .before .args in itself-all (setCount (a .many)) (a .n) (a .from .now) (a .into .now) (c .before .loop .v) (omega arith) (c .before .loop .inv .2)
+returns c = let a = c .before .before .before .before .args in itself-all (setCount (a .many)) (a .n) (a .from .now) (a .into .now) (c .before .loop .x) (omega arith) (c .before .loop .inv .2)
 
 pub join-itself-spec : {M : Type 1} → statement M
 join-itself-spec =
@@ -46,8 +49,9 @@ join-itself-spec =
     Inv-loop
     μ-loop
     loop-holds
+    cast-t8
     join-requires
-    add-v
+    add-x
     loop-less
     loop-again
     same-length

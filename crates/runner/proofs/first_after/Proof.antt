@@ -32,6 +32,9 @@ enum-known-kind-3 c = search needs
 enum-told-6 : tie.Need-enum-told-6
 enum-told-6 c = search needs
 
+enum-told-7 : tie.Need-enum-told-7
+enum-told-7 c = search needs
+
 returns : tie.Need-returns
 unfolding firstAfter
 returns c = λ i. firstAfter (sym (c .enum-told .given .1) i) (c .before .before .args .kept)
@@ -68,6 +71,10 @@ returns-9 : tie.Need-returns-9
 unfolding firstAfter
 returns-9 c = λ i. firstAfter (sym (c .enum-told6 .given .1) i) (c .before .before .args .kept)
 
+returns-10 : tie.Need-returns-10
+unfolding firstAfter
+returns-10 c = λ i. firstAfter (sym (c .enum-told7 .given .1) i) (c .before .before .args .kept)
+
 pub first-after-spec : {M : Type 1} → statement M
 first-after-spec =
     tie.close
@@ -81,6 +88,7 @@ first-after-spec =
     enum-known-kind-2
     enum-known-kind-3
     enum-told-6
+    enum-told-7
     returns
     returns-2
     returns-3
@@ -89,4 +97,5 @@ first-after-spec =
     returns-6
     returns-7
     returns-8
-    returns-9)
+    returns-9
+    returns-10)

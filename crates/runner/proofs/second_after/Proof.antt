@@ -32,6 +32,9 @@ enum-told-7 c = search needs
 enum-told-8 : tie.Need-enum-told-8
 enum-told-8 c = search needs
 
+enum-told-9 : tie.Need-enum-told-9
+enum-told-9 c = search needs
+
 returns : tie.Need-returns
 unfolding secondAfter
 returns c = λ i. secondAfter (sym (c .enum-told .given .1) i) (c .before .before .args .kept)
@@ -68,6 +71,10 @@ returns-9 : tie.Need-returns-9
 unfolding secondAfter
 returns-9 c = λ i. secondAfter (sym (c .enum-told8 .given .1) i) (c .before .before .args .kept)
 
+returns-10 : tie.Need-returns-10
+unfolding secondAfter
+returns-10 c = λ i. secondAfter (sym (c .enum-told9 .given .1) i) (c .before .before .args .kept)
+
 pub second-after-spec : {M : Type 1} → statement M
 second-after-spec =
     tie.close
@@ -81,6 +88,7 @@ second-after-spec =
     enum-known-kind
     enum-told-7
     enum-told-8
+    enum-told-9
     returns
     returns-2
     returns-3
@@ -89,4 +97,5 @@ second-after-spec =
     returns-6
     returns-7
     returns-8
-    returns-9)
+    returns-9
+    returns-10)

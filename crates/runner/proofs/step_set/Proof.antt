@@ -29,10 +29,11 @@ use Rattle.stepsets.proofs.path_set.Reads as path-set-reads
 use Rattle.stepsets.proofs.ends_set.Reads as ends-set-reads
 use Rattle.stepsets.proofs.lang_set.Reads as lang-set-reads
 use Rattle.stepsets.proofs.facts_set.Reads as facts-set-reads
+use Rattle.stepsets.proofs.links_set.Reads as links-set-reads
 
 -- what is asked of each callee, and what it tells
 abbrev calls : lts.Claims
-calls = (node-count-reads.Asked, node-count-reads.Learnt, step-kind-reads.Asked, step-kind-reads.Learnt, whole-reads.Asked, whole-reads.Learnt, plain-set-reads.Asked, plain-set-reads.Learnt, both-set-reads.Asked, both-set-reads.Learnt, either-set-reads.Asked, either-set-reads.Learnt, path-set-reads.Asked, path-set-reads.Learnt, ends-set-reads.Asked, ends-set-reads.Learnt, lang-set-reads.Asked, lang-set-reads.Learnt, facts-set-reads.Asked, facts-set-reads.Learnt)
+calls = (node-count-reads.Asked, node-count-reads.Learnt, step-kind-reads.Asked, step-kind-reads.Learnt, whole-reads.Asked, whole-reads.Learnt, plain-set-reads.Asked, plain-set-reads.Learnt, both-set-reads.Asked, both-set-reads.Learnt, either-set-reads.Asked, either-set-reads.Learnt, path-set-reads.Asked, path-set-reads.Learnt, ends-set-reads.Asked, ends-set-reads.Learnt, lang-set-reads.Asked, lang-set-reads.Learnt, facts-set-reads.Asked, facts-set-reads.Learnt, links-set-reads.Asked, links-set-reads.Learnt)
 
 -- what is known of the step where the match begins, which all arms share
 abbrev Place : Type 0
@@ -109,6 +110,12 @@ enum-known-target c = search needs
 facts-set-requires : tie.Need-facts-set-requires
 facts-set-requires c κs = search needs
 
+enum-known-condition-5 : tie.Need-enum-known-condition-5
+enum-known-condition-5 c = search needs
+
+links-set-requires : tie.Need-links-set-requires
+links-set-requires c κs = let r = right (c .before .before .before) (c .before .condition5 .given .1) in (c .before .before .before .before .before .before .before .before .before .before .before .pre .0, r .0, r .1, r .2)
+
 returns : tie.Need-returns
 unfolding kindSet firstAfter secondAfter
 returns c = (c .whole .ensures ∙ ap (λ (m : ℕ). wordsOf (λ v. ltb v m) 16) (c .before .before .before .before .node-count .ensures) ∙ words (c .before .before .before) (c .before .enum-told .given .1), (first-rows (c .before .before .before) (c .before .enum-told .given .1) (c .before .before .before .before .before .before .before .before .before .before .before .pre .3), second-rows (c .before .before .before) (c .before .enum-told .given .1) (c .before .before .before .before .before .before .before .before .before .before .before .pre .4)))
@@ -157,6 +164,10 @@ returns-9 : tie.Need-returns-9
 unfolding kindSet firstAfter secondAfter
 returns-9 c = (c .facts-set .ensures ∙ words (c .before .before .before .before) (c .before .before .target .given .1), (first-rows (c .before .before .before .before) (c .before .before .target .given .1) (c .before .before .before .before .before .before .before .before .before .before .before .before .pre .3), second-rows (c .before .before .before .before) (c .before .before .target .given .1) (c .before .before .before .before .before .before .before .before .before .before .before .before .pre .4)))
 
+returns-10 : tie.Need-returns-10
+unfolding kindSet firstAfter secondAfter
+returns-10 c = (c .links-set .ensures ∙ words (c .before .before .before .before) (c .before .before .condition5 .given .1), (first-rows (c .before .before .before .before) (c .before .before .condition5 .given .1) (c .before .before .before .before .before .before .before .before .before .before .before .before .pre .3), second-rows (c .before .before .before .before) (c .before .before .condition5 .given .1) (c .before .before .before .before .before .before .before .before .before .before .before .before .pre .4)))
+
 pub step-set-spec : {M : Type 1} → statement M
 step-set-spec =
     tie.close
@@ -180,6 +191,8 @@ step-set-spec =
     lang-set-requires
     enum-known-target
     facts-set-requires
+    enum-known-condition-5
+    links-set-requires
     returns
     returns-2
     returns-3
@@ -192,4 +205,5 @@ step-set-spec =
     returns-7
     same-length-4
     returns-8
-    returns-9)
+    returns-9
+    returns-10)

@@ -1,7 +1,7 @@
 -- `condition_holds` meets its contract, by what is asked.
 use Prim.Native.Nat.{ℕ}
 use mathlib.Core.Bool.{_&&_}
-use mathlib.Core.Path.{ap, _∙_}
+use mathlib.Core.Path.{refl, ap, _∙_}
 use native.Mathlib.Omega.{arith}
 use Rattle.nodeset.specs.Words.{has}
 use Rattle.model.specs.Shapes.{subset, noneShared}
@@ -19,14 +19,8 @@ node-count-requires c κs = search needs
 enum-known-condition : tie.Need-enum-known-condition
 enum-known-condition c = search needs
 
-wide-requires : tie.Need-wide-requires
-wide-requires c κs = search needs
-
 enum-known-condition-2 : tie.Need-enum-known-condition-2
 enum-known-condition-2 c = search needs
-
-wide-requires-2 : tie.Need-wide-requires-2
-wide-requires-2 c κs = search needs
 
 enum-known-condition-3 : tie.Need-enum-known-condition-3
 enum-known-condition-3 c = search needs
@@ -115,25 +109,25 @@ enum-told-11 c = search needs
 onelang-fails-requires : tie.Need-onelang-fails-requires
 onelang-fails-requires c κs = sound (c .before .before .before .before .before .before .before .args .cells .now) (c .before .before .before .before .before .before .before .pre .0 .ok) .nodes
 
-enum-known-condition-6 : tie.Need-enum-known-condition-6
-enum-known-condition-6 c = search needs
+enum-told-12 : tie.Need-enum-told-12
+enum-told-12 c = search needs
 
 closed-holds-requires : tie.Need-closed-holds-requires
-closed-holds-requires c κs = c .before .before .before .before .before .before .before .before .pre .0
+closed-holds-requires c κs = c .before .before .before .before .before .before .before .pre .0
 
-enum-known-condition-7 : tie.Need-enum-known-condition-7
-enum-known-condition-7 c = search needs
+enum-told-13 : tie.Need-enum-told-13
+enum-told-13 c = search needs
 
 closed-fails-requires : tie.Need-closed-fails-requires
-closed-fails-requires c κs = c .before .before .before .before .before .before .before .before .pre .0
+closed-fails-requires c κs = c .before .before .before .before .before .before .before .pre .0
 
 returns : tie.Need-returns
 unfolding holdsOf
-returns c = rw (c .before .before .condition .given .1) (cc)
+returns c = rw (c .before .before .before .condition .given .1) refl
 
 returns-2 : tie.Need-returns-2
 unfolding holdsOf
-returns-2 c = rw (c .before .before .condition2 .given .1) (cc)
+returns-2 c = rw (c .before .before .before .condition2 .given .1) refl
 
 returns-3 : tie.Need-returns-3
 unfolding holdsOf
@@ -193,11 +187,11 @@ returns-16 c = rw (c .before .enum-told11 .given .1) (c .onelang-fails .ensures 
 
 returns-17 : tie.Need-returns-17
 unfolding holdsOf
-returns-17 c = rw (c .before .before .condition6 .given .1) (c .closed-holds .ensures)
+returns-17 c = rw (c .before .enum-told12 .given .1) (c .closed-holds .ensures)
 
 returns-18 : tie.Need-returns-18
 unfolding holdsOf
-returns-18 c = rw (c .before .before .condition7 .given .1) (c .closed-fails .ensures)
+returns-18 c = rw (c .before .enum-told13 .given .1) (c .closed-fails .ensures)
 
 pub condition-holds-spec : {M : Type 1} → statement M
 condition-holds-spec =
@@ -205,9 +199,7 @@ condition-holds-spec =
     (tie.spec
     node-count-requires
     enum-known-condition
-    wide-requires
     enum-known-condition-2
-    wide-requires-2
     enum-known-condition-3
     test-holds-requires
     enum-known-condition-4
@@ -237,9 +229,9 @@ condition-holds-spec =
     onelang-holds-requires
     enum-told-11
     onelang-fails-requires
-    enum-known-condition-6
+    enum-told-12
     closed-holds-requires
-    enum-known-condition-7
+    enum-told-13
     closed-fails-requires
     returns
     returns-2

@@ -46,7 +46,7 @@ returns c =
     let ws : List ℕ = c .before .before .before .before .languages .result .words in
     let k = c .before .before .before .before .before .before .before .keep-ends in (
       c .nodes-where .ensures
-          ∙ where-ext cs vs (sound cs (pre .0 .ok) .nodes) (a .condition) (λ v. has (drop (16 * v) (k .last .0))) (from (graphAt cs vs) (pathAt cs (a .p))) (λ v. has ws) (λ v. tagged cs)
+          ∙ where-ext cs vs (sound cs (pre .0 .ok)) (a .condition) (λ v. has (drop (16 * v) (k .last .0))) (from (graphAt cs vs) (pathAt cs (a .p))) (λ v. has ws) (λ v. tagged cs)
           (row-ends cs (a .index .now) (pre .0) (Path (a .p)) (k .ensures)) (λ v l w lw. has-of (tagged cs) 16 (c .before .before .before .before .languages .ensures) w lw),
       k .ensures,
     )

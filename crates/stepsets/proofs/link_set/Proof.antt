@@ -6,6 +6,7 @@ use borrow.Author.Needs.{needs}
 use Rattle.nodeset.specs.Words.{has}
 use Rattle.nodeset.proofs.Sets.{length-of}
 use Rattle.chains.proofs.Chains.{walk-falls}
+use Rattle.model.specs.Limits.{maxLinks}
 use Rattle.tables.specs.Layout.{factCount, predicateAt}
 use Rattle.tables.proofs.WellFormed.{sound}
 use Rattle.stepsets.proofs.Targets.{Walk, walk-first, walk-on, walk-done}
@@ -52,7 +53,7 @@ loop-less c =
     let w = c .before .before .before .before .before .before .before .loop in
     let i : ℕ = w .next - 1 in
     let q : w .next ≡ suc i = omega (arith, c .before .before .before .before .before .before .loop-test .taken) in
-    let h : c .next-fact .result ≤ i = walk-falls (predicateAt (a .cells .now)) (factCount (a .cells .now)) 256 0 256 (t .indexed) i (omega (arith, q, w .inv .low)) (c .next-fact .ensures) in
+    let h : c .next-fact .result ≤ i = walk-falls (predicateAt (a .cells .now)) (factCount (a .cells .now)) maxLinks 0 maxLinks (t .indexed) i (omega (arith, q, w .inv .low)) (c .next-fact .ensures) in
     omega (arith, h, q)
 
 loop-again : tie.Need-loop-again Inv-loop μ-loop
@@ -62,7 +63,7 @@ loop-again c =
     let w = c .before .before .before .before .before .before .before .loop in
     let i : ℕ = w .next - 1 in
     let q : w .next ≡ suc i = omega (arith, c .before .before .before .before .before .before .loop-test .taken) in
-    walk-on (a .cells .now) (a .index .now) t (a .target) (w .next) (c .next-fact .result) i (c .before .before .before .before .before .node-of .result) (c .before .before .before .chooses .result) (w .inv) q (c .before .before .before .before .before .node-of .ensures) (c .before .before .before .chooses .ensures) (c .before .before .insert-if .ensures) (c .next-fact .ensures)
+    walk-on (a .cells .now) (a .index .now) t (a .target) (w .next) (c .next-fact .result) i (c .before .before .before .before .before .node-of .result .0) (c .before .before .before .chooses .result) (w .inv) q (c .before .before .before .before .before .node-of .ensures) (c .before .before .before .chooses .ensures) (c .before .before .insert-if .ensures) (c .next-fact .ensures)
 
 returns : tie.Need-returns Inv-loop μ-loop
 returns c =

@@ -43,7 +43,7 @@ returns c =
     let vs = a .values .now in
     let k = c .before .before .before .before .before .keep-ends in (
       c .nodes-where .ensures
-          ∙ where-ext cs vs (sound cs (pre .0 .ok) .nodes) (a .condition) (λ v. has (drop (16 * v) (k .last .0))) (from (graphAt cs vs) (pathAt cs (a .p))) (λ v. has (c .before .part .result .now)) (λ v. has (drop (16 * a .j) (a .work .now)))
+          ∙ where-ext cs vs (sound cs (pre .0 .ok)) (a .condition) (λ v. has (drop (16 * v) (k .last .0))) (from (graphAt cs vs) (pathAt cs (a .p))) (λ v. has (c .before .part .result .now)) (λ v. has (drop (16 * a .j) (a .work .now)))
           (row-ends cs (a .index .now) (pre .0) (Path (a .p)) (k .ensures)) (λ v l w lw. ap (λ (d : List ℕ). has d w) (c .before .part .ensures)),
       k .ensures,
     )

@@ -23,7 +23,7 @@ nodes-where-requires c κs = search needs
 returns : tie.Need-returns
 returns c =
     c .nodes-where .ensures
-    ∙ where-ext (now (c .before .before .before .before .before .args .cells)) (now (c .before .before .before .before .before .args .values)) (sound (now (c .before .before .before .before .before .args .cells)) (c .before .before .before .before .before .pre .0 .ok) .nodes) (c .before .before .before .before .before .args .condition)
+    ∙ where-ext (now (c .before .before .before .before .before .args .cells)) (now (c .before .before .before .before .before .args .values)) (sound (now (c .before .before .before .before .before .args .cells)) (c .before .before .before .before .before .pre .0 .ok)) (c .before .before .before .before .before .args .condition)
     (λ v. has (drop (16 * v) (replicate 16 0))) (λ v w. false) (λ v. has (replicate 16 0)) (λ v w. false)
     (λ v l w lw. has-drop (replicate 16 0) (16 * v) w ∙ has-zeros 16 _) (λ v l w lw. has-zeros 16 w)
 

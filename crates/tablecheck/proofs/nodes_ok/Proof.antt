@@ -22,6 +22,9 @@ node-count-requires c κs = search needs
 loop-holds : tie.Need-loop-holds Inv-loop μ-loop
 loop-holds c = (zero-le, passed-none true _)
 
+cast-t6 : tie.Need-cast-t6 Inv-loop μ-loop
+cast-t6 c = omega (arith, c .loop-test, c .before .before .node-count .ensures, c .before .before .before .shared-slice-known .given 0 .fits)
+
 node-ok-requires : tie.Need-node-ok-requires Inv-loop μ-loop
 node-ok-requires c κs = search needs
 
@@ -50,6 +53,7 @@ nodes-ok-spec =
     μ-loop
     node-count-requires
     loop-holds
+    cast-t6
     node-ok-requires
     add-v
     loop-less

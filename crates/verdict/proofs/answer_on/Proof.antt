@@ -1,10 +1,12 @@
 -- `answer_on` meets its contract: 9, then 10, then the verdict.
 use Prim.Native.Nat.{ℕ, _<_}
-use mathlib.Core.Bool.{_&&_}
-use mathlib.Core.Path.{sym, _∙_, subst}
+use mathlib.Core.Bool.{true, _&&_}
+use mathlib.Core.Path.{_≡_, sym, _∙_, subst}
+use native.Mathlib.Omega.{arith}
 use lib.Dec.{ltb}
 use borrow.Author.Tests.{not-true, not-false}
-use Rattle.tables.specs.Layout.{formCount}
+use Rattle.tables.specs.Layout.{nodeCount, shapeCount, formCount}
+use Rattle.tables.specs.WellFormed.{wellFormed}
 use Rattle.tables.proofs.WellFormed.{sound}
 use Rattle.verdict.proofs.Answers.{on-malformed, places-there, on-absent, on-given}
 use borrow.Author.Needs.{needs}
@@ -31,13 +33,22 @@ returns-2 c =
 root-requires : tie.Need-root-requires
 root-requires c κs = search needs
 
+-- the node and the shape are there
+there : (c : tie.After-root) → let a = c .before .before .before .before .before .before .before .args in (a .node < nodeCount (a .cells .now)) × (a .shape < shapeCount (a .cells .now)) × (wellFormed (a .cells .now) ≡ true)
+there c =
+    let a = c .before .before .before .before .before .before .before .args in
+    let w = sym (c .before .before .before .before .before .well-formed .ensures) ∙ not-false (c .before .before .before .before .before .well-formed .result) (c .before .before .if1 .left) in
+    let l = places-there (a .cells .now) (a .values .now) (a .node) (a .shape) w (λ i. ltb (a .node) (sym (c .before .before .before .before .node-count .ensures) i) && ltb (a .shape) (sym (c .before .before .before .shape-count .ensures) i)) (not-false _ (c .before .if2 .left)) in
+    (l .0, l .1, w)
+
+cast-t13 : tie.Need-cast-t13
+cast-t13 c = let l = there c in omega (arith, l .0, sound (c .before .before .before .before .before .before .before .args .cells .now) (l .2) .nodes)
+
 conforming-requires : tie.Need-conforming-requires
 conforming-requires c κs =
     let a = c .before .before .before .before .before .before .before .args in
-    let cs = a .cells .now in
-    let w = (sym (c .before .before .before .before .before .well-formed .ensures) ∙ not-false (c .before .before .before .before .before .well-formed .result) (c .before .before .if1 .left)) in
-    let l = places-there (a .cells .now) (a .values .now) (a .node) (a .shape) w (λ i. ltb (a .node) (sym (c .before .before .before .before .node-count .ensures) i) && ltb (a .shape) (sym (c .before .before .before .shape-count .ensures) i)) (not-false _ (c .before .if2 .left)) in
-    (c .before .before .before .before .before .before .before .pre, w, subst (λ (e : ℕ). e < formCount cs) (sym (c .root .ensures)) (sound cs w .root (a .shape) (l .1)), l .0)
+    let l = there c in
+    (c .before .before .before .before .before .before .before .pre, l .2, subst (λ (e : ℕ). e < formCount (a .cells .now)) (sym (c .root .ensures)) (sound (a .cells .now) (l .2) .root (a .shape) (l .1)), l .0)
 
 returns-3 : tie.Need-returns-3
 returns-3 c =
@@ -59,6 +70,7 @@ answer-on-spec =
     returns
     returns-2
     root-requires
+    cast-t13
     conforming-requires
     returns-3
     returns-4)

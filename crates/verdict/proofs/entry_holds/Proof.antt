@@ -22,9 +22,6 @@ form-code-requires c κs = search needs
 form-node-requires : tie.Need-form-node-requires
 form-node-requires c κs = search needs
 
-wide-requires : tie.Need-wide-requires
-wide-requires c κs = search needs
-
 known-requires : tie.Need-known-requires
 known-requires c κs = (first-lt (c .before .before .before .before .before .before .before .pre) (c .before .before .before .first-part .result) (c .before .before .before .first-part .ensures) (parts-by (c .before .before .before .before .before .before .before .args .cells .now) (c .before .before .before .before .before .before .before .args .e) 2 (sym (c .before .form-code .ensures) ∙ c .match .keys3)), node-lt (c .before .before .before .before .before .before .before .pre))
 
@@ -67,8 +64,8 @@ slice-aggregate-all-holds c = search needs
 all-holds-requires : tie.Need-all-holds-requires
 all-holds-requires c κs = (asked-of (c .before .before .before .before .before .before .before .before .before .before .pre), (sym (c .before .before .before .before .form-code .ensures) ∙ c .before .before .before .match .keys8))
 
-closed-holds-requires : tie.Need-closed-holds-requires
-closed-holds-requires c κs = c .before .before .before .before .before .before .before .pre .ready .tables
+links-hold-requires : tie.Need-links-hold-requires
+links-hold-requires c κs = (asked-of (c .before .before .before .before .before .before .before .pre), (sym (c .before .form-code .ensures) ∙ c .match .keys9))
 
 lang-holds-requires : tie.Need-lang-holds-requires
 lang-holds-requires c κs = (asked-of (c .before .before .before .before .before .before .before .pre), (sym (c .before .form-code .ensures) ∙ c .match .keys10))
@@ -92,7 +89,7 @@ returns : tie.Need-returns
 returns c = holds-top (c .before .before .before .before .before .before .before .pre) (sym (c .before .form-code .ensures) ∙ c .match .keys1)
 
 returns-2 : tie.Need-returns-2
-returns-2 c = holds-is (c .before .before .before .before .before .before .before .before .before .pre) (sym (c .before .before .before .form-code .ensures) ∙ c .before .before .match .keys2) (c .wide .result) (c .wide .ensures ∙ c .before .form-node .ensures)
+returns-2 c = holds-is (c .before .before .before .before .before .before .before .before .before .before .pre) (sym (c .before .before .before .before .form-code .ensures) ∙ c .before .before .before .match .keys2) (c .before .before .form-node .result .0) (c .before .before .form-node .ensures)
 
 returns-3 : tie.Need-returns-3
 returns-3 c = c .known .ensures ∙ holds-shape (c .before .before .before .before .before .before .before .before .pre) (c .before .before .before .before .first-part .result) (c .before .before .before .before .first-part .ensures) (sym (c .before .before .form-code .ensures) ∙ c .before .match .keys3)
@@ -113,7 +110,7 @@ returns-8 : tie.Need-returns-8
 returns-8 c = c .all-holds .ensures ∙ holds-all (c .before .before .before .before .before .before .before .before .before .before .before .pre) (c .before .before .before .before .before .before .before .first-part .result) (c .before .before .before .before .before .before .before .first-part .ensures) (c .before .before .before .row2 .ensures) (sym (c .before .before .before .before .before .form-code .ensures) ∙ c .before .before .before .before .match .keys8)
 
 returns-9 : tie.Need-returns-9
-returns-9 c = c .closed-holds .ensures ∙ holds-closed (c .before .before .before .before .before .before .before .before .pre) (sym (c .before .before .form-code .ensures) ∙ c .before .match .keys9)
+returns-9 c = c .links-hold .ensures ∙ holds-closed (c .before .before .before .before .before .before .before .before .pre) (sym (c .before .before .form-code .ensures) ∙ c .before .match .keys9)
 
 returns-10 : tie.Need-returns-10
 returns-10 c = c .lang-holds .ensures
@@ -132,7 +129,6 @@ entry-holds-spec =
     second-part-requires
     form-code-requires
     form-node-requires
-    wide-requires
     known-requires
     known-requires-2
     known-requires-3
@@ -147,7 +143,7 @@ entry-holds-spec =
     row-requires-2
     slice-aggregate-all-holds
     all-holds-requires
-    closed-holds-requires
+    links-hold-requires
     lang-holds-requires
     test-holds-requires
     sets-hold-requires

@@ -1,4 +1,4 @@
--- `fill` meets its contract. The invariant: all nodes before v are settled, and nothing that was known is lost.
+-- `fill` meets its contract. The invariant: all nodes before x are settled, and nothing that was known is lost.
 use mathlib.Core.Path.{_≡_, sym, _∙_}
 use Prim.Native.Nat.{_-_, _<_}
 use native.Mathlib.Omega.{arith}
@@ -13,10 +13,10 @@ use Rattle.verdict.proofs.fill.Statement.{statement}
 use Rattle.verdict.proofs.fill.Tie as tie
 
 abbrev Inv-loop : tie.InvT-loop
-Inv-loop memo₀ e cells index values set words n v₀ memo v = (16 ≡ length words) × Filling cells values memo₀ memo e words n v
+Inv-loop memo₀ e cells index values set words n x₀ memo x = (16 ≡ length words) × Filling cells values memo₀ memo e words n x
 
 abbrev μ-loop : tie.MeasureT-loop
-μ-loop memo₀ e cells index values set words n v₀ memo v = n - v
+μ-loop memo₀ e cells index values set words n x₀ memo x = n - x
 
 decide-requires : tie.Need-decide-requires Inv-loop μ-loop
 decide-requires c κs = c .before .before .before .before .pre
@@ -32,6 +32,9 @@ next-member-requires c κs = search needs
 
 loop-holds : tie.Need-loop-holds Inv-loop μ-loop
 loop-holds c = (slice-aggregate-next-member (c .before), filling-none (c .before .before .before .before .before .before .before .before .before .before .pre .0) (c .before .before .node-count .ensures) (c .next-member .ensures))
+
+cast-t20 : tie.Need-cast-t20 Inv-loop μ-loop
+cast-t20 c = omega (arith, c .before .loop-test, c .before .before .loop .inv .1 .count, nodes-le (c .before .before .before .before .before .before .before .before .before .before .before .before .before .args .cells .now) (c .before .before .before .before .before .before .before .before .before .before .before .before .before .pre .0 .tables))
 
 slice-aggregate-test : tie.Need-slice-aggregate-test Inv-loop μ-loop
 slice-aggregate-test c = search needs
@@ -54,14 +57,14 @@ next-member-requires-2 : tie.Need-next-member-requires-2 Inv-loop μ-loop
 next-member-requires-2 c κs = search needs
 
 loop-less : tie.Need-loop-less Inv-loop μ-loop
-loop-less c = omega (arith, next-after (has (c .before .before .before .before .before .before .before .before .before .before .before .before .before .before .before .before .before .before .before .before .args .nodes .words)) {x = c .before .before .before .before .before .before .before .before .before .loop .v} (omega (arith, c .before .before .before .before .before .before .before .before .loop-test)) (c .next-member2 .ensures), c .before .before .before .before .before .before .before .before .loop-test)
+loop-less c = omega (arith, next-after (has (c .before .before .before .before .before .before .before .before .before .before .before .before .before .before .before .before .before .before .before .before .args .nodes .words)) {x = c .before .before .before .before .before .before .before .before .before .loop .x} (omega (arith, c .before .before .before .before .before .before .before .before .loop-test)) (c .next-member2 .ensures), c .before .before .before .before .before .before .before .before .loop-test)
 
 loop-again : tie.Need-loop-again Inv-loop μ-loop
 loop-again c =
     let r = c .before .before .before .before .before .before .before .before .before .before .before .before .before .before .before .before .before .before .before .before .pre .0 in
     let t = c .before .before .before .before .before .before .before .before .before .loop in
-    let l : t .v < nodeCount (c .before .before .before .before .before .before .before .before .before .before .before .before .before .before .before .before .before .before .before .before .args .cells .now) = omega (arith, c .before .before .before .before .before .before .before .before .loop-test, t .inv .1 .count) in
-    (t .inv .0, filling-more (t .inv .1) (r .tables) (entry-lt r) (omega (arith, c .before .before .before .before .before .before .before .before .loop-test)) (c .before .before .before .before .before .test .ensures ∙ c .before .before .before .before .before .before .before .before .before .before .before .before .before .before .before .decide .ensures (t .v) l (t .inv .1 .passed .hit (omega (arith, c .before .before .before .before .before .before .before .before .loop-test)))) (c .before .before .before .before .remember .ensures) (c .before .before .before .before .remember .kept .0) (c .next-member2 .ensures))
+    let l : t .x < nodeCount (c .before .before .before .before .before .before .before .before .before .before .before .before .before .before .before .before .before .before .before .before .args .cells .now) = omega (arith, c .before .before .before .before .before .before .before .before .loop-test, t .inv .1 .count) in
+    (t .inv .0, filling-more (t .inv .1) (r .tables) (entry-lt r) (omega (arith, c .before .before .before .before .before .before .before .before .loop-test)) (c .before .before .before .before .before .test .ensures ∙ c .before .before .before .before .before .before .before .before .before .before .before .before .before .before .before .decide .ensures (t .x) l (t .inv .1 .passed .hit (omega (arith, c .before .before .before .before .before .before .before .before .loop-test)))) (c .before .before .before .before .remember .ensures) (c .before .before .before .before .remember .kept .0) (c .next-member2 .ensures))
 
 same-length : tie.Need-same-length Inv-loop μ-loop
 same-length c = c .before .loop .inv .1 .size ∙ sym (c .before .before .before .before .before .before .before .before .before .before .before .before .pre .0 .size)
@@ -80,6 +83,7 @@ fill-spec =
     slice-aggregate-next-member
     next-member-requires
     loop-holds
+    cast-t20
     slice-aggregate-test
     test-requires
     remember-requires

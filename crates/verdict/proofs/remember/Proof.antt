@@ -5,6 +5,9 @@ use borrow.Author.Needs.{needs}
 use Rattle.verdict.proofs.remember.Statement.{statement}
 use Rattle.verdict.proofs.remember.Tie as tie
 
+cast-x : tie.Need-cast-x
+cast-x c = search needs
+
 mul-pick : tie.Need-mul-pick
 mul-pick c = search needs
 
@@ -36,12 +39,13 @@ same-length : tie.Need-same-length
 same-length c = search needs
 
 returns : tie.Need-returns
-returns c = c .before .before .insert .ensures ∙ ap (with (c .before .before .before .before .before .before .args .memo .now)) (c .before .before .before .pick .ensures)
+returns c = c .before .before .insert .ensures ∙ ap (with (c .before .before .before .before .before .before .before .args .memo .now)) (c .before .before .before .pick .ensures)
 
 pub remember-spec : {M : Type 1} → statement M
 remember-spec =
     tie.close
     (tie.spec
+    cast-x
     mul-pick
     mul-pick-2
     add-pick

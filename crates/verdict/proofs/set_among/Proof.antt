@@ -1,4 +1,4 @@
--- `set_among` meets its contract. The invariant: the set has the nodes before v that conform.
+-- `set_among` meets its contract. The invariant: the set has the nodes before x that conform.
 use Prim.Native.Nat.{ℕ, _-_, _<_}
 use mathlib.Core.Bool.{Bool, _&&_}
 use mathlib.Core.Path.{_≡_, ap₂, _∙_}
@@ -17,10 +17,10 @@ use Rattle.verdict.proofs.set_among.Statement.{statement}
 use Rattle.verdict.proofs.set_among.Tie as tie
 
 abbrev Inv-loop : tie.InvT-loop
-Inv-loop memo cells index values e n among words₀ v₀ words v = (n ≡ nodeCount cells) × Gathered (has among) (conforms (graphAt cells values) (shapeAt cells values e)) n words v
+Inv-loop memo cells index values e n among words₀ x₀ words x = (n ≡ nodeCount cells) × Gathered (has among) (conforms (graphAt cells values) (shapeAt cells values e)) n words x
 
 abbrev μ-loop : tie.MeasureT-loop
-μ-loop memo cells index values e n among words₀ v₀ words v = n - v
+μ-loop memo cells index values e n among words₀ x₀ words x = n - x
 
 node-count-requires : tie.Need-node-count-requires Inv-loop μ-loop
 node-count-requires c κs = search needs
@@ -34,12 +34,15 @@ next-member-requires c κs = search needs
 loop-holds : tie.Need-loop-holds Inv-loop μ-loop
 loop-holds c = let a = c .before .before .before .before .before .before .before .args in (c .before .before .before .node-count .ensures, gathered-none (has (a .nodes .words)) (conforms (graphAt (a .cells .now) (a .values .now)) (shapeAt (a .cells .now) (a .values .now) (a .e))) (c .before .before .before .node-count .result) (c .next-member .ensures))
 
+cast-t16 : tie.Need-cast-t16 Inv-loop μ-loop
+cast-t16 c = omega (arith, c .loop-test, c .before .loop .inv .0, nodes-le (c .before .before .before .before .before .before .before .before .before .args .cells .now) (c .before .before .before .before .before .before .before .before .before .pre .0 .tables))
+
 entry-holds-requires : tie.Need-entry-holds-requires Inv-loop μ-loop
 entry-holds-requires c κs =
     let pre = c .before .before .before .before .before .before .before .before .before .pre in
     let t = c .before .loop in
-    let l : t .v < nodeCount (c .before .before .before .before .before .before .before .before .before .args .cells .now) = omega (arith, c .loop-test, t .inv .0) in
-    record { ready = pre .0; node = l; parts = pre .1 (t .v) l (t .inv .1 .hit (omega (arith, c .loop-test))) }
+    let l : t .x < nodeCount (c .before .before .before .before .before .before .before .before .before .args .cells .now) = omega (arith, c .loop-test, t .inv .0) in
+    record { ready = pre .0; node = l; parts = pre .1 (t .x) l (t .inv .1 .hit (omega (arith, c .loop-test))) }
 
 slice-aggregate-insert-if : tie.Need-slice-aggregate-insert-if Inv-loop μ-loop
 slice-aggregate-insert-if c = let a = c .before .before .before .before .before .before .before .before .before .before .before .args in gathered-length (has (a .nodes .words)) (conforms (graphAt (a .cells .now) (a .values .now)) (shapeAt (a .cells .now) (a .values .now) (a .e))) (c .before .before .before .before .before .before .before .node-count .result) (c .before .before .before .loop .inv .1)
@@ -57,7 +60,7 @@ next-member-requires-2 : tie.Need-next-member-requires-2 Inv-loop μ-loop
 next-member-requires-2 c κs = search needs
 
 loop-less : tie.Need-loop-less Inv-loop μ-loop
-loop-less c = omega (arith, next-after (has (c .before .before .before .before .before .before .before .before .before .before .before .before .before .before .before .args .nodes .words)) {x = c .before .before .before .before .before .before .before .loop .v} (omega (arith, c .before .before .before .before .before .before .loop-test)) (c .next-member2 .ensures), c .before .before .before .before .before .before .loop-test)
+loop-less c = omega (arith, next-after (has (c .before .before .before .before .before .before .before .before .before .before .before .before .before .before .before .args .nodes .words)) {x = c .before .before .before .before .before .before .before .loop .x} (omega (arith, c .before .before .before .before .before .before .loop-test)) (c .next-member2 .ensures), c .before .before .before .before .before .before .loop-test)
 
 loop-again : tie.Need-loop-again Inv-loop μ-loop
 loop-again c =
@@ -84,6 +87,7 @@ set-among-spec =
     slice-aggregate-next-member
     next-member-requires
     loop-holds
+    cast-t16
     entry-holds-requires
     slice-aggregate-insert-if
     insert-if-requires

@@ -6,6 +6,9 @@ use borrow.Author.Needs.{needs}
 use Rattle.tables.proofs.reads.number.Statement.{statement}
 use Rattle.tables.proofs.reads.number.Tie as tie
 
+cast-i : tie.Need-cast-i
+cast-i c = search needs
+
 mul-result : tie.Need-mul-result
 mul-result c = search needs
 
@@ -16,7 +19,7 @@ returns : tie.Need-returns
 returns c = search needs
 
 returns-2 : tie.Need-returns-2
-returns-2 c = sym (List·getD-eq-default (now (c .before .args .values)) (pos 0) (c .if1 .left))
+returns-2 c = sym (List·getD-eq-default (now (c .before .before .args .values)) (pos 0) (c .if1 .left))
 
 pub number-spec : {M : Type 1} → statement M
-number-spec = tie.close (tie.spec mul-result shared-slice-copy-out-result returns returns-2)
+number-spec = tie.close (tie.spec cast-i mul-result shared-slice-copy-out-result returns returns-2)
