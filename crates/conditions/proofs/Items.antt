@@ -22,10 +22,10 @@ use Rattle.tables.specs.Layout.{linkCount, factCount, itemCount, itemAt, subjec
 use Rattle.tables.specs.Decode.{tripleAt, triplesAt, itemsAt}
 use Rattle.tables.specs.WellFormed.{itemOk, itemsOk}
 use Rattle.tables.proofs.WellFormed.{sound}
-use Rattle.paths.specs.Facts.{Tables}
+use Rattle.paths.specs.Facts.{subjectHeads, subjectNexts, Tables}
 use Rattle.plan.specs.Conditions.{someUnlisted}
 use Rattle.plan.proofs.Complements.{not-closed}
-use Rattle.model.specs.Limits.{maxNodes, maxLinks, maxFacts}
+use Rattle.model.specs.Limits.{maxNodes, maxLinks}
 use Rattle.model.specs.Shapes.{onlyListed}
 use Rattle.conditions.specs.Pairs.{linkWords, unlisted}
 use Rattle.conditions.specs.Searches.{first, found, nothing}
@@ -121,7 +121,7 @@ first-last key h p (suc n) w = go (eqb (key n) h) refl (p n) refl (first-last ke
 
 -- where the chain of the facts out of v begins
 abbrev pub chainOf : List ℕ → ℕ → ℕ
-chainOf index v = cond (ltb v maxNodes) (getD index (maxLinks + maxFacts + v) 0) 0
+chainOf index v = cond (ltb v maxNodes) (getD index (subjectHeads + v) 0) 0
 
 pub record Sought (cs : List ℕ) (listed : ℕ → Bool) (v next : ℕ) (answer : Option ℕ) : Type 0 where
   pub low : next ≤ factCount cs
@@ -142,17 +142,17 @@ module _ (cs index : List ℕ) (t : Tables cs index) (listed : ℕ → Bool) (v 
   }
     where
       last : next ≡ lastWith (subjectAt cs) v (factCount cs)
-      last = walk-begins (subjectAt cs) (factCount cs) maxNodes (maxLinks + maxFacts) (maxLinks + maxFacts + maxNodes) (t .subjects) (λ i l. omega (arith, sound cs (t .ok) .subject i l, sound cs (t .ok) .nodes)) v refl e
+      last = walk-begins (subjectAt cs) (factCount cs) maxNodes subjectHeads subjectNexts (t .subjects) (λ i l. omega (arith, sound cs (t .ok) .subject i l, sound cs (t .ok) .nodes)) v refl e
 
-  module _ {next after : ℕ} (i : ℕ) {yes : Bool} {answer new : Option ℕ} (s : Sought cs listed v next answer) (q : next ≡ suc i) (ey : yes ≡ not (listed (predicateAt cs i))) (en : new ≡ cond yes (Option.some i) answer) (ea : after ≡ getD index (maxLinks + maxFacts + maxNodes + i) 0) where
+  module _ {next after : ℕ} (i : ℕ) {yes : Bool} {answer new : Option ℕ} (s : Sought cs listed v next answer) (q : next ≡ suc i) (ey : yes ≡ not (listed (predicateAt cs i))) (en : new ≡ cond yes (Option.some i) answer) (ea : after ≡ getD index (subjectNexts + i) 0) where
     here : i < factCount cs
     here = omega (arith, s .low)
 
     pub sought-falls : after ≤ i
-    sought-falls = walk-falls (subjectAt cs) (factCount cs) maxNodes (maxLinks + maxFacts) (maxLinks + maxFacts + maxNodes) (t .subjects) i here ea
+    sought-falls = walk-falls (subjectAt cs) (factCount cs) maxNodes subjectHeads subjectNexts (t .subjects) i here ea
 
     last : after ≡ lastWith (subjectAt cs) v i
-    last = walk-next (subjectAt cs) (factCount cs) maxNodes (maxLinks + maxFacts) (maxLinks + maxFacts + maxNodes) (t .subjects) v i here (s .own i q) ea
+    last = walk-next (subjectAt cs) (factCount cs) maxNodes subjectHeads subjectNexts (t .subjects) v i here (s .own i q) ea
 
     -- what fact i adds
     pub sought-more : Sought cs listed v after new

@@ -14,6 +14,8 @@ use Rattle.nodeset.specs.Words.{has, wordsOf}
 use Rattle.nodeset.proofs.Sets.{has-of, wordsOf-ext}
 use Rattle.model.specs.Graph.{languageOf, holds, holds₂}
 use Rattle.model.specs.Shapes.{sameLang, unlikeLangs}
+use Rattle.model.specs.Limits.{maxNodes}
+use Rattle.tables.specs.Codes as codes
 use Rattle.tables.specs.Layout.{nodeCount, kindAt, langAt}
 use Rattle.tables.specs.Decode.{termAt}
 use Rattle.plan.specs.Conditions.{somePair, clash}
@@ -56,10 +58,10 @@ module _ (cs : List ℕ) (vs : List ℤ) where
   lang-breaks w = pair-breaks (nodeCount cs) w w (clash (termAt cs vs))
 
   -- those that have no language need not be looked at
-  alike-only : (x y : ℕ) → x < nodeCount cs → y < nodeCount cs → alike x y ≡ true → eqb (kindAt cs x) 4 ≡ true
-  alike-only x y l k t = and-left (eqb (kindAt cs x) 4) (eqb (kindAt cs y) 4 && eqb (langAt cs x) (langAt cs y)) (lang-test cs vs x y l k ∙ t)
+  alike-only : (x y : ℕ) → x < nodeCount cs → y < nodeCount cs → alike x y ≡ true → eqb (kindAt cs x) codes.nodeWords ≡ true
+  alike-only x y l k t = and-left (eqb (kindAt cs x) codes.nodeWords) (eqb (kindAt cs y) codes.nodeWords && eqb (langAt cs x) (langAt cs y)) (lang-test cs vs x y l k ∙ t)
 
-  module _ (a w : ℕ → Bool) (split : (x : ℕ) → x < nodeCount cs → w x ≡ (a x && eqb (kindAt cs x) 4)) where
+  module _ (a w : ℕ → Bool) (split : (x : ℕ) → x < nodeCount cs → w x ≡ (a x && eqb (kindAt cs x) codes.nodeWords)) where
     both-tagged : (x y : ℕ) → x < nodeCount cs → y < nodeCount cs → among w w (clash (termAt cs vs)) x y ≡ among a a (clash (termAt cs vs)) x y
     unfolding clash
     both-tagged x y l k = bool-cases (λ b. alike x y ≡ b → (w x && (w y && (not (eqb x y) && b))) ≡ (a x && (a y && (not (eqb x y) && b)))) (alike x y)
@@ -83,13 +85,13 @@ module _ (cs : List ℕ) (vs : List ℤ) where
     clash-tagged = sym (lang-breaks w) ∙ ap found only-tagged ∙ lang-breaks a
 
 -- the words of the nodes that have a language
-pub has-tagged : (cs : List ℕ) {ws : List ℕ} → nodeCount cs ≤ 1024 → ws ≡ wordsOf (λ m. ltb m (nodeCount cs) && eqb (kindAt cs m) 4) 16 → (a : ℕ → Bool) (x : ℕ) → x < nodeCount cs → (a x && has ws x) ≡ (a x && eqb (kindAt cs x) 4)
-has-tagged cs few e a x l = ap (λ (b : Bool). a x && b) (has-of (λ m. ltb m (nodeCount cs) && eqb (kindAt cs m) 4) 16 e x (omega arith) ∙ ap (λ (b : Bool). b && eqb (kindAt cs x) 4) (lt-ltb x (nodeCount cs) l))
+pub has-tagged : (cs : List ℕ) {ws : List ℕ} → nodeCount cs ≤ maxNodes → ws ≡ wordsOf (λ m. ltb m (nodeCount cs) && eqb (kindAt cs m) codes.nodeWords) 16 → (a : ℕ → Bool) (x : ℕ) → x < nodeCount cs → (a x && has ws x) ≡ (a x && eqb (kindAt cs x) codes.nodeWords)
+has-tagged cs few e a x l = ap (λ (b : Bool). a x && b) (has-of (λ m. ltb m (nodeCount cs) && eqb (kindAt cs m) codes.nodeWords) 16 e x (omega arith) ∙ ap (λ (b : Bool). b && eqb (kindAt cs x) codes.nodeWords) (lt-ltb x (nodeCount cs) l))
 
 -- of all nodes, those that have a language
-pub all-langs : (cs ws : List ℕ) (n : ℕ) → n ≡ nodeCount cs → ws ≡ wordsOf (λ m. ltb m n) 16 → wordsOf (λ m. ltb m (nodeCount cs) && (has ws m && eqb (kindAt cs m) 4)) 16 ≡ wordsOf (λ m. ltb m (nodeCount cs) && eqb (kindAt cs m) 4) 16
-all-langs cs ws n e f = wordsOf-ext (λ m. ltb m (nodeCount cs) && (has ws m && eqb (kindAt cs m) 4)) (λ m. ltb m (nodeCount cs) && eqb (kindAt cs m) 4) 16 (λ m l.
-    ap (λ (b : Bool). ltb m (nodeCount cs) && (b && eqb (kindAt cs m) 4)) (has-of (λ m. ltb m n) 16 f m l ∙ ap (ltb m) e) ∙ twice (ltb m (nodeCount cs)) (eqb (kindAt cs m) 4))
+pub all-langs : (cs ws : List ℕ) (n : ℕ) → n ≡ nodeCount cs → ws ≡ wordsOf (λ m. ltb m n) 16 → wordsOf (λ m. ltb m (nodeCount cs) && (has ws m && eqb (kindAt cs m) codes.nodeWords)) 16 ≡ wordsOf (λ m. ltb m (nodeCount cs) && eqb (kindAt cs m) codes.nodeWords) 16
+all-langs cs ws n e f = wordsOf-ext (λ m. ltb m (nodeCount cs) && (has ws m && eqb (kindAt cs m) codes.nodeWords)) (λ m. ltb m (nodeCount cs) && eqb (kindAt cs m) codes.nodeWords) 16 (λ m l.
+    ap (λ (b : Bool). ltb m (nodeCount cs) && (b && eqb (kindAt cs m) codes.nodeWords)) (has-of (λ m. ltb m n) 16 f m l ∙ ap (ltb m) e) ∙ twice (ltb m (nodeCount cs)) (eqb (kindAt cs m) codes.nodeWords))
   where
     twice : (a b : Bool) → (a && (a && b)) ≡ (a && b)
     twice true b = refl

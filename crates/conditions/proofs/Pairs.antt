@@ -9,6 +9,7 @@ use lib.IntN.{ℤ}
 use lib.Signed.{ltZ, leZ}
 use Rattle.model.specs.Graph.{valueOf}
 use Rattle.model.specs.Shapes.{allPairs, less, lessEq}
+use Rattle.tables.specs.Codes as codes
 use Rattle.tables.specs.Layout.{nodeCount, kindAt, numberAt}
 use Rattle.tables.specs.Decode.{termAt}
 use Rattle.plan.specs.Conditions.{lacks, notLess, notLessEq, somePair}
@@ -21,10 +22,10 @@ use Rattle.conditions.proofs.Terms.{value-lacks}
 use Rattle.conditions.proofs.Searches.{pair-breaks, pair-keeps}
 
 -- the first has no number, or the second has none, or its number does not come after the first's
-pub order-test : (cs : List ℕ) (vs : List ℤ) (x y : ℕ) → x < nodeCount cs → y < nodeCount cs → (order : Order) → (not (eqb (kindAt cs x) 2) || (not (eqb (kindAt cs y) 2) || comesBack order (numberAt vs x) (numberAt vs y))) ≡ unordered order (termAt cs vs x) (termAt cs vs y)
+pub order-test : (cs : List ℕ) (vs : List ℤ) (x y : ℕ) → x < nodeCount cs → y < nodeCount cs → (order : Order) → (not (eqb (kindAt cs x) codes.nodeNumber) || (not (eqb (kindAt cs y) codes.nodeNumber) || comesBack order (numberAt vs x) (numberAt vs y))) ≡ unordered order (termAt cs vs x) (termAt cs vs y)
 unfolding unordered comesBack notLess notLessEq
-order-test cs vs x y l k Less = sym (value-lacks cs vs x l (λ p. lacks (λ q. leZ q p) (valueOf (termAt cs vs y))) ∙ ap (λ (b : Bool). not (eqb (kindAt cs x) 2) || b) (value-lacks cs vs y k (λ q. leZ q (numberAt vs x))))
-order-test cs vs x y l k LessEq = sym (value-lacks cs vs x l (λ p. lacks (λ q. ltZ q p) (valueOf (termAt cs vs y))) ∙ ap (λ (b : Bool). not (eqb (kindAt cs x) 2) || b) (value-lacks cs vs y k (λ q. ltZ q (numberAt vs x))))
+order-test cs vs x y l k Less = sym (value-lacks cs vs x l (λ p. lacks (λ q. leZ q p) (valueOf (termAt cs vs y))) ∙ ap (λ (b : Bool). not (eqb (kindAt cs x) codes.nodeNumber) || b) (value-lacks cs vs y k (λ q. leZ q (numberAt vs x))))
+order-test cs vs x y l k LessEq = sym (value-lacks cs vs x l (λ p. lacks (λ q. ltZ q p) (valueOf (termAt cs vs y))) ∙ ap (λ (b : Bool). not (eqb (kindAt cs x) codes.nodeNumber) || b) (value-lacks cs vs y k (λ q. ltZ q (numberAt vs x))))
 
 -- ---- nothing is found where each pair is so ordered; something where some pair is not
 module _ (cs : List ℕ) (vs : List ℤ) (a b : ℕ → Bool) where

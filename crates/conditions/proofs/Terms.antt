@@ -17,6 +17,7 @@ use Rattle.base.specs.Numbered.{below}
 use Rattle.base.proofs.Bools.{not-and, not-or}
 use Rattle.model.specs.Graph.{Term, iri, blankNode, numeric, plain, tagged, valueOf, datatypeOf, languageOf, holds}
 use Rattle.model.specs.Shapes.{Shape, anIri, aBlank, aLiteral, isKind, nodeKind, datatype, satisfies, conforms, sameLang}
+use Rattle.tables.specs.Codes as codes
 use Rattle.tables.specs.Layout.{nodeCount, kindAt, typeAt, langAt, numberAt, limitAt, formCodeAt, formFirstAt, formSecondAt, formThirdAt, formFourthAt}
 use Rattle.tables.specs.Entries.{entryOf}
 use Rattle.tables.specs.Decode.{termOf, termAt, graphAt, kindOf, shapeOf, entryAt, shapeAt}
@@ -118,24 +119,24 @@ module _ (cs : List ℕ) (vs : List ℤ) (v : ℕ) (l : v < nodeCount cs) where
   term-by f = ap (λ (b : Bool). f (cond b (getD terms (kindAt cs v) iri) iri)) (lt-ltb v (nodeCount cs) l) ∙ sym (List·getD-map f terms (kindAt cs v) iri)
 
   -- it has a number, and f holds of it; it has a language
-  pub value-test : (f : ℤ → Bool) → holds f (valueOf (termAt cs vs v)) ≡ (eqb (kindAt cs v) 2 && f (numberAt vs v))
+  pub value-test : (f : ℤ → Bool) → holds f (valueOf (termAt cs vs v)) ≡ (eqb (kindAt cs v) codes.nodeNumber && f (numberAt vs v))
   unfolding holds valueOf
   value-test f = term-by (λ a. holds f (valueOf a)) ∙ at-number (f (numberAt vs v)) (kindAt cs v)
 
-  pub language-test : (f : ℕ → Bool) → holds f (languageOf (termAt cs vs v)) ≡ (eqb (kindAt cs v) 4 && f (langAt cs v))
+  pub language-test : (f : ℕ → Bool) → holds f (languageOf (termAt cs vs v)) ≡ (eqb (kindAt cs v) codes.nodeWords && f (langAt cs v))
   unfolding holds languageOf
   language-test f = term-by (λ a. holds f (languageOf a)) ∙ at-words (f (langAt cs v)) (kindAt cs v)
 
   -- it has no number, no language, or f holds of it
-  pub value-lacks : (f : ℤ → Bool) → lacks f (valueOf (termAt cs vs v)) ≡ (not (eqb (kindAt cs v) 2) || f (numberAt vs v))
+  pub value-lacks : (f : ℤ → Bool) → lacks f (valueOf (termAt cs vs v)) ≡ (not (eqb (kindAt cs v) codes.nodeNumber) || f (numberAt vs v))
   value-lacks f =
       lacks-not f (valueOf (termAt cs vs v)) ∙ ap not (value-test (λ x. not (f x)))
-      ∙ not-and (eqb (kindAt cs v) 2) (not (f (numberAt vs v))) ∙ ap (λ (b : Bool). not (eqb (kindAt cs v) 2) || b) (Bool·not-not (f (numberAt vs v)))
+      ∙ not-and (eqb (kindAt cs v) codes.nodeNumber) (not (f (numberAt vs v))) ∙ ap (λ (b : Bool). not (eqb (kindAt cs v) codes.nodeNumber) || b) (Bool·not-not (f (numberAt vs v)))
 
-  pub language-lacks : (f : ℕ → Bool) → lacks f (languageOf (termAt cs vs v)) ≡ (not (eqb (kindAt cs v) 4) || f (langAt cs v))
+  pub language-lacks : (f : ℕ → Bool) → lacks f (languageOf (termAt cs vs v)) ≡ (not (eqb (kindAt cs v) codes.nodeWords) || f (langAt cs v))
   language-lacks f =
       lacks-not f (languageOf (termAt cs vs v)) ∙ ap not (language-test (λ x. not (f x)))
-      ∙ not-and (eqb (kindAt cs v) 4) (not (f (langAt cs v))) ∙ ap (λ (b : Bool). not (eqb (kindAt cs v) 4) || b) (Bool·not-not (f (langAt cs v)))
+      ∙ not-and (eqb (kindAt cs v) codes.nodeWords) (not (f (langAt cs v))) ∙ ap (λ (b : Bool). not (eqb (kindAt cs v) codes.nodeWords) || b) (Bool·not-not (f (langAt cs v)))
 
   pub datatype-test : (t k d : ℕ) → k ≡ kindAt cs v → d ≡ typeAt cs v → (((eqb k 2 || eqb k 3) && eqb t d) || (eqb k 4 && eqb t 0)) ≡ satisfies (datatype t) (termAt cs vs v)
   unfolding satisfies holds datatypeOf
@@ -174,9 +175,9 @@ module _ (cs : List ℕ) (vs : List ℤ) (v : ℕ) (l : v < nodeCount cs) where
 
 -- ---- the terms of two nodes
 module _ (cs : List ℕ) (vs : List ℤ) (x y : ℕ) (l : x < nodeCount cs) (m : y < nodeCount cs) where
-  pub lang-test : (eqb (kindAt cs x) 4 && (eqb (kindAt cs y) 4 && eqb (langAt cs x) (langAt cs y))) ≡ sameLang (termAt cs vs x) (termAt cs vs y)
+  pub lang-test : (eqb (kindAt cs x) codes.nodeWords && (eqb (kindAt cs y) codes.nodeWords && eqb (langAt cs x) (langAt cs y))) ≡ sameLang (termAt cs vs x) (termAt cs vs y)
   unfolding sameLang
-  lang-test = sym (language-test cs vs x l (λ p. holds (eqb p) (languageOf (termAt cs vs y))) ∙ ap (λ (b : Bool). eqb (kindAt cs x) 4 && b) (language-test cs vs y m (eqb (langAt cs x))))
+  lang-test = sym (language-test cs vs x l (λ p. holds (eqb p) (languageOf (termAt cs vs y))) ∙ ap (λ (b : Bool). eqb (kindAt cs x) codes.nodeWords && b) (language-test cs vs y m (eqb (langAt cs x))))
 
 -- a signed number in a local, read back
 pub read-back : (x : ℤ) {y : ℤ} → mag x < 9223372036854775808 → x ≡ y → toZ w64 (ofZ w64 x) ≡ y

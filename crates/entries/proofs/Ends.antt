@@ -48,6 +48,6 @@ unfolding endKnown endFor
 end-ok cs p h = bool-cases (λ b. eqb p noNumber ≡ b → endKnown cs (cond b Itself (Path p)) ≡ true) (eqb p noNumber) (λ _ _. refl) (λ _ q. end-below cs p (eqb-false p noNumber q) h) refl
 
 -- LO and HI
-pub between-law : (lo hi k : ℕ) → (leb lo k && (eqb hi 65535 || leb k hi)) ≡ within lo (upperOf hi) k
+pub between-law : (lo hi k : ℕ) → (leb lo k && (eqb hi noNumber || leb k hi)) ≡ within lo (upperOf hi) k
 unfolding within upperOf
-between-law lo hi k = bool-cases (λ b. (leb lo k && (b || leb k hi)) ≡ within lo (cond b unbounded (atMost hi)) k) (eqb hi 65535) (λ _. and-true (leb lo k)) (λ _. refl)
+between-law lo hi k = bool-cases (λ b. (leb lo k && (b || leb k hi)) ≡ within lo (cond b unbounded (atMost hi)) k) (eqb hi noNumber) (λ _. and-true (leb lo k)) (λ _. refl)

@@ -9,6 +9,7 @@ use Rattle.base.specs.Bounded.{_⇒_}
 use Rattle.nodeset.specs.Words.{has, wordsOf}
 use Rattle.model.specs.Paths.{End, predicate, along, ends, endsOf}
 use Rattle.model.specs.Shapes.{subset, noneShared, allPairs, less, lessEq, sameLang, conforms}
+use Rattle.tables.specs.Codes as codes
 use Rattle.tables.specs.Layout.{nodeCount, formCodeAt, formFirstAt, formSecondAt}
 use Rattle.tables.specs.Entries.{entryOf}
 use Rattle.tables.specs.Decode.{termAt, triplesAt, graphAt, pathAt, endAt, shapeOf, shapeAt}
@@ -23,7 +24,7 @@ module _ (cs : List ℕ) {index : List ℕ} (vs : List ℤ) (e v : ℕ) (k : Ask
 
   -- a: the ends of the first operand; b: the objects of the second; n: the node count as it was read
   module _ {a b : List ℕ} (ea : a ≡ wordsOf (endSet (endAt cs (formFirstAt cs e))) 16) (eb : b ≡ wordsOf (endSet (along (predicate (formSecondAt cs e)))) 16) where
-    pub set-equal : (n : ℕ) → n ≡ nodeCount cs → formCodeAt cs e ≡ 15 → (subset n (has a) (has b) && subset n (has b) (has a)) ≡ conforms (graphAt cs vs) (shapeAt cs vs e) v
+    pub set-equal : (n : ℕ) → n ≡ nodeCount cs → formCodeAt cs e ≡ codes.formEqual → (subset n (has a) (has b) && subset n (has b) (has a)) ≡ conforms (graphAt cs vs) (shapeAt cs vs e) v
     unfolding entryOf shapeOf conforms graphAt endsOf
     set-equal n en q =
         ap (λ (n : ℕ). subset n (has a) (has b) && subset n (has b) (has a)) en
@@ -32,7 +33,7 @@ module _ (cs : List ℕ) {index : List ℕ} (vs : List ℤ) (e v : ℕ) (k : Ask
         (subset-of (endSet (along (predicate (formSecondAt cs e)))) (endSet (endAt cs (formFirstAt cs e))) (nodeCount cs) (nodes-le cs (k .tables)) eb ea)
         ∙ conforms-by cs (k .tables) vs e (k .entry) 15 q v
 
-    pub set-apart : (n : ℕ) → n ≡ nodeCount cs → formCodeAt cs e ≡ 16 → noneShared n (has a) (has b) ≡ conforms (graphAt cs vs) (shapeAt cs vs e) v
+    pub set-apart : (n : ℕ) → n ≡ nodeCount cs → formCodeAt cs e ≡ codes.formApart → noneShared n (has a) (has b) ≡ conforms (graphAt cs vs) (shapeAt cs vs e) v
     unfolding entryOf shapeOf conforms graphAt endsOf
     set-apart n en q =
         ap (λ (n : ℕ). noneShared n (has a) (has b)) en
@@ -44,15 +45,15 @@ module _ (cs : List ℕ) {index : List ℕ} (vs : List ℤ) (e v : ℕ) (k : Ask
     unfolding endsOf
     set-pairs r q = pairs-of (endSet (along (pathAt cs (formFirstAt cs e)))) (endSet (along (predicate (formSecondAt cs e)))) (nodeCount cs) (nodes-le cs (k .tables)) (ea ∙ ap (λ (x : End). wordsOf (endSet x) 16) q) eb r
 
-    pub set-less : formCodeAt cs e ≡ 18 → allPairs (nodeCount cs) (has a) (has b) (λ x y. less (termAt cs vs x) (termAt cs vs y)) ≡ conforms (graphAt cs vs) (shapeAt cs vs e) v
+    pub set-less : formCodeAt cs e ≡ codes.formLess → allPairs (nodeCount cs) (has a) (has b) (λ x y. less (termAt cs vs x) (termAt cs vs y)) ≡ conforms (graphAt cs vs) (shapeAt cs vs e) v
     unfolding entryOf shapeOf conforms graphAt
     set-less q = set-pairs (λ x y. less (termAt cs vs x) (termAt cs vs y)) (path-along cs (k .tables) vs e (k .entry) (less-path cs (k .tables) vs e (k .entry) q)) ∙ conforms-by cs (k .tables) vs e (k .entry) 18 q v
 
-    pub set-lesseq : formCodeAt cs e ≡ 19 → allPairs (nodeCount cs) (has a) (has b) (λ x y. lessEq (termAt cs vs x) (termAt cs vs y)) ≡ conforms (graphAt cs vs) (shapeAt cs vs e) v
+    pub set-lesseq : formCodeAt cs e ≡ codes.formLesseq → allPairs (nodeCount cs) (has a) (has b) (λ x y. lessEq (termAt cs vs x) (termAt cs vs y)) ≡ conforms (graphAt cs vs) (shapeAt cs vs e) v
     unfolding entryOf shapeOf conforms graphAt
     set-lesseq q = set-pairs (λ x y. lessEq (termAt cs vs x) (termAt cs vs y)) (path-along cs (k .tables) vs e (k .entry) (lesseq-path cs (k .tables) vs e (k .entry) q)) ∙ conforms-by cs (k .tables) vs e (k .entry) 19 q v
 
-  pub set-lang : {a : List ℕ} → a ≡ wordsOf (endSet (along (pathAt cs (formFirstAt cs e)))) 16 → formCodeAt cs e ≡ 20 → allPairs (nodeCount cs) (has a) (has a) (λ x y. not (eqb x y) ⇒ not (sameLang (termAt cs vs x) (termAt cs vs y))) ≡ conforms (graphAt cs vs) (shapeAt cs vs e) v
+  pub set-lang : {a : List ℕ} → a ≡ wordsOf (endSet (along (pathAt cs (formFirstAt cs e)))) 16 → formCodeAt cs e ≡ codes.formOnelang → allPairs (nodeCount cs) (has a) (has a) (λ x y. not (eqb x y) ⇒ not (sameLang (termAt cs vs x) (termAt cs vs y))) ≡ conforms (graphAt cs vs) (shapeAt cs vs e) v
   unfolding entryOf shapeOf conforms graphAt endsOf
   set-lang ea q =
       pairs-of (endSet (along (pathAt cs (formFirstAt cs e)))) (endSet (along (pathAt cs (formFirstAt cs e)))) (nodeCount cs) (nodes-le cs (k .tables)) ea ea (λ x y. not (eqb x y) ⇒ not (sameLang (termAt cs vs x) (termAt cs vs y)))

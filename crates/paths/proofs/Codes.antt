@@ -8,6 +8,7 @@ use lib.ListN.{replicate}
 use Rattle.model.specs.Graph.{Triple}
 use Rattle.model.specs.Paths.{Path}
 use Rattle.model.specs.Limits.{maxNodes}
+use Rattle.tables.specs.Codes as codes
 use Rattle.tables.specs.Layout.{pathCount, pathCodeAt, pathFirstAt, pathSecondAt}
 use Rattle.tables.specs.Decode.{pathAt}
 use Rattle.tables.specs.WellFormed.{wellFormed}
@@ -25,18 +26,18 @@ room true n l = omega arith
 room false n l = omega arith
 
 module _ (cs : List ℕ) (ok : wellFormed cs ≡ true) (e : ℕ) (l : e < pathCount cs) (many : Bool) (n : ℕ) (back : Bool) (from into : List ℕ) where
-  pub spread-link : (ss ps os : List ℕ) (count : ℕ) → pathCodeAt cs e ≡ 0 → withImages (setCount many) n (edges ss ps os (pathFirstAt cs e) back count) from into ≡ withEnds (setCount many) n (triplesOf ss ps os count) (pathAt cs e) back from into
+  pub spread-link : (ss ps os : List ℕ) (count : ℕ) → pathCodeAt cs e ≡ codes.pathLink → withImages (setCount many) n (edges ss ps os (pathFirstAt cs e) back count) from into ≡ withEnds (setCount many) n (triplesOf ss ps os count) (pathAt cs e) back from into
   spread-link ss ps os count q = ends-predicate (setCount many) n back from into ss ps os (pathFirstAt cs e) count ∙ ap (λ (p : Path). withEnds (setCount many) n (triplesOf ss ps os count) p back from into) (sym (path-link cs ok e l q))
 
   module _ (ts : List Triple) where
-    pub spread-inv : pathCodeAt cs e ≡ 1 → withEnds (setCount many) n ts (pathAt cs (pathFirstAt cs e)) (not back) from into ≡ withEnds (setCount many) n ts (pathAt cs e) back from into
+    pub spread-inv : pathCodeAt cs e ≡ codes.pathInv → withEnds (setCount many) n ts (pathAt cs (pathFirstAt cs e)) (not back) from into ≡ withEnds (setCount many) n ts (pathAt cs e) back from into
     spread-inv q = ends-inverse (setCount many) n back from into ts (pathAt cs (pathFirstAt cs e)) ∙ ap (λ (p : Path). withEnds (setCount many) n ts p back from into) (sym (path-inv cs ok e l q))
 
     pub spread-alt : 3 ≤ pathCodeAt cs e → withEnds (setCount many) n ts (pathAt cs (pathSecondAt cs e)) back from (withEnds (setCount many) n ts (pathAt cs (pathFirstAt cs e)) back from into) ≡ withEnds (setCount many) n ts (pathAt cs e) back from into
     spread-alt q = ends-alternative (setCount many) n back from into ts (pathAt cs (pathFirstAt cs e)) (pathAt cs (pathSecondAt cs e)) ∙ ap (λ (p : Path). withEnds (setCount many) n ts p back from into) (sym (path-alt cs ok e l q))
 
     -- x is gone first, then y
-    pub spread-seq : n ≤ maxNodes → pathCodeAt cs e ≡ 2 → (x y : ℕ) → x ≡ cond back (pathSecondAt cs e) (pathFirstAt cs e) → y ≡ cond back (pathFirstAt cs e) (pathSecondAt cs e)
+    pub spread-seq : n ≤ maxNodes → pathCodeAt cs e ≡ codes.pathSeq → (x y : ℕ) → x ≡ cond back (pathSecondAt cs e) (pathFirstAt cs e) → y ≡ cond back (pathFirstAt cs e) (pathSecondAt cs e)
         → withEnds (setCount many) n ts (pathAt cs y) back (withEnds (setCount many) n ts (pathAt cs x) back from (replicate maxNodes 0)) into ≡ withEnds (setCount many) n ts (pathAt cs e) back from into
     spread-seq h q x y ex ey =
         ap₂ (λ (c d : Path). withEnds (setCount many) n ts c back (withEnds (setCount many) n ts d back from (replicate maxNodes 0)) into)

@@ -8,6 +8,7 @@ use lib.Dec.{ltb}
 use borrow.Author.Tests.{ltb-true}
 use Rattle.base.proofs.Bools.{and-left, and-right}
 use Rattle.model.specs.Paths.{predicate, inverse, sequence, alternative}
+use Rattle.tables.specs.Codes as codes
 use Rattle.tables.specs.Layout.{pathCount, pathCodeAt, pathFirstAt, pathSecondAt}
 use Rattle.tables.specs.Entries.{PathEntry, link, inv, seq, alt, pathEntryOf}
 use Rattle.tables.specs.Decode.{pathOf, pathEntryAt, pathAt}
@@ -34,16 +35,16 @@ module _ (cs : List ℕ) (ok : wellFormed cs ≡ true) (e : ℕ) (l : e < pathCo
       (ap (pathEntryOk cs e) (sym f) ∙ s .path e l, path-at cs e s l ∙ ap (λ (y : PathEntry). pathOf y (pathAt cs)) f)
 
   -- a link
-  pub path-link : pathCodeAt cs e ≡ 0 → pathAt cs e ≡ predicate (pathFirstAt cs e)
+  pub path-link : pathCodeAt cs e ≡ codes.pathLink → pathAt cs e ≡ predicate (pathFirstAt cs e)
   unfolding pathOf pathEntryOf
   path-link q = coded 0 q (link (pathFirstAt cs e)) refl .1
 
   -- inv
-  pub inv-below : pathCodeAt cs e ≡ 1 → pathFirstAt cs e < e
+  pub inv-below : pathCodeAt cs e ≡ codes.pathInv → pathFirstAt cs e < e
   unfolding pathEntryOk pathEntryOf
   inv-below q = ltb-true (pathFirstAt cs e) e (coded 1 q (inv (pathFirstAt cs e)) refl .0)
 
-  pub path-inv : pathCodeAt cs e ≡ 1 → pathAt cs e ≡ inverse (pathAt cs (pathFirstAt cs e))
+  pub path-inv : pathCodeAt cs e ≡ codes.pathInv → pathAt cs e ≡ inverse (pathAt cs (pathFirstAt cs e))
   unfolding pathOf pathEntryOf
   path-inv q = coded 1 q (inv (pathFirstAt cs e)) refl .1
 
@@ -54,16 +55,16 @@ module _ (cs : List ℕ) (ok : wellFormed cs ≡ true) (e : ℕ) (l : e < pathCo
     ltb-true (pathSecondAt cs e) e (and-right (ltb (pathFirstAt cs e) e) (ltb (pathSecondAt cs e) e) h),
   )
 
-  pub seq-below : pathCodeAt cs e ≡ 2 → (pathFirstAt cs e < e) × (pathSecondAt cs e < e)
+  pub seq-below : pathCodeAt cs e ≡ codes.pathSeq → (pathFirstAt cs e < e) × (pathSecondAt cs e < e)
   unfolding pathEntryOk pathEntryOf
   seq-below q = both (coded 2 q (seq (pathFirstAt cs e) (pathSecondAt cs e)) refl .0)
 
-  pub path-seq : pathCodeAt cs e ≡ 2 → pathAt cs e ≡ sequence (pathAt cs (pathFirstAt cs e)) (pathAt cs (pathSecondAt cs e))
+  pub path-seq : pathCodeAt cs e ≡ codes.pathSeq → pathAt cs e ≡ sequence (pathAt cs (pathFirstAt cs e)) (pathAt cs (pathSecondAt cs e))
   unfolding pathOf pathEntryOf
   path-seq q = coded 2 q (seq (pathFirstAt cs e) (pathSecondAt cs e)) refl .1
 
   -- alt, the code that is left
-  last : 3 ≤ pathCodeAt cs e → pathCodeAt cs e ≡ 3
+  last : 3 ≤ pathCodeAt cs e → pathCodeAt cs e ≡ codes.pathAlt
   unfolding pathEntryAt
   last h = omega (arith, known cs e (pathCodeAt cs e) (pathFirstAt cs e) (pathSecondAt cs e) (sound cs ok .path e l))
 

@@ -15,12 +15,12 @@ use Rattle.base.proofs.Lists.{values-ext}
 use Rattle.chains.specs.Chains.{Chained}
 use Rattle.chains.proofs.Chains.{chained-same}
 use Rattle.model.specs.Graph.{Triple}
-use Rattle.model.specs.Limits.{maxLinks, maxFacts}
+use Rattle.model.specs.Limits.{maxLinks, maxFacts, maxNodes}
 use Rattle.tables.specs.Layout.{cellCount, nodeCount, factCount, subjects, predicates, objects, subjectAt, predicateAt, objectAt}
 use Rattle.tables.specs.Decode.{tripleAt, triplesAt}
 use Rattle.tables.specs.WellFormed.{wellFormed}
 use Rattle.tables.proofs.WellFormed.{Sound, sound}
-use Rattle.paths.specs.Facts.{Indexed, TableIndexed, SubjectIndexed, FactsOk, tripleIn, triplesOf}
+use Rattle.paths.specs.Facts.{subjectHeads, subjectNexts, Indexed, TableIndexed, SubjectIndexed, FactsOk, tripleIn, triplesOf}
 
 triple-eq : {s s′ p p′ o o′ : ℕ} → s ≡ s′ → p ≡ p′ → o ≡ o′ → _≡_ {A = Triple} (record { subject = s; predicate = p; object = o }) (record { subject = s′; predicate = p′; object = o′ })
 triple-eq a b c = rw (a, b, c)
@@ -78,16 +78,16 @@ module _ (cs : List ℕ) where
     lent-index {index = index} ec ix = chained-same (λ i l. part-at predicates i (omega (arith, sound cs ok .facts))) (λ h l. refl) (λ i l. refl) (subst (λ (k : ℕ). Indexed (part cs predicates) k index) ec ix)
 
     -- the same of the subjects
-    part-subjects : every (λ i. ltb (getD (part cs subjects) i 0) 1024) (factCount cs) ≡ true
-    part-subjects = every-all (λ i. ltb (getD (part cs subjects) i 0) 1024) (factCount cs) (λ i l.
-        let i-lt : i < 4096 = omega (arith, sound cs ok .facts) in
-        ap (λ (v : ℕ). ltb v 1024) (part-at subjects i i-lt) ∙ lt-ltb (subjectAt cs i) 1024 (omega (arith, sound cs ok .subject i l, sound cs ok .nodes)))
+    part-subjects : every (λ i. ltb (getD (part cs subjects) i 0) maxNodes) (factCount cs) ≡ true
+    part-subjects = every-all (λ i. ltb (getD (part cs subjects) i 0) maxNodes) (factCount cs) (λ i l.
+        let i-lt : i < maxFacts = omega (arith, sound cs ok .facts) in
+        ap (λ (v : ℕ). ltb v maxNodes) (part-at subjects i i-lt) ∙ lt-ltb (subjectAt cs i) maxNodes (omega (arith, sound cs ok .subject i l, sound cs ok .nodes)))
 
-    pub lent-subjects : {count : ℕ} → cellCount ≤ length cs → count ≡ factCount cs → (count ≤ 4096) × (count ≤ length (part cs subjects)) × (every (λ i. ltb (getD (part cs subjects) i 0) 1024) count ≡ true)
+    pub lent-subjects : {count : ℕ} → cellCount ≤ length cs → count ≡ factCount cs → (count ≤ maxFacts) × (count ≤ length (part cs subjects)) × (every (λ i. ltb (getD (part cs subjects) i 0) maxNodes) count ≡ true)
     lent-subjects room ec = rw ec (sound cs ok .facts, omega (arith, sound cs ok .facts, part-length subjects (omega arith)), part-subjects)
 
-    pub lent-subject-index : {count : ℕ} {index : List ℕ} → count ≡ factCount cs → Chained (λ i. getD (part cs subjects) i 0) count 1024 4352 5376 index → SubjectIndexed cs index
-    lent-subject-index {index = index} ec ix = chained-same (λ i l. part-at subjects i (omega (arith, sound cs ok .facts))) (λ h l. refl) (λ i l. refl) (subst (λ (k : ℕ). Chained (λ i. getD (part cs subjects) i 0) k 1024 4352 5376 index) ec ix)
+    pub lent-subject-index : {count : ℕ} {index : List ℕ} → count ≡ factCount cs → Chained (λ i. getD (part cs subjects) i 0) count maxNodes subjectHeads subjectNexts index → SubjectIndexed cs index
+    lent-subject-index {index = index} ec ix = chained-same (λ i l. part-at subjects i (omega (arith, sound cs ok .facts))) (λ h l. refl) (λ i l. refl) (subst (λ (k : ℕ). Chained (λ i. getD (part cs subjects) i 0) k maxNodes subjectHeads subjectNexts index) ec ix)
 
     pub lent-triples : {count : ℕ} → count ≡ factCount cs → triplesOf (part cs subjects) (part cs predicates) (part cs objects) count ≡ triplesAt cs
     lent-triples ec = ap (triplesOf (part cs subjects) (part cs predicates) (part cs objects)) ec ∙ part-triples (sound cs ok .facts)

@@ -34,16 +34,23 @@ module _ (ss ps os : List ℕ) where
 abbrev pub Indexed : List ℕ → ℕ → List ℕ → Type 0
 Indexed ps count index = Chained (λ i. getD ps i 0) count maxLinks 0 maxLinks index
 
--- the index of the tables' facts: their chains by link, and behind them their chains by subject
+-- the chains by subject stand behind these: where that of node v begins, at subjectHeads + v, and what follows fact i
+abbrev pub subjectHeads : ℕ
+subjectHeads = maxLinks + maxFacts
+
+abbrev pub subjectNexts : ℕ
+subjectNexts = subjectHeads + maxNodes
+
+-- the index of the tables' facts: their chains by link, and by subject
 abbrev pub TableIndexed : List ℕ → List ℕ → Type 0
 TableIndexed cs index = Chained (predicateAt cs) (factCount cs) maxLinks 0 maxLinks index
 
 abbrev pub SubjectIndexed : List ℕ → List ℕ → Type 0
-SubjectIndexed cs index = Chained (subjectAt cs) (factCount cs) maxNodes (maxLinks + maxFacts) (maxLinks + maxFacts + maxNodes) index
+SubjectIndexed cs index = Chained (subjectAt cs) (factCount cs) maxNodes subjectHeads subjectNexts index
 
 -- how long it is
 abbrev pub indexCount : ℕ
-indexCount = maxLinks + maxFacts + maxNodes + maxFacts
+indexCount = subjectNexts + maxFacts
 
 -- what is left when the first count facts have been put into chains by their keys: only the places of these chains have changed
 pub record Made (keys : List ℕ) (count slots heads nexts : ℕ) (before after : List ℕ) : Type 0 where

@@ -50,7 +50,7 @@ ghost use Rattle.tables.specs.Layout.{nodeCount, pathCount, cellCount};
 ghost use Rattle.tables.specs.Decode.{triplesAt, pathAt};
 ghost use Rattle.tables.specs.WellFormed.{wellFormed};
 ghost use Rattle.base.specs.Bounded.{every};
-ghost use Rattle.paths.specs.Facts.{TableIndexed, SubjectIndexed, indexCount, Made, Tables, FactsOk, triplesOf, edges};
+ghost use Rattle.paths.specs.Facts.{subjectHeads, subjectNexts, TableIndexed, SubjectIndexed, indexCount, Made, Tables, FactsOk, triplesOf, edges};
 ghost use Rattle.paths.specs.Ends.{endIn, endKnown};
 ghost use Rattle.paths.specs.Images.{converseIf, setCount, withImage, withImages, joinedSets, withEnds};
 
@@ -143,7 +143,7 @@ pub fn next_fact(index: &[u16], i: usize) -> usize
 
 // The last fact out of node v, as its number and one; 0 where there is none.
 pub fn last_out(index: &[u16], v: NodeNo) -> usize
-    ensures { λ r. ⌜ r ≡ cond (ltb (v .0) maxNodes) (getD (now (index .entry)) (maxLinks + maxFacts + (v .0)) 0) 0 ⌝ }
+    ensures { λ r. ⌜ r ≡ cond (ltb (v .0) maxNodes) (getD (now (index .entry)) (subjectHeads + v .0) 0) 0 ⌝ }
 {
     let x = v.0 as usize;
     if x < MAX_NODES {
@@ -156,7 +156,7 @@ pub fn last_out(index: &[u16], v: NodeNo) -> usize
 // The fact before fact i out of the same node, as its number and one; 0 where there is none.
 pub fn next_out(index: &[u16], i: usize) -> usize
     requires { ⌜ i < maxFacts ⌝ }
-    ensures { λ r. ⌜ r ≡ getD (now (index .entry)) (maxLinks + maxFacts + maxNodes + i) 0 ⌝ }
+    ensures { λ r. ⌜ r ≡ getD (now (index .entry)) (subjectNexts + i) 0 ⌝ }
 {
     wide(cell(index, SUBJECT_NEXTS + i))
 }

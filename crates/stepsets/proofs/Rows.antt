@@ -13,6 +13,7 @@ use Rattle.model.specs.declared.LinkNo.{LinkNo}
 use Rattle.model.specs.Graph.{Triple}
 use Rattle.model.specs.Paths as model
 use Rattle.model.specs.Paths.{self, along, ends, endsOf}
+use Rattle.model.specs.Limits.{maxNodes}
 use Rattle.tables.specs.Layout as tables-layout
 use Rattle.tables.specs.Layout.{nodeCount, subjects, predicates}
 use Rattle.tables.specs.Decode.{triplesAt}
@@ -79,7 +80,7 @@ module _ (cs index : List ℕ) (t : Tables cs index) where
   ends-low (along p) v w l h = ends-nodes (part cs subjects) (part cs predicates) (part cs tables-layout.objects) index _ (nodeCount cs) (lent-ok cs (t .ok) (t .room) refl refl (t .indexed)) p v w (ap (λ (ts : List Triple). ends (nodeCount cs) ts p v w) (lent-triples cs (t .ok) refl) ∙ h) .1
 
   -- row v
-  pub row-ends : (end : End) {rows : List ℕ} → RowsHeld cs (RowsOf end) rows → (v : ℕ) → v < nodeCount cs → (w : ℕ) → w < 1024 → has (drop (16 * v) rows) w ≡ endsOf (nodeCount cs) (triplesAt cs) (endIn cs end) v w
+  pub row-ends : (end : End) {rows : List ℕ} → RowsHeld cs (RowsOf end) rows → (v : ℕ) → v < nodeCount cs → (w : ℕ) → w < maxNodes → has (drop (16 * v) rows) w ≡ endsOf (nodeCount cs) (triplesAt cs) (endIn cs end) v w
   unfolding endRows
   row-ends end {rows} h v l w lw =
       has-row (nodeCount cs) (endsOf (nodeCount cs) (triplesAt cs) (endIn cs end)) (length rows) (h .ends) v (omega (arith, h .lent .room)) w lw

@@ -20,6 +20,7 @@ use Rattle.model.specs.declared.NodeNo.{NodeNo}
 use Rattle.model.specs.declared.LinkNo.{LinkNo}
 use Rattle.model.specs.Rules.{subjectsOf, objectsOf, targetClass, selects}
 use Rattle.model.specs.Graph.{rdfType}
+use Rattle.model.specs.Limits.{maxNodes, maxLinks}
 use Rattle.tables.specs.Layout.{nodeCount, factCount, predicateAt}
 use Rattle.tables.specs.Decode.{tripleAt, triplesAt, graphAt}
 use Rattle.tables.specs.WellFormed.{wellFormed}
@@ -87,7 +88,7 @@ pub record Walk (cs : List ℕ) (target : Target) (ws : List ℕ) (next : ℕ) :
   pub low : next ≤ factCount cs
   pub own : (i : ℕ) → next ≡ suc i → predicateAt cs i ≡ link
   pub words : ws ≡ wordsOf (has ws) 16
-  pub rest : (m : ℕ) → m < 1024 → (has ws m || byFirst cs target next m) ≡ byFirst cs target (factCount cs) m
+  pub rest : (m : ℕ) → m < maxNodes → (has ws m || byFirst cs target next m) ≡ byFirst cs target (factCount cs) m
 
 module _ (cs index : List ℕ) (t : Tables cs index) (target : Target) where
   -- of the first i facts only those up to the last with the link pick a node
@@ -96,7 +97,7 @@ module _ (cs index : List ℕ) (t : Tables cs index) (target : Target) where
       ap (λ (k : ℕ). byFirst cs target k m) e
       ∙ ap (λ (b : Bool). ltb m (nodeCount cs) && b) (sym (some-last (predicateAt cs) h (λ k. eqb (nodeOf cs target k) m && picks cs target k) i (λ k l q. eqb-true (predicateAt cs k) h (and-left (eqb (predicateAt cs k) h) (chosen cs target k) (sym (by k) ∙ and-right (eqb (nodeOf cs target k) m) (picks cs target k) q)))))
 
-  pub walk-first : (h : ℕ) {next : ℕ} → ByLink cs target h → next ≡ cond (ltb h 256) (getD index h 0) 0 → Walk cs target (replicate 16 0) next
+  pub walk-first : (h : ℕ) {next : ℕ} → ByLink cs target h → next ≡ cond (ltb h maxLinks) (getD index h 0) 0 → Walk cs target (replicate 16 0) next
   walk-first h {next} by e = record {
     link = h;
     by = by;
@@ -107,14 +108,14 @@ module _ (cs index : List ℕ) (t : Tables cs index) (target : Target) where
   }
     where
       last : next ≡ lastWith (predicateAt cs) h (factCount cs)
-      last = walk-begins (predicateAt cs) (factCount cs) 256 0 256 (t .indexed) (λ i l. omega (arith, sound cs (t .ok) .predicate i l, sound cs (t .ok) .links)) h (sym (zero-add h)) e
+      last = walk-begins (predicateAt cs) (factCount cs) maxLinks 0 maxLinks (t .indexed) (λ i l. omega (arith, sound cs (t .ok) .predicate i l, sound cs (t .ok) .links)) h (sym (zero-add h)) e
 
   -- the node of fact i joins, and the walk goes on
-  pub walk-on : {ws out : List ℕ} (at next i x : ℕ) (b : Bool) → Walk cs target ws at → at ≡ suc i → x ≡ nodeOf cs target i → b ≡ chosen cs target i → out ≡ wordsOf (λ m. has ws m || (b && eqb m x)) (length ws) → next ≡ getD index (256 + i) 0 → Walk cs target out next
+  pub walk-on : {ws out : List ℕ} (at next i x : ℕ) (b : Bool) → Walk cs target ws at → at ≡ suc i → x ≡ nodeOf cs target i → b ≡ chosen cs target i → out ≡ wordsOf (λ m. has ws m || (b && eqb m x)) (length ws) → next ≡ getD index (maxLinks + i) 0 → Walk cs target out next
   walk-on {ws} {out} at next i x b w a f g e n = record {
     link = w .link;
     by = w .by;
-    low = omega (arith, l, walk-falls (predicateAt cs) (factCount cs) 256 0 256 (t .indexed) i l n);
+    low = omega (arith, l, walk-falls (predicateAt cs) (factCount cs) maxLinks 0 maxLinks (t .indexed) i l n);
     own = λ j q. last-key (predicateAt cs) (w .link) i j (sym last ∙ q);
     words = made ∙ wordsOf-ext (λ m. has ws m || (b && eqb m x)) (has out) 16 (λ m h. sym (has-of (λ m. has ws m || (b && eqb m x)) 16 made m h));
     rest = λ m h.
@@ -127,7 +128,7 @@ module _ (cs index : List ℕ) (t : Tables cs index) (target : Target) where
       l = omega (arith, w .low)
 
       last : next ≡ lastWith (predicateAt cs) (w .link) i
-      last = walk-next (predicateAt cs) (factCount cs) 256 0 256 (t .indexed) (w .link) i l (w .own i a) n
+      last = walk-next (predicateAt cs) (factCount cs) maxLinks 0 maxLinks (t .indexed) (w .link) i l (w .own i a) n
 
       own-pick : b ≡ picks cs target i
       own-pick = g ∙ ap (λ (c : Bool). c && chosen cs target i) (sym (eq-eqb (predicateAt cs i) (w .link) (w .own i a))) ∙ sym (w .by i)

@@ -16,6 +16,7 @@ use Rattle.nodeset.proofs.Sets.{has-of, has-wordsOf, has-drop}
 use Rattle.model.specs.Paths.{predicate, along, ends, endsOf}
 use Rattle.model.specs.Shapes.{within, subset, from, objects, starts, conforms, unlikeLangs}
 use Rattle.model.specs.Limits.{maxNodes}
+use Rattle.tables.specs.Codes as codes
 use Rattle.tables.specs.Layout.{nodeCount, formCodeAt, formFirstAt, formSecondAt, formThirdAt, formFourthAt}
 use Rattle.tables.specs.Entries.{entryOf}
 use Rattle.tables.specs.Decode.{triplesAt, graphAt, pathAt, endAt, upperOf, shapeOf, shapeAt, termAt}
@@ -84,14 +85,14 @@ module _ {cs index : List ℕ} {vs : List ℤ} {memo : List ℕ} {e : ℕ} (r : 
       abbrev onPath : Condition → ℕ → Bool
       onPath condition v = holdsOf cs vs condition (from (graphAt cs vs) (pathAt cs p) v) (has (drop (16 * j) memo)) v
 
-      pub count-tells : {lo hi : ℕ} → lo ≡ formThirdAt cs e → hi ≡ formFourthAt cs e → formCodeAt cs e ≡ 13 → {ws : List ℕ} → ws ≡ nodesOf (onPath (Count lo hi)) (nodeCount cs) → ConformingSet cs vs memo e ws
+      pub count-tells : {lo hi : ℕ} → lo ≡ formThirdAt cs e → hi ≡ formFourthAt cs e → formCodeAt cs e ≡ codes.formCount → {ws : List ℕ} → ws ≡ nodesOf (onPath (Count lo hi)) (nodeCount cs) → ConformingSet cs vs memo e ws
       unfolding holdsOf graphAt
       count-tells {lo} {hi} el eh q ew = tells (onPath (Count lo hi)) ew λ v l k.
           (λ i. within (el i) (upperOf (eh i)) (size (λ w. ends (nodeCount cs) (triplesAt cs) (pathAt cs (ep i)) v w && has (drop (16 * j) memo) w) maxNodes))
           ∙ ap (within (formThirdAt cs e) (upperOf (formFourthAt cs e))) (part-size 13 q (first-by cs e 13 q) j ej v l)
           ∙ holds-count (enough v l k) (firstPart cs e) refl refl q
 
-      pub all-tells : formCodeAt cs e ≡ 14 → {ws : List ℕ} → ws ≡ nodesOf (onPath Every) (nodeCount cs) → ConformingSet cs vs memo e ws
+      pub all-tells : formCodeAt cs e ≡ codes.formAll → {ws : List ℕ} → ws ≡ nodesOf (onPath Every) (nodeCount cs) → ConformingSet cs vs memo e ws
       unfolding holdsOf graphAt subset
       all-tells q ew = tells (onPath Every) ew λ v l k.
           ap (λ (p : ℕ). every (λ w. ends (nodeCount cs) (triplesAt cs) (pathAt cs p) v w ⇒ has (drop (16 * j) memo) w) (nodeCount cs)) ep
@@ -112,23 +113,23 @@ module _ {cs index : List ℕ} {vs : List ℤ} {memo : List ℕ} {e : ℕ} (r : 
       unfolding graphAt endIn endsOf
       by-path condition v = λ i. holdsOf cs vs condition (ends (nodeCount cs) (triplesAt cs) (pathAt cs (ep i)) v) (ends (nodeCount cs) (triplesAt cs) (predicate (el i)) v) v
 
-      pub equal-tells : {end : paths.End} → end ≡ endFor p → formCodeAt cs e ≡ 15 → {ws : List ℕ} → ws ≡ nodesOf (onEnds end Equal) (nodeCount cs) → ConformingSet cs vs memo e ws
+      pub equal-tells : {end : paths.End} → end ≡ endFor p → formCodeAt cs e ≡ codes.formEqual → {ws : List ℕ} → ws ≡ nodesOf (onEnds end Equal) (nodeCount cs) → ConformingSet cs vs memo e ws
       unfolding holdsOf entryOf shapeOf conforms graphAt
       equal-tells {end} ee q ew = tells (onEnds end Equal) ew (λ v m k. by-end ee Equal v ∙ conforms-by cs (r .tables) vs e (r .entry) 15 q v)
 
-      pub apart-tells : {end : paths.End} → end ≡ endFor p → formCodeAt cs e ≡ 16 → {ws : List ℕ} → ws ≡ nodesOf (onEnds end Apart) (nodeCount cs) → ConformingSet cs vs memo e ws
+      pub apart-tells : {end : paths.End} → end ≡ endFor p → formCodeAt cs e ≡ codes.formApart → {ws : List ℕ} → ws ≡ nodesOf (onEnds end Apart) (nodeCount cs) → ConformingSet cs vs memo e ws
       unfolding holdsOf entryOf shapeOf conforms graphAt
       apart-tells {end} ee q ew = tells (onEnds end Apart) ew (λ v m k. by-end ee Apart v ∙ conforms-by cs (r .tables) vs e (r .entry) 16 q v)
 
-      pub less-tells : formCodeAt cs e ≡ 18 → {ws : List ℕ} → ws ≡ nodesOf (onEnds (Path p) Less) (nodeCount cs) → ConformingSet cs vs memo e ws
+      pub less-tells : formCodeAt cs e ≡ codes.formLess → {ws : List ℕ} → ws ≡ nodesOf (onEnds (Path p) Less) (nodeCount cs) → ConformingSet cs vs memo e ws
       unfolding holdsOf entryOf shapeOf conforms graphAt
       less-tells q ew = tells (onEnds (Path p) Less) ew (λ v m k. by-path Less v ∙ conforms-by cs (r .tables) vs e (r .entry) 18 q v)
 
-      pub lesseq-tells : formCodeAt cs e ≡ 19 → {ws : List ℕ} → ws ≡ nodesOf (onEnds (Path p) LessEq) (nodeCount cs) → ConformingSet cs vs memo e ws
+      pub lesseq-tells : formCodeAt cs e ≡ codes.formLesseq → {ws : List ℕ} → ws ≡ nodesOf (onEnds (Path p) LessEq) (nodeCount cs) → ConformingSet cs vs memo e ws
       unfolding holdsOf entryOf shapeOf conforms graphAt
       lesseq-tells q ew = tells (onEnds (Path p) LessEq) ew (λ v m k. by-path LessEq v ∙ conforms-by cs (r .tables) vs e (r .entry) 19 q v)
 
-    pub lang-tells : formCodeAt cs e ≡ 20 → {ws : List ℕ} → ws ≡ nodesOf (λ v. holdsOf cs vs OneLang (from (graphAt cs vs) (pathAt cs p) v) (tagged cs) v) (nodeCount cs) → ConformingSet cs vs memo e ws
+    pub lang-tells : formCodeAt cs e ≡ codes.formOnelang → {ws : List ℕ} → ws ≡ nodesOf (λ v. holdsOf cs vs OneLang (from (graphAt cs vs) (pathAt cs p) v) (tagged cs) v) (nodeCount cs) → ConformingSet cs vs memo e ws
     unfolding entryOf shapeOf conforms graphAt
     lang-tells q ew = tells (λ v. holdsOf cs vs OneLang (ends (nodeCount cs) (triplesAt cs) (pathAt cs p) v) (tagged cs) v) ew (λ v m k.
         one-tagged cs vs (ends (nodeCount cs) (triplesAt cs) (pathAt cs p) v) v

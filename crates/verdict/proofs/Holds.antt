@@ -17,6 +17,7 @@ use Rattle.nodeset.proofs.Sets.{has-of}
 use Rattle.model.specs.Paths.{ends}
 use Rattle.model.specs.Shapes.{within, conforms, onlyListed}
 use Rattle.model.specs.Limits.{maxNodes, maxForms}
+use Rattle.tables.specs.Codes as codes
 use Rattle.tables.specs.Layout.{nodeCount, formCodeAt, formFirstAt, formSecondAt, formThirdAt, formFourthAt, rootAt}
 use Rattle.tables.specs.Entries.{Entry, entryOf}
 use Rattle.tables.specs.Decode.{triplesAt, graphAt, pathAt, upperOf, itemsAt, shapeOf, shapeAt}
@@ -59,17 +60,17 @@ module _ {cs index : List ℕ} {vs : List ℤ} {memo : List ℕ} {e v : ℕ} (k 
   means n q = conforms-by cs (k .ready .tables) vs e (k .ready .entry) n q v
 
   -- ---- entries without parts
-  pub holds-top : formCodeAt cs e ≡ 0 → true ≡ holds
+  pub holds-top : formCodeAt cs e ≡ codes.formTrue → true ≡ holds
   unfolding entryOf shapeOf conforms
-  holds-top q = means 0 q
+  holds-top q = means codes.formTrue q
 
-  pub holds-is : formCodeAt cs e ≡ 1 → (c : ℕ) → c ≡ formFirstAt cs e → eqb v c ≡ holds
+  pub holds-is : formCodeAt cs e ≡ codes.formIs → (c : ℕ) → c ≡ formFirstAt cs e → eqb v c ≡ holds
   unfolding entryOf shapeOf conforms
-  holds-is q c h = ap (eqb v) h ∙ means 1 q
+  holds-is q c h = ap (eqb v) h ∙ means codes.formIs q
 
-  pub holds-closed : formCodeAt cs e ≡ 17 → onlyListed (triplesAt cs) (λ l. member l (itemsAt cs (formFirstAt cs e) (formSecondAt cs e))) v ≡ holds
+  pub holds-closed : formCodeAt cs e ≡ codes.formClosed → onlyListed (triplesAt cs) (λ l. member l (itemsAt cs (formFirstAt cs e) (formSecondAt cs e))) v ≡ holds
   unfolding entryOf shapeOf conforms graphAt
-  holds-closed q = means 17 q
+  holds-closed q = means codes.formClosed q
 
   -- ---- entries with parts: a and b are their numbers, as the code has them
   abbrev firstOf : ℕ → ℕ
@@ -86,7 +87,7 @@ module _ {cs index : List ℕ} {vs : List ℤ} {memo : List ℕ} {e v : ℕ} (k 
       ap (λ (b : ℕ). has memo (yesPlace b w)) eb ∙ known-right cs vs memo (secondPart cs e) w (k .ready .right) (low w l) (k .parts (parts-by cs e n q ∙ hp) w l h .1)
       ∙ ap (λ (b : ℕ). conforms (graphAt cs vs) (shapeAt cs vs b) w) (second-by cs e n q)
 
-  -- the numbers of the parts are below 112
+  -- the numbers of the parts are below the limit of entries
   pub first-lt : (a : ℕ) → a ≡ firstPart cs e → hasParts cs e ≡ true → a < maxForms
   first-lt a ea h = omega (arith, ea, parts-lower cs e (k .ready .tables) (k .ready .entry) h .0, k .ready .entry, sound-of cs (k .ready .tables) .forms)
 
@@ -94,22 +95,22 @@ module _ {cs index : List ℕ} {vs : List ℤ} {memo : List ℕ} {e v : ℕ} (k 
   second-lt b eb h = omega (arith, eb, parts-lower cs e (k .ready .tables) (k .ready .entry) h .1, k .ready .entry, sound-of cs (k .ready .tables) .forms)
 
   module _ (a : ℕ) (ea : a ≡ firstPart cs e) where
-    pub holds-shape : formCodeAt cs e ≡ 2 → has memo (yesPlace a v) ≡ holds
+    pub holds-shape : formCodeAt cs e ≡ codes.formShape → has memo (yesPlace a v) ≡ holds
     unfolding entryOf shapeOf
-    holds-shape q = first-known 2 q refl a v ea (k .node) (looks-here cs e 2 q refl v) ∙ means 2 q
+    holds-shape q = first-known 2 q refl a v ea (k .node) (looks-here cs e 2 q refl v) ∙ means codes.formShape q
 
-    pub holds-not : formCodeAt cs e ≡ 5 → not (has memo (yesPlace a v)) ≡ holds
+    pub holds-not : formCodeAt cs e ≡ codes.formNot → not (has memo (yesPlace a v)) ≡ holds
     unfolding entryOf shapeOf conforms
-    holds-not q = ap not (first-known 5 q refl a v ea (k .node) (looks-here cs e 5 q refl v)) ∙ means 5 q
+    holds-not q = ap not (first-known 5 q refl a v ea (k .node) (looks-here cs e 5 q refl v)) ∙ means codes.formNot q
 
     module _ (b : ℕ) (eb : b ≡ secondPart cs e) where
-      pub holds-and : formCodeAt cs e ≡ 3 → (has memo (yesPlace a v) && has memo (yesPlace b v)) ≡ holds
+      pub holds-and : formCodeAt cs e ≡ codes.formAnd → (has memo (yesPlace a v) && has memo (yesPlace b v)) ≡ holds
       unfolding entryOf shapeOf conforms
-      holds-and q = ap₂ (λ (s t : Bool). s && t) (first-known 3 q refl a v ea (k .node) (looks-here cs e 3 q refl v)) (second-known 3 q refl b v eb (k .node) (looks-here cs e 3 q refl v)) ∙ means 3 q
+      holds-and q = ap₂ (λ (s t : Bool). s && t) (first-known 3 q refl a v ea (k .node) (looks-here cs e 3 q refl v)) (second-known 3 q refl b v eb (k .node) (looks-here cs e 3 q refl v)) ∙ means codes.formAnd q
 
-      pub holds-or : formCodeAt cs e ≡ 4 → (has memo (yesPlace a v) || has memo (yesPlace b v)) ≡ holds
+      pub holds-or : formCodeAt cs e ≡ codes.formOr → (has memo (yesPlace a v) || has memo (yesPlace b v)) ≡ holds
       unfolding entryOf shapeOf conforms
-      holds-or q = ap₂ (λ (s t : Bool). s || t) (first-known 4 q refl a v ea (k .node) (looks-here cs e 4 q refl v)) (second-known 4 q refl b v eb (k .node) (looks-here cs e 4 q refl v)) ∙ means 4 q
+      holds-or q = ap₂ (λ (s t : Bool). s || t) (first-known 4 q refl a v ea (k .node) (looks-here cs e 4 q refl v)) (second-known 4 q refl b v eb (k .node) (looks-here cs e 4 q refl v)) ∙ means codes.formOr q
 
     -- the nodes that conform to the part, as a row of the memo
     module _ {ws : List ℕ} (ew : ws ≡ wordsOf (λ w. has memo (yesPlace a w)) 16) where
@@ -122,16 +123,16 @@ module _ {cs index : List ℕ} {vs : List ℤ} {memo : List ℕ} {e v : ℕ} (k 
       pub row-low : (w : ℕ) → w < maxNodes → has ws w ≡ true → w < nodeCount cs
       row-low w l h = k .ready .right .low a w l (sym (has-of (λ w. has memo (yesPlace a w)) 16 ew w l) ∙ h)
 
-      pub holds-count : formCodeAt cs e ≡ 13 → within (formThirdAt cs e) (upperOf (formFourthAt cs e)) (size (λ w. ended w && has ws w) (nodeCount cs)) ≡ holds
+      pub holds-count : formCodeAt cs e ≡ codes.formCount → within (formThirdAt cs e) (upperOf (formFourthAt cs e)) (size (λ w. ended w && has ws w) (nodeCount cs)) ≡ holds
       unfolding entryOf shapeOf conforms graphAt
       holds-count q =
           ap (within (formThirdAt cs e) (upperOf (formFourthAt cs e))) (size-ext (λ w. ended w && has ws w) (λ w. ended w && conforms (graphAt cs vs) (shapeAt cs vs (formSecondAt cs e)) w) (nodeCount cs) (λ w l.
           bool-cases (λ t. ended w ≡ t → (t && has ws w) ≡ (t && conforms (graphAt cs vs) (shapeAt cs vs (formSecondAt cs e)) w)) (ended w) (λ _ h. row-known 13 q refl refl w l h) (λ _ h. refl) refl))
-          ∙ means 13 q
+          ∙ means codes.formCount q
 
-      pub holds-all : formCodeAt cs e ≡ 14 → every (λ w. ended w ⇒ has ws w) (nodeCount cs) ≡ holds
+      pub holds-all : formCodeAt cs e ≡ codes.formAll → every (λ w. ended w ⇒ has ws w) (nodeCount cs) ≡ holds
       unfolding entryOf shapeOf conforms graphAt
       holds-all q =
           every-ext (λ w. ended w ⇒ has ws w) (λ w. ended w ⇒ conforms (graphAt cs vs) (shapeAt cs vs (formSecondAt cs e)) w) (nodeCount cs) (λ w l.
           bool-cases (λ t. ended w ≡ t → (t ⇒ has ws w) ≡ (t ⇒ conforms (graphAt cs vs) (shapeAt cs vs (formSecondAt cs e)) w)) (ended w) (λ _ h. row-known 14 q refl refl w l h) (λ _ h. refl) refl)
-          ∙ means 14 q
+          ∙ means codes.formAll q

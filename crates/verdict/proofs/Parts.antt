@@ -13,6 +13,7 @@ use Rattle.nodeset.proofs.Sets.{has-of}
 use Rattle.base.proofs.Bounded.{some-at}
 use Rattle.model.specs.Limits.{maxCount}
 use Rattle.model.specs.Paths.{ends}
+use Rattle.tables.specs.Codes as codes
 use Rattle.tables.specs.Layout.{nodeCount, pathCount, shapeCount, formCount, formCodeAt, formFirstAt, formSecondAt, formThirdAt, formFourthAt, rootAt}
 use Rattle.tables.specs.Entries.{entryOf}
 use Rattle.tables.specs.Decode.{triplesAt, pathAt}
@@ -64,31 +65,31 @@ module _ (cs : List ℕ) (e : ℕ) where
     two : (a b : ℕ) → (ltb a e && ltb b e) ≡ true → (a < e) × (b < e)
     two a b h = (ltb-true a e (and-left (ltb a e) (ltb b e) h), ltb-true b e (and-right (ltb a e) (ltb b e) h))
 
-    lower-shape : formCodeAt cs e ≡ 2 → Lower
+    lower-shape : formCodeAt cs e ≡ codes.formShape → Lower
     unfolding entryOf entryOk
     lower-shape q =
         let h : rootAt cs (formFirstAt cs e) < e = ltb-true (rootAt cs (formFirstAt cs e)) e (and-right (ltb (formFirstAt cs e) (shapeCount cs)) (ltb (rootAt cs (formFirstAt cs e)) e) (right-by cs t [] e l 2 q)) in
         lower 2 (rootAt cs (formFirstAt cs e)) (rootAt cs (formFirstAt cs e)) q refl refl h h
 
-    lower-and : formCodeAt cs e ≡ 3 → Lower
+    lower-and : formCodeAt cs e ≡ codes.formAnd → Lower
     unfolding entryOf entryOk
     lower-and q = let h = two (formFirstAt cs e) (formSecondAt cs e) (right-by cs t [] e l 3 q) in lower 3 (formFirstAt cs e) (formSecondAt cs e) q refl refl (h .0) (h .1)
 
-    lower-or : formCodeAt cs e ≡ 4 → Lower
+    lower-or : formCodeAt cs e ≡ codes.formOr → Lower
     unfolding entryOf entryOk
     lower-or q = let h = two (formFirstAt cs e) (formSecondAt cs e) (right-by cs t [] e l 4 q) in lower 4 (formFirstAt cs e) (formSecondAt cs e) q refl refl (h .0) (h .1)
 
-    lower-not : formCodeAt cs e ≡ 5 → Lower
+    lower-not : formCodeAt cs e ≡ codes.formNot → Lower
     unfolding entryOf entryOk
     lower-not q = let h = ltb-true (formFirstAt cs e) e (right-by cs t [] e l 5 q) in lower 5 (formFirstAt cs e) (formFirstAt cs e) q refl refl h h
 
-    lower-count : formCodeAt cs e ≡ 13 → Lower
+    lower-count : formCodeAt cs e ≡ codes.formCount → Lower
     unfolding entryOf entryOk
     lower-count q =
         let h = ltb-true (formSecondAt cs e) e (and-right (ltb (formFirstAt cs e) (pathCount cs)) (ltb (formSecondAt cs e) e) (and-left (ltb (formFirstAt cs e) (pathCount cs) && ltb (formSecondAt cs e) e) (leb (formThirdAt cs e) maxCount && upperOk cs (formFourthAt cs e)) (right-by cs t [] e l 13 q))) in
         lower 13 (formSecondAt cs e) (formSecondAt cs e) q refl refl h h
 
-    lower-all : formCodeAt cs e ≡ 14 → Lower
+    lower-all : formCodeAt cs e ≡ codes.formAll → Lower
     unfolding entryOf entryOk
     lower-all q = let h = ltb-true (formSecondAt cs e) e (and-right (ltb (formFirstAt cs e) (pathCount cs)) (ltb (formSecondAt cs e) e) (right-by cs t [] e l 14 q)) in lower 14 (formSecondAt cs e) (formSecondAt cs e) q refl refl h h
 

@@ -14,6 +14,7 @@ use Rattle.base.specs.Bounded.{_⇒_, every}
 use Rattle.base.proofs.Bounded.{every-more}
 use Rattle.nodeset.specs.Words.{has}
 use Rattle.model.specs.Limits.{maxNodes}
+use Rattle.tables.specs.Codes as codes
 use Rattle.tables.specs.Layout.{nodeCount, kindAt, langAt}
 use Rattle.conditions.specs.Searches.{firstPair, among, pairFound, Listed}
 use Rattle.conditions.specs.declared.FoundPair.the-variants.{NoPair}
@@ -88,7 +89,7 @@ told c vs =
     let x : ℕ = getD (c .before .before .before .before .before .before .before .before .gather .last .0) (c .before .before .before .before .before .before .search .i) 0 in
     let y : ℕ = getD (c .before .before .before .before .before .before .before .before .gather .last .0) (c .before .before .loop .k) 0 in
     c .same-language .ensures
-    ∙ (λ j. c .before .before .before .before .has-language .ensures j && (eqb (kindAt cs y) 4 && eqb (c .before .before .before .node-lang .ensures j) (langAt cs y)))
+    ∙ (λ j. c .before .before .before .before .has-language .ensures j && (eqb (kindAt cs y) codes.nodeWords && eqb (c .before .before .before .node-lang .ensures j) (langAt cs y)))
     ∙ lang-test cs vs x y (omega (arith, i .1, i .2 .inside (c .before .before .before .before .before .before .search .i) (c .before .before .before .before .before .search-test .taken) .0)) (omega (arith, i .1, i .2 .inside (c .before .before .loop .k) (c .before .loop-test .taken) .0))
 
 add-k-2 : tie.Need-add-k-2 Inv-loop μ-loop Inv-search μ-search

@@ -12,6 +12,7 @@ use Rattle.base.specs.Bounded.{every}
 use Rattle.base.proofs.Bounded.{every-more}
 use Rattle.nodeset.specs.Words.{has}
 use Rattle.model.specs.Limits.{maxNodes}
+use Rattle.tables.specs.Codes as codes
 use Rattle.tables.specs.Layout.{nodeCount, kindAt, numberAt}
 use Rattle.tables.specs.Decode.{termAt}
 use Rattle.conditions.specs.Pairs.{unordered, comesBack}
@@ -103,7 +104,7 @@ told c =
     let i = c .before .before .before .before .before .before .search .inv in
     let y : ℕ = getD (c .before .before .before .before .before .before .before .before .gather .last .0) (c .before .before .loop .k) 0 in
     c .breaks-order .ensures
-    ∙ (λ j. not (c .before .before .before .before .has-number .ensures j) || (not (eqb (kindAt cs y) 2) || comesBack (a .order) (read-back (c .before .before .before .number .result) (c .before .before .before .number .ok) (c .before .before .before .number .ensures) j) (numberAt vs y)))
+    ∙ (λ j. not (c .before .before .before .before .has-number .ensures j) || (not (eqb (kindAt cs y) codes.nodeNumber) || comesBack (a .order) (read-back (c .before .before .before .number .result) (c .before .before .before .number .ok) (c .before .before .before .number .ensures) j) (numberAt vs y)))
     ∙ order-test cs vs (c .before .before .before .before .before .before .search .x) y (omega (arith, c .before .before .before .before .before .search-test, i .1)) (omega (arith, i .1, i .2 .inside (c .before .before .loop .k) (c .before .loop-test .taken) .0)) (a .order)
 
 add-k : tie.Need-add-k Inv-loop μ-loop Inv-search μ-search

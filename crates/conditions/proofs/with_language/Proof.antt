@@ -6,13 +6,14 @@ use native.Mathlib.Omega.{arith}
 use lib.Dec.{eqb, ltb}
 use borrow.Author.Needs.{needs}
 use Rattle.nodeset.specs.Words.{has, wordsOf}
+use Rattle.tables.specs.Codes as codes
 use Rattle.tables.specs.Layout.{nodeCount, kindAt}
 use Rattle.conditions.proofs.Members.{next-after, Gathered, gathered-none, gathered-more, gathered-length, gathered-all}
 use Rattle.conditions.proofs.with_language.Statement.{statement}
 use Rattle.conditions.proofs.with_language.Tie as tie
 
 abbrev Inv-loop : tie.InvT-loop
-Inv-loop cells a n words₀ x₀ words x = (n ≡ nodeCount cells) × Gathered (has a) (λ m. eqb (kindAt cells m) 4) n words x
+Inv-loop cells a n words₀ x₀ words x = (n ≡ nodeCount cells) × Gathered (has a) (λ m. eqb (kindAt cells m) codes.nodeWords) n words x
 
 abbrev μ-loop : tie.MeasureT-loop
 μ-loop cells a n words₀ x₀ words x = n - x
@@ -24,10 +25,10 @@ next-member-requires : tie.Need-next-member-requires Inv-loop μ-loop
 next-member-requires c κs = search needs
 
 loop-holds : tie.Need-loop-holds Inv-loop μ-loop
-loop-holds c = let a = c .before .before .before .before .args in (c .before .node-count .ensures, gathered-none (has (a .a .now)) (λ m. eqb (kindAt (a .cells .now) m) 4) (c .before .node-count .result) (c .next-member .ensures))
+loop-holds c = let a = c .before .before .before .before .args in (c .before .node-count .ensures, gathered-none (has (a .a .now)) (λ m. eqb (kindAt (a .cells .now) m) codes.nodeWords) (c .before .node-count .result) (c .next-member .ensures))
 
 slice-aggregate-insert-if : tie.Need-slice-aggregate-insert-if Inv-loop μ-loop
-slice-aggregate-insert-if c = let a = c .before .before .before .before .before .before .before .args in gathered-length (has (a .a .now)) (λ m. eqb (kindAt (a .cells .now) m) 4) (c .before .before .before .before .node-count .result) (c .before .before .loop .inv .1)
+slice-aggregate-insert-if c = let a = c .before .before .before .before .before .before .before .args in gathered-length (has (a .a .now)) (λ m. eqb (kindAt (a .cells .now) m) codes.nodeWords) (c .before .before .before .before .node-count .result) (c .before .before .loop .inv .1)
 
 cast-t8 : tie.Need-cast-t8 Inv-loop μ-loop
 cast-t8 c = omega (arith, c .loop-test, c .before .loop .inv .0, c .before .before .before .before .before .shared-slice-known .given 0 .fits)
@@ -51,13 +52,13 @@ loop-again : tie.Need-loop-again Inv-loop μ-loop
 loop-again c =
     let a = c .before .before .before .before .before .before .before .before .before .before .before .args in
     let l = c .before .before .before .before .before .before .loop in
-    (l .inv .0, gathered-more (has (a .a .now)) (λ m. eqb (kindAt (a .cells .now) m) 4) (c .before .before .before .before .before .before .before .before .node-count .result) (l .inv .1) (omega (arith, c .before .before .before .before .before .loop-test)) (c .before .before .before .has-language .ensures) (c .next-member2 .ensures) (c .before .before .insert-if .ensures))
+    (l .inv .0, gathered-more (has (a .a .now)) (λ m. eqb (kindAt (a .cells .now) m) codes.nodeWords) (c .before .before .before .before .before .before .before .before .node-count .result) (l .inv .1) (omega (arith, c .before .before .before .before .before .loop-test)) (c .before .before .before .has-language .ensures) (c .next-member2 .ensures) (c .before .before .insert-if .ensures))
 
 returns : tie.Need-returns Inv-loop μ-loop
 returns c =
     let a = c .before .before .before .before .before .before .args in
     let l = c .before .loop in
-    gathered-all (has (a .a .now)) (λ m. eqb (kindAt (a .cells .now) m) 4) (c .before .before .before .node-count .result) (l .inv .1) (omega (arith, c .loop-test)) ∙ ap (λ (n : ℕ). wordsOf (λ m. ltb m n && (has (a .a .now) m && eqb (kindAt (a .cells .now) m) 4)) 16) (l .inv .0)
+    gathered-all (has (a .a .now)) (λ m. eqb (kindAt (a .cells .now) m) codes.nodeWords) (c .before .before .before .node-count .result) (l .inv .1) (omega (arith, c .loop-test)) ∙ ap (λ (n : ℕ). wordsOf (λ m. ltb m n && (has (a .a .now) m && eqb (kindAt (a .cells .now) m) codes.nodeWords)) 16) (l .inv .0)
 
 pub with-language-spec : {M : Type 1} → statement M
 with-language-spec =

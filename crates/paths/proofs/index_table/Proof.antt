@@ -5,6 +5,7 @@ use mathlib.Core.Path.{_≡_, refl, ap, _∙_}
 use native.Mathlib.Nat.{zero-add}
 use native.Mathlib.Omega.{arith}
 use lib.ListN.{length, getD, length-replicate, getD-replicate}
+use Rattle.paths.specs.Facts.{subjectHeads, indexCount}
 use Rattle.paths.proofs.Parts.{lent-links, lent-index, lent-subjects, lent-subject-index}
 use Rattle.paths.proofs.Indexes.{chains-kept}
 use borrow.Author.Needs.{needs}
@@ -27,8 +28,8 @@ index-facts-requires : tie.Need-index-facts-requires
 index-facts-requires c κs =
     let pre = c .before .before .before .before .before .pre in
     let l = lent-links (c .before .before .before .before .before .args .cells .now) (pre .2) (pre .1) (c .before .before .fact-count .ensures) in
-    let all : length (c .before .before .before .before .before .args .index .now) ≡ 9472 = ap length (pre .0) ∙ length-replicate {A = ℕ} 9472 0 in
-    (omega (arith, all, l .0), omega (arith, all), l .0, l .1, l .2, λ h k. ap (λ (w : List ℕ). getD w (0 + h) 0) (pre .0) ∙ getD-replicate 9472 (0 + h) 0 0 (omega (arith, zero-add h)))
+    let all : length (c .before .before .before .before .before .args .index .now) ≡ indexCount = ap length (pre .0) ∙ length-replicate {A = ℕ} indexCount 0 in
+    (omega (arith, all, l .0), omega (arith, all), l .0, l .1, l .2, λ h k. ap (λ (w : List ℕ). getD w (0 + h) 0) (pre .0) ∙ getD-replicate indexCount (0 + h) 0 0 (omega (arith, zero-add h)))
 
 sub-index-facts-2 : tie.Need-sub-index-facts-2
 sub-index-facts-2 c = search needs
@@ -44,8 +45,8 @@ index-facts-requires-2 c κs =
     let pre = c .before .before .before .before .before .before .before .before .before .before .pre in
     let l = lent-subjects (c .before .before .before .before .before .before .before .before .before .before .args .cells .now) (pre .2) (pre .1) (c .before .before .before .before .before .before .before .fact-count .ensures) in
     let m = c .before .before .before .before .index-facts in
-    let all : length (m .last .0) ≡ 9472 = m .kept .0 ∙ ap length (pre .0) ∙ length-replicate {A = ℕ} 9472 0 in
-    (omega (arith, all, l .0), omega (arith, all), l .0, l .1, l .2, λ h k. m .ensures .above (4352 + h) (omega (arith, l .0)) ∙ ap (λ (w : List ℕ). getD w (4352 + h) 0) (pre .0) ∙ getD-replicate 9472 (4352 + h) 0 0 (omega arith))
+    let all : length (m .last .0) ≡ indexCount = m .kept .0 ∙ ap length (pre .0) ∙ length-replicate {A = ℕ} indexCount 0 in
+    (omega (arith, all, l .0), omega (arith, all), l .0, l .1, l .2, λ h k. m .ensures .above (subjectHeads + h) (omega (arith, l .0)) ∙ ap (λ (w : List ℕ). getD w (subjectHeads + h) 0) (pre .0) ∙ getD-replicate indexCount (subjectHeads + h) 0 0 (omega arith))
 
 same-length : tie.Need-same-length
 same-length c = search needs

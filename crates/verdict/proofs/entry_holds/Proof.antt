@@ -3,6 +3,7 @@ use mathlib.Core.Bool.{Bool, not, _&&_, _||_}
 use mathlib.Core.Path.{_≡_, sym, ap, ap₂, _∙_}
 use Prim.Native.Nat.{_≤_, zero-le}
 use native.Mathlib.Omega.{arith}
+use Rattle.tables.specs.Codes as codes
 use Rattle.conditions.proofs.Terms.{past}
 use Rattle.verdict.proofs.Parts.{parts-by}
 use Rattle.verdict.proofs.Holds.{asked-of, node-lt, first-lt, second-lt, code-le, row-low, holds-top, holds-is, holds-shape, holds-and, holds-or, holds-not, holds-count, holds-all, holds-closed}
@@ -23,28 +24,28 @@ form-node-requires : tie.Need-form-node-requires
 form-node-requires c κs = search needs
 
 known-requires : tie.Need-known-requires
-known-requires c κs = (first-lt (c .before .before .before .before .before .before .before .pre) (c .before .before .before .first-part .result) (c .before .before .before .first-part .ensures) (parts-by (c .before .before .before .before .before .before .before .args .cells .now) (c .before .before .before .before .before .before .before .args .e) 2 (sym (c .before .form-code .ensures) ∙ c .match .keys3)), node-lt (c .before .before .before .before .before .before .before .pre))
+known-requires c κs = (first-lt (c .before .before .before .before .before .before .before .pre) (c .before .before .before .first-part .result) (c .before .before .before .first-part .ensures) (parts-by (c .before .before .before .before .before .before .before .args .cells .now) (c .before .before .before .before .before .before .before .args .e) codes.formShape (sym (c .before .form-code .ensures) ∙ c .match .keys3)), node-lt (c .before .before .before .before .before .before .before .pre))
 
 known-requires-2 : tie.Need-known-requires-2
-known-requires-2 c κs = (first-lt (c .before .before .before .before .before .before .before .pre) (c .before .before .before .first-part .result) (c .before .before .before .first-part .ensures) (parts-by (c .before .before .before .before .before .before .before .args .cells .now) (c .before .before .before .before .before .before .before .args .e) 3 (sym (c .before .form-code .ensures) ∙ c .match .keys4)), node-lt (c .before .before .before .before .before .before .before .pre))
+known-requires-2 c κs = (first-lt (c .before .before .before .before .before .before .before .pre) (c .before .before .before .first-part .result) (c .before .before .before .first-part .ensures) (parts-by (c .before .before .before .before .before .before .before .args .cells .now) (c .before .before .before .before .before .before .before .args .e) codes.formAnd (sym (c .before .form-code .ensures) ∙ c .match .keys4)), node-lt (c .before .before .before .before .before .before .before .pre))
 
 known-requires-3 : tie.Need-known-requires-3
-known-requires-3 c κs = (second-lt (c .before .before .before .before .before .before .before .before .pre) (c .before .before .before .second-part .result) (c .before .before .before .second-part .ensures) (parts-by (c .before .before .before .before .before .before .before .before .args .cells .now) (c .before .before .before .before .before .before .before .before .args .e) 3 (sym (c .before .before .form-code .ensures) ∙ c .before .match .keys4)), node-lt (c .before .before .before .before .before .before .before .before .pre))
+known-requires-3 c κs = (second-lt (c .before .before .before .before .before .before .before .before .pre) (c .before .before .before .second-part .result) (c .before .before .before .second-part .ensures) (parts-by (c .before .before .before .before .before .before .before .before .args .cells .now) (c .before .before .before .before .before .before .before .before .args .e) codes.formAnd (sym (c .before .before .form-code .ensures) ∙ c .before .match .keys4)), node-lt (c .before .before .before .before .before .before .before .before .pre))
 
 known-requires-4 : tie.Need-known-requires-4
-known-requires-4 c κs = (first-lt (c .before .before .before .before .before .before .before .pre) (c .before .before .before .first-part .result) (c .before .before .before .first-part .ensures) (parts-by (c .before .before .before .before .before .before .before .args .cells .now) (c .before .before .before .before .before .before .before .args .e) 4 (sym (c .before .form-code .ensures) ∙ c .match .keys5)), node-lt (c .before .before .before .before .before .before .before .pre))
+known-requires-4 c κs = (first-lt (c .before .before .before .before .before .before .before .pre) (c .before .before .before .first-part .result) (c .before .before .before .first-part .ensures) (parts-by (c .before .before .before .before .before .before .before .args .cells .now) (c .before .before .before .before .before .before .before .args .e) codes.formOr (sym (c .before .form-code .ensures) ∙ c .match .keys5)), node-lt (c .before .before .before .before .before .before .before .pre))
 
 known-requires-5 : tie.Need-known-requires-5
-known-requires-5 c κs = (second-lt (c .before .before .before .before .before .before .before .before .pre) (c .before .before .before .second-part .result) (c .before .before .before .second-part .ensures) (parts-by (c .before .before .before .before .before .before .before .before .args .cells .now) (c .before .before .before .before .before .before .before .before .args .e) 4 (sym (c .before .before .form-code .ensures) ∙ c .before .match .keys5)), node-lt (c .before .before .before .before .before .before .before .before .pre))
+known-requires-5 c κs = (second-lt (c .before .before .before .before .before .before .before .before .pre) (c .before .before .before .second-part .result) (c .before .before .before .second-part .ensures) (parts-by (c .before .before .before .before .before .before .before .before .args .cells .now) (c .before .before .before .before .before .before .before .before .args .e) codes.formOr (sym (c .before .before .form-code .ensures) ∙ c .before .match .keys5)), node-lt (c .before .before .before .before .before .before .before .before .pre))
 
 known-requires-6 : tie.Need-known-requires-6
-known-requires-6 c κs = (first-lt (c .before .before .before .before .before .before .before .pre) (c .before .before .before .first-part .result) (c .before .before .before .first-part .ensures) (parts-by (c .before .before .before .before .before .before .before .args .cells .now) (c .before .before .before .before .before .before .before .args .e) 5 (sym (c .before .form-code .ensures) ∙ c .match .keys6)), node-lt (c .before .before .before .before .before .before .before .pre))
+known-requires-6 c κs = (first-lt (c .before .before .before .before .before .before .before .pre) (c .before .before .before .first-part .result) (c .before .before .before .first-part .ensures) (parts-by (c .before .before .before .before .before .before .before .args .cells .now) (c .before .before .before .before .before .before .before .args .e) codes.formNot (sym (c .before .form-code .ensures) ∙ c .match .keys6)), node-lt (c .before .before .before .before .before .before .before .pre))
 
 mul-row : tie.Need-mul-row
-mul-row c = let l = first-lt (c .before .before .before .before .before .before .before .pre) (c .before .before .before .first-part .result) (c .before .before .before .first-part .ensures) (parts-by (c .before .before .before .before .before .before .before .args .cells .now) (c .before .before .before .before .before .before .before .args .e) 13 (sym (c .before .form-code .ensures) ∙ c .match .keys7)) in omega arith
+mul-row c = let l = first-lt (c .before .before .before .before .before .before .before .pre) (c .before .before .before .first-part .result) (c .before .before .before .first-part .ensures) (parts-by (c .before .before .before .before .before .before .before .args .cells .now) (c .before .before .before .before .before .before .before .args .e) codes.formCount (sym (c .before .form-code .ensures) ∙ c .match .keys7)) in omega arith
 
 row-requires : tie.Need-row-requires
-row-requires c κs = let l = first-lt (c .before .before .before .before .before .before .before .pre) (c .before .before .before .first-part .result) (c .before .before .before .first-part .ensures) (parts-by (c .before .before .before .before .before .before .before .args .cells .now) (c .before .before .before .before .before .before .before .args .e) 13 (sym (c .before .form-code .ensures) ∙ c .match .keys7)) in omega (arith, c .before .before .before .before .before .before .before .pre .ready .size)
+row-requires c κs = let l = first-lt (c .before .before .before .before .before .before .before .pre) (c .before .before .before .first-part .result) (c .before .before .before .first-part .ensures) (parts-by (c .before .before .before .before .before .before .before .args .cells .now) (c .before .before .before .before .before .before .before .args .e) codes.formCount (sym (c .before .form-code .ensures) ∙ c .match .keys7)) in omega (arith, c .before .before .before .before .before .before .before .pre .ready .size)
 
 slice-aggregate-count-holds : tie.Need-slice-aggregate-count-holds
 slice-aggregate-count-holds c = search needs
@@ -53,10 +54,10 @@ count-holds-requires : tie.Need-count-holds-requires
 count-holds-requires c κs = (asked-of (c .before .before .before .before .before .before .before .before .before .before .pre), (sym (c .before .before .before .before .form-code .ensures) ∙ c .before .before .before .match .keys7), row-low (c .before .before .before .before .before .before .before .before .before .before .pre) (c .before .before .before .before .before .before .first-part .result) (c .before .before .before .before .before .before .first-part .ensures) (c .before .before .row .ensures))
 
 mul-row-2 : tie.Need-mul-row-2
-mul-row-2 c = let l = first-lt (c .before .before .before .before .before .before .before .pre) (c .before .before .before .first-part .result) (c .before .before .before .first-part .ensures) (parts-by (c .before .before .before .before .before .before .before .args .cells .now) (c .before .before .before .before .before .before .before .args .e) 14 (sym (c .before .form-code .ensures) ∙ c .match .keys8)) in omega arith
+mul-row-2 c = let l = first-lt (c .before .before .before .before .before .before .before .pre) (c .before .before .before .first-part .result) (c .before .before .before .first-part .ensures) (parts-by (c .before .before .before .before .before .before .before .args .cells .now) (c .before .before .before .before .before .before .before .args .e) codes.formAll (sym (c .before .form-code .ensures) ∙ c .match .keys8)) in omega arith
 
 row-requires-2 : tie.Need-row-requires-2
-row-requires-2 c κs = let l = first-lt (c .before .before .before .before .before .before .before .pre) (c .before .before .before .first-part .result) (c .before .before .before .first-part .ensures) (parts-by (c .before .before .before .before .before .before .before .args .cells .now) (c .before .before .before .before .before .before .before .args .e) 14 (sym (c .before .form-code .ensures) ∙ c .match .keys8)) in omega (arith, c .before .before .before .before .before .before .before .pre .ready .size)
+row-requires-2 c κs = let l = first-lt (c .before .before .before .before .before .before .before .pre) (c .before .before .before .first-part .result) (c .before .before .before .first-part .ensures) (parts-by (c .before .before .before .before .before .before .before .args .cells .now) (c .before .before .before .before .before .before .before .args .e) codes.formAll (sym (c .before .form-code .ensures) ∙ c .match .keys8)) in omega (arith, c .before .before .before .before .before .before .before .pre .ready .size)
 
 slice-aggregate-all-holds : tie.Need-slice-aggregate-all-holds
 slice-aggregate-all-holds c = search needs
@@ -79,10 +80,10 @@ sets-hold-requires : tie.Need-sets-hold-requires
 sets-hold-requires c κs =
     let k = c .before .before .form-code .result in
     let q = c .before .before .form-code .ensures in
-    let n13 : k ≡ 13 → ⊥ = c .before .match .rest .0 .0 .0 .1 in
-    let n14 : k ≡ 14 → ⊥ = c .before .match .rest .0 .0 .1 in
-    let n17 : k ≡ 17 → ⊥ = c .before .match .rest .0 .1 in
-    let n20 : k ≡ 20 → ⊥ = c .before .match .rest .1 in
+    let n13 : k ≡ codes.formCount → ⊥ = c .before .match .rest .0 .0 .0 .1 in
+    let n14 : k ≡ codes.formAll → ⊥ = c .before .match .rest .0 .0 .1 in
+    let n17 : k ≡ codes.formClosed → ⊥ = c .before .match .rest .0 .1 in
+    let n20 : k ≡ codes.formOnelang → ⊥ = c .before .match .rest .1 in
     (asked-of (c .before .before .before .before .before .before .before .before .pre), omega (arith, c .if1 .left, q), omega (arith, code-le (c .before .before .before .before .before .before .before .before .pre .ready), q), λ h. n17 (q ∙ h))
 
 returns : tie.Need-returns

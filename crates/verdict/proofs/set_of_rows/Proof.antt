@@ -5,6 +5,7 @@ use mathlib.Core.List.{List, []}
 use mathlib.Core.Path.{_≡_, refl, sym, ap, _∙_, subst}
 use native.Mathlib.Omega.{arith}
 use borrow.Author.Tests.{lt-ltb}
+use Rattle.tables.specs.Codes as codes
 use Rattle.tables.specs.Layout.{pathCount, formCodeAt, formFirstAt, formSecondAt, formThirdAt, formFourthAt}
 use Rattle.tables.specs.WellFormed as tables
 use Rattle.paths.specs.Ends.{endKnown}
@@ -48,10 +49,10 @@ entry : (m : tie.After-form-code) → formFirstAt (cells m) (m .before .before .
 entry m h = subst (λ (p : ℕ). p < pathCount (cells m)) (sym (first m)) h
 
 -- the code that is left
-first-four : (k : ℕ) → 13 ≤ k → (k ≡ 13 → ⊥) → (k ≡ 14 → ⊥) → (k ≡ 15 → ⊥) → (k ≡ 16 → ⊥) → 17 ≤ k
+first-four : (k : ℕ) → codes.formCount ≤ k → (k ≡ codes.formCount → ⊥) → (k ≡ codes.formAll → ⊥) → (k ≡ codes.formEqual → ⊥) → (k ≡ codes.formApart → ⊥) → codes.formClosed ≤ k
 first-four k l a b c d = omega arith
 
-last-four : (k : ℕ) → 17 ≤ k → k ≤ 20 → (k ≡ 17 → ⊥) → (k ≡ 18 → ⊥) → (k ≡ 19 → ⊥) → k ≡ 20
+last-four : (k : ℕ) → codes.formClosed ≤ k → k ≤ codes.formOnelang → (k ≡ codes.formClosed → ⊥) → (k ≡ codes.formLess → ⊥) → (k ≡ codes.formLesseq → ⊥) → k ≡ codes.formOnelang
 last-four k l m a b c = omega arith
 
 lang : (c : tie.At-match-rest) → formCodeAt (cells (c .before)) (c .before .before .before .before .before .before .before .before .before .before .before .before .before .before .before .before .before .args .e) ≡ 20
@@ -59,13 +60,13 @@ lang c =
     let k = c .before .form-code .result in
     let pre = c .before .before .before .before .before .before .before .before .before .before .before .before .before .before .before .before .before .pre in
     let e = c .before .form-code .ensures in
-    let n13 : k ≡ 13 → ⊥ = c .match .rest .0 .0 .0 .0 .0 .1 in
-    let n14 : k ≡ 14 → ⊥ = c .match .rest .0 .0 .0 .0 .1 in
-    let n15 : k ≡ 15 → ⊥ = c .match .rest .0 .0 .0 .1 in
-    let n16 : k ≡ 16 → ⊥ = c .match .rest .0 .0 .1 in
-    let n17 : k ≡ 17 → ⊥ = λ h. pre .2 (sym e ∙ h) in
-    let n18 : k ≡ 18 → ⊥ = c .match .rest .0 .1 in
-    let n19 : k ≡ 19 → ⊥ = c .match .rest .1 in
+    let n13 : k ≡ codes.formCount → ⊥ = c .match .rest .0 .0 .0 .0 .0 .1 in
+    let n14 : k ≡ codes.formAll → ⊥ = c .match .rest .0 .0 .0 .0 .1 in
+    let n15 : k ≡ codes.formEqual → ⊥ = c .match .rest .0 .0 .0 .1 in
+    let n16 : k ≡ codes.formApart → ⊥ = c .match .rest .0 .0 .1 in
+    let n17 : k ≡ codes.formClosed → ⊥ = λ h. pre .2 (sym e ∙ h) in
+    let n18 : k ≡ codes.formLess → ⊥ = c .match .rest .0 .1 in
+    let n19 : k ≡ codes.formLesseq → ⊥ = c .match .rest .1 in
     let past : 17 ≤ k = first-four k (subst (λ (x : ℕ). 13 ≤ x) (sym e) (pre .1)) n13 n14 n15 n16 in
     let most : k ≤ 20 = subst (λ (x : ℕ). x ≤ 20) (sym e) (code-le (ready (c .before))) in
     sym e ∙ last-four k past most n17 n18 n19
