@@ -1,15 +1,15 @@
 -- The laws of searches. What is found has the property, and nothing before it has; nothing is found where nothing has it.
 -- Nothing is found exactly where the condition is kept, and something exactly where it is broken.
-use Prim.Native.Nat.{ℕ, zero, suc, _+_, _≤_, _<_, zero-le}
-use mathlib.Core.Bool.{Bool, true, false, not, cond, _&&_, _||_, Bool·not-not}
+use Prim.Native.Nat.{ℕ, zero, suc, _≤_, _<_, zero-le}
+use mathlib.Core.Bool.{Bool, true, false, not, cond, _&&_, Bool·not-not}
 use mathlib.Core.Logic.{_⊎_, inl, inr, ⊎-elim}
 use mathlib.Core.Option.{Option, Option·map, Option·some-injective, Option·none-ne-some, orElse}
 use mathlib.Core.Path.{_≡_, refl, sym, ap, ap₂, _∙_, subst}
 use native.Mathlib.Nat.{eq-or-lt-of-le, le-of-suc-le-suc}
 use native.Mathlib.Omega.{arith}
-use lib.Dec.{eqb, ltb}
-use borrow.Author.Tests.{eqb-true, eqb-false, ltb-true, ltb-false}
-use Rattle.base.specs.Bounded.{_⇒_, some, every}
+use lib.Dec.{ltb}
+use borrow.Author.Tests.{ltb-true, ltb-false}
+use Rattle.base.specs.Bounded.{_⇒_, some}
 use Rattle.base.proofs.Bools.{bool-cases, never-both}
 use Rattle.base.proofs.Bounded.{some-at, some-witness, some-ext, some-none, some-and, not-every}
 use Rattle.nodeset.specs.Members.{nextFrom}
@@ -42,10 +42,6 @@ module _ (p : ℕ → Bool) where
       (λ q. ap₂ (λ (o : Option ℕ) (b : Bool). orElse o (cond b (Option.some n) Option.none)) (first-none n (λ j m. g j (omega arith))) (ap p (sym q) ∙ h) ∙ ap (λ (k : ℕ). Option.some k) (sym q))
       (λ m. ap (λ (o : Option ℕ). orElse o (cond (p n) (Option.some n) Option.none)) (first-at n i m h g))
       (eq-or-lt-of-le (le-of-suc-le-suc l))
-
-  -- one more that has not p
-  pub none-more : {i : ℕ} → ((j : ℕ) → j < i → p j ≡ false) → p i ≡ false → (j : ℕ) → j < i + 1 → p j ≡ false
-  none-more {i} h e j l = bool-cases (λ b. eqb j i ≡ b → p j ≡ false) (eqb j i) (λ _ q. ap p (eqb-true j i q) ∙ e) (λ _ q. let ne : j ≡ i → ⊥ = eqb-false j i q in h j (omega arith)) refl
 
   -- i is the first below n
   pub record First (n i : ℕ) : Type 0 where

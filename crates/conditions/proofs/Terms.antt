@@ -138,40 +138,40 @@ module _ (cs : List ℕ) (vs : List ℤ) (v : ℕ) (l : v < nodeCount cs) where
       lacks-not f (languageOf (termAt cs vs v)) ∙ ap not (language-test (λ x. not (f x)))
       ∙ not-and (eqb (kindAt cs v) codes.nodeWords) (not (f (langAt cs v))) ∙ ap (λ (b : Bool). not (eqb (kindAt cs v) codes.nodeWords) || b) (Bool·not-not (f (langAt cs v)))
 
-  pub datatype-test : (t k d : ℕ) → k ≡ kindAt cs v → d ≡ typeAt cs v → (((eqb k 2 || eqb k 3) && eqb t d) || (eqb k 4 && eqb t 0)) ≡ satisfies (datatype t) (termAt cs vs v)
+  pub datatype-test : (t k d : ℕ) → k ≡ kindAt cs v → d ≡ typeAt cs v → (((eqb k codes.nodeNumber || eqb k codes.nodeText) && eqb t d) || (eqb k codes.nodeWords && eqb t 0)) ≡ satisfies (datatype t) (termAt cs vs v)
   unfolding satisfies holds datatypeOf
-  datatype-test t k d e f = sym (term-by (λ a. holds (eqb t) (datatypeOf a)) ∙ at-literals (eqb t (typeAt cs v)) (eqb t 0) (kindAt cs v) ∙ ap₂ (λ (k d : ℕ). ((eqb k 2 || eqb k 3) && eqb t d) || (eqb k 4 && eqb t 0)) (sym e) (sym f))
+  datatype-test t k d e f = sym (term-by (λ a. holds (eqb t) (datatypeOf a)) ∙ at-literals (eqb t (typeAt cs v)) (eqb t 0) (kindAt cs v) ∙ ap₂ (λ (k d : ℕ). ((eqb k codes.nodeNumber || eqb k codes.nodeText) && eqb t d) || (eqb k codes.nodeWords && eqb t 0)) (sym e) (sym f))
 
-  pub datatype-fails : (t k d : ℕ) → k ≡ kindAt cs v → d ≡ typeAt cs v → (((not (eqb k 2) && not (eqb k 3)) || not (eqb t d)) && (not (eqb k 4) || not (eqb t 0))) ≡ failsTest (datatype t) (termAt cs vs v)
+  pub datatype-fails : (t k d : ℕ) → k ≡ kindAt cs v → d ≡ typeAt cs v → (((not (eqb k codes.nodeNumber) && not (eqb k codes.nodeText)) || not (eqb t d)) && (not (eqb k codes.nodeWords) || not (eqb t 0))) ≡ failsTest (datatype t) (termAt cs vs v)
   datatype-fails t k d e f =
-      sym (not-or ((eqb k 2 || eqb k 3) && eqb t d) (eqb k 4 && eqb t 0) ∙ ap₂ (λ (x y : Bool). x && y) (not-and (eqb k 2 || eqb k 3) (eqb t d) ∙ ap (λ (x : Bool). x || not (eqb t d)) (not-or (eqb k 2) (eqb k 3))) (not-and (eqb k 4) (eqb t 0)))
+      sym (not-or ((eqb k codes.nodeNumber || eqb k codes.nodeText) && eqb t d) (eqb k codes.nodeWords && eqb t 0) ∙ ap₂ (λ (x y : Bool). x && y) (not-and (eqb k codes.nodeNumber || eqb k codes.nodeText) (eqb t d) ∙ ap (λ (x : Bool). x || not (eqb t d)) (not-or (eqb k codes.nodeNumber) (eqb k codes.nodeText))) (not-and (eqb k codes.nodeWords) (eqb t 0)))
       ∙ ap not (datatype-test t k d e f) ∙ not-satisfies (datatype t) (termAt cs vs v)
 
   -- its kind; k is the code that was read
   module _ (k : ℕ) (e : k ≡ kindAt cs v) {j : ℕ} where
-    pub kind-iri : j ≡ 0 → (eqb k 0 || ltb 4 k) ≡ satisfies (nodeKind (kindOf j)) (termAt cs vs v)
+    pub kind-iri : j ≡ codes.kindThing → (eqb k codes.nodeThing || ltb codes.nodeWords k) ≡ satisfies (nodeKind (kindOf j)) (termAt cs vs v)
     unfolding satisfies isKind kindOf
-    kind-iri q = sym (ap (λ (j : ℕ). satisfies (nodeKind (kindOf j)) (termAt cs vs v)) q ∙ term-by (isKind anIri) ∙ at-iri (kindAt cs v) ∙ ap (λ (k : ℕ). eqb k 0 || ltb 4 k) (sym e))
+    kind-iri q = sym (ap (λ (j : ℕ). satisfies (nodeKind (kindOf j)) (termAt cs vs v)) q ∙ term-by (isKind anIri) ∙ at-iri (kindAt cs v) ∙ ap (λ (k : ℕ). eqb k codes.nodeThing || ltb codes.nodeWords k) (sym e))
 
-    pub kind-blank : j ≡ 1 → eqb k 1 ≡ satisfies (nodeKind (kindOf j)) (termAt cs vs v)
+    pub kind-blank : j ≡ codes.kindBlank → eqb k codes.nodeBlank ≡ satisfies (nodeKind (kindOf j)) (termAt cs vs v)
     unfolding satisfies isKind kindOf
-    kind-blank q = sym (ap (λ (j : ℕ). satisfies (nodeKind (kindOf j)) (termAt cs vs v)) q ∙ term-by (isKind aBlank) ∙ at-blank (kindAt cs v) ∙ ap (λ (k : ℕ). eqb k 1) (sym e))
+    kind-blank q = sym (ap (λ (j : ℕ). satisfies (nodeKind (kindOf j)) (termAt cs vs v)) q ∙ term-by (isKind aBlank) ∙ at-blank (kindAt cs v) ∙ ap (λ (k : ℕ). eqb k codes.nodeBlank) (sym e))
 
-    pub kind-literal : 1 < j → (ltb 1 k && ltb k 5) ≡ satisfies (nodeKind (kindOf j)) (termAt cs vs v)
+    pub kind-literal : codes.kindLiteral ≤ j → (ltb codes.nodeBlank k && ltb k codes.nodeUnknown) ≡ satisfies (nodeKind (kindOf j)) (termAt cs vs v)
     unfolding satisfies isKind kindOf
-    kind-literal q = sym (ap (λ (x : Rattle.model.specs.Shapes.Kind). isKind x (termAt cs vs v)) (List·getD-eq-default (anIri ∷ aBlank ∷ []) aLiteral q) ∙ term-by (isKind aLiteral) ∙ at-literal (kindAt cs v) ∙ ap (λ (k : ℕ). ltb 1 k && ltb k 5) (sym e))
+    kind-literal q = sym (ap (λ (x : Rattle.model.specs.Shapes.Kind). isKind x (termAt cs vs v)) (List·getD-eq-default (anIri ∷ aBlank ∷ []) aLiteral q) ∙ term-by (isKind aLiteral) ∙ at-literal (kindAt cs v) ∙ ap (λ (k : ℕ). ltb codes.nodeBlank k && ltb k codes.nodeUnknown) (sym e))
 
-    pub kind-not-iri : j ≡ 0 → (ltb 0 k && ltb k 5) ≡ failsTest (nodeKind (kindOf j)) (termAt cs vs v)
+    pub kind-not-iri : j ≡ codes.kindThing → (ltb codes.nodeThing k && ltb k codes.nodeUnknown) ≡ failsTest (nodeKind (kindOf j)) (termAt cs vs v)
     unfolding failsTest otherKind isKind kindOf
-    kind-not-iri q = sym (ap (λ (j : ℕ). failsTest (nodeKind (kindOf j)) (termAt cs vs v)) q ∙ term-by (otherKind anIri) ∙ at-not-iri (kindAt cs v) ∙ ap (λ (k : ℕ). ltb 0 k && ltb k 5) (sym e))
+    kind-not-iri q = sym (ap (λ (j : ℕ). failsTest (nodeKind (kindOf j)) (termAt cs vs v)) q ∙ term-by (otherKind anIri) ∙ at-not-iri (kindAt cs v) ∙ ap (λ (k : ℕ). ltb codes.nodeThing k && ltb k codes.nodeUnknown) (sym e))
 
-    pub kind-not-blank : j ≡ 1 → not (eqb k 1) ≡ failsTest (nodeKind (kindOf j)) (termAt cs vs v)
+    pub kind-not-blank : j ≡ codes.kindBlank → not (eqb k codes.nodeBlank) ≡ failsTest (nodeKind (kindOf j)) (termAt cs vs v)
     unfolding failsTest otherKind isKind kindOf
-    kind-not-blank q = sym (ap (λ (j : ℕ). failsTest (nodeKind (kindOf j)) (termAt cs vs v)) q ∙ term-by (otherKind aBlank) ∙ at-not-blank (kindAt cs v) ∙ ap (λ (k : ℕ). not (eqb k 1)) (sym e))
+    kind-not-blank q = sym (ap (λ (j : ℕ). failsTest (nodeKind (kindOf j)) (termAt cs vs v)) q ∙ term-by (otherKind aBlank) ∙ at-not-blank (kindAt cs v) ∙ ap (λ (k : ℕ). not (eqb k codes.nodeBlank)) (sym e))
 
-    pub kind-not-literal : 1 < j → (ltb k 2 || ltb 4 k) ≡ failsTest (nodeKind (kindOf j)) (termAt cs vs v)
+    pub kind-not-literal : codes.kindLiteral ≤ j → (ltb k codes.nodeNumber || ltb codes.nodeWords k) ≡ failsTest (nodeKind (kindOf j)) (termAt cs vs v)
     unfolding failsTest otherKind isKind kindOf
-    kind-not-literal q = sym (ap (λ (x : Rattle.model.specs.Shapes.Kind). otherKind x (termAt cs vs v)) (List·getD-eq-default (anIri ∷ aBlank ∷ []) aLiteral q) ∙ term-by (otherKind aLiteral) ∙ at-not-literal (kindAt cs v) ∙ ap (λ (k : ℕ). ltb k 2 || ltb 4 k) (sym e))
+    kind-not-literal q = sym (ap (λ (x : Rattle.model.specs.Shapes.Kind). otherKind x (termAt cs vs v)) (List·getD-eq-default (anIri ∷ aBlank ∷ []) aLiteral q) ∙ term-by (otherKind aLiteral) ∙ at-not-literal (kindAt cs v) ∙ ap (λ (k : ℕ). ltb k codes.nodeNumber || ltb codes.nodeWords k) (sym e))
 
 -- ---- the terms of two nodes
 module _ (cs : List ℕ) (vs : List ℤ) (x y : ℕ) (l : x < nodeCount cs) (m : y < nodeCount cs) where

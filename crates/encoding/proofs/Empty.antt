@@ -1,29 +1,24 @@
 -- The tables of the empty book, at every place: one link `a`, one type `langstring`, and zeros.
-use Prim.Native.Nat.{ℕ, zero, suc, _+_, _<_, _*_}
-use mathlib.Core.List.{List, [], _∷_, append-nil}
+use Prim.Native.Nat.{ℕ, zero, suc, _<_}
+use mathlib.Core.List.{List, [], _∷_}
 use mathlib.Core.Bool.{true}
-use mathlib.Core.Path.{_≡_, refl, sym, ap, _∙_}
-use native.Mathlib.Nat.{zero-add}
+use mathlib.Core.Path.{_≡_, refl, sym, _∙_}
 use native.Mathlib.Omega.{arith}
 use lib.Dec.{eqb}
 use lib.ListN.{getD, drop, set, replicate, length-set, length-replicate}
 use lib.Seq.{ext-getD, getD-set-same, getD-set-other}
 use lib.IntN.{pos}
 use borrow.Author.Tests.{eqb-true}
-use Rattle.base.specs.Bytes.{bytes}
 use Rattle.base.specs.Lists.{allb}
 use Rattle.base.proofs.Bools.{and-left, and-right}
-use Rattle.text.specs.Pool.{padded, poolOf}
-use Rattle.model.specs.Books.{nodes, links, types, builtIn, collect, names, rules}
+use Rattle.model.specs.Books.{builtIn, collect, names, rules}
 use Rattle.model.specs.Sizes.{sumOver, formsIn, pathsIn, itemsIn}
-use Rattle.model.specs.Valid.{capacity}
-use Rattle.model.specs.Limits.{maxTypes, nameBytes}
-use Rattle.tables.specs.Layout.{cellCount, valueCount, linkNames, typeNames}
+use Rattle.tables.specs.Layout.{cellCount, valueCount}
 use Rattle.encoding.specs.Flatten.{addShapes, rootsOf}
-use Rattle.encoding.specs.Encode.{col, cellColumns, valueColumns, nameColumns, entriesOf, countsOf, contentOf, encodeCells, encodeValues, encodeNames, poolBase}
-use Rattle.encoding.proofs.Places.{at-rest, at-first, at-blank}
+use Rattle.encoding.specs.Encode.{col, cellColumns, valueColumns, entriesOf, countsOf, contentOf, encodeCells, encodeValues}
+use Rattle.encoding.proofs.Places.{at-first, at-blank}
 use Rattle.encoding.proofs.Counts.{cells-length, values-length}
-use Rattle.encoding.proofs.Names.{same-everywhere, padded-at, pool-place}
+use Rattle.encoding.proofs.Names.{same-everywhere}
 
 zeros-at : (xs : List ℕ) → allb (λ x. eqb x 0) xs ≡ true → (i : ℕ) → getD xs i 0 ≡ 0
 unfolding allb
@@ -68,22 +63,3 @@ cells-start =
 pub values-start : encodeValues [] ≡ replicate valueCount (pos 0)
 values-start = ext-getD (pos 0) (encodeValues []) (replicate valueCount (pos 0)) (values-length [] ∙ sym (length-replicate valueCount (pos 0))) (λ i _. values-empty i ∙ sym (same-everywhere (pos 0) valueCount i))
 
--- a pool of one name
-one-name : (w : List ℕ) (i : ℕ) → getD (poolOf (w ∷ [])) i 0 ≡ getD w i 0
-unfolding poolOf
-one-name w i = ap (λ (l : List ℕ). getD l i 0) (append-nil (padded w)) ∙ padded-at w i
-
--- no node's name; the links' names; the types', and all after them
-pub node-names-empty : (i : ℕ) → i < linkNames → getD (encodeNames []) i 0 ≡ 0
-unfolding poolBase names builtIn collect poolOf capacity
-node-names-empty i l = ap (λ (j : ℕ). getD (encodeNames []) j 0) (sym (zero-add i)) ∙ pool-place [] nodes i l
-
-pub link-names-empty : (i : ℕ) → linkNames + i < typeNames → getD (encodeNames []) (linkNames + i) 0 ≡ getD (bytes "a") i 0
-unfolding poolBase names builtIn collect capacity
-link-names-empty i l = pool-place [] links i (omega arith) ∙ one-name (bytes "a") i
-
-pub type-names-empty : (i : ℕ) → getD (encodeNames []) (typeNames + i) 0 ≡ getD (bytes "langstring") i 0
-unfolding encodeNames names builtIn collect padded poolOf allb
-type-names-empty i =
-    let cs = nameColumns [] in
-    at-rest 0 cs 2 i ∙ at-first 0 (col (maxTypes * nameBytes) (poolOf (names types []))) (drop 3 cs) (omega arith) (at-blank 0 (drop 3 cs) refl) i ∙ one-name (bytes "langstring") i

@@ -84,14 +84,7 @@ module _ (b : Book) (p : Pool) (s : short (names p b) ≡ true) where
   name-at k i h l = pool-place b p (k * nameBytes + i) (omega arith) ∙ pool-at (names p b) s k i l
 
   module _ (ok : admissible b ≡ true) where
-    -- the pool as a whole, and each of its names
-    pub pool-stored : slice (poolBase p) (poolBase p + length (poolOf (names p b))) (encodeNames b) ≡ poolOf (names p b)
-    pool-stored =
-        let w = poolOf (names p b) in
-        let n = pool-length (names p b) s in
-        let m = names-within p b ok in
-        slice-is 0 (encodeNames b) w (poolBase p) (omega (arith, pool-inside p, names-length b)) (λ j l. pool-place b p j (omega arith))
-
+    -- each name of the pool
     pub name-stored : (k : ℕ) → k < length (names p b) → slice (poolBase p + k * nameBytes) (poolBase p + k * nameBytes + nameBytes) (encodeNames b) ≡ padded (getD (names p b) k [])
     name-stored k h =
         let w = getD (names p b) k [] in

@@ -1,6 +1,6 @@
 -- The nodes that have a property, gathered node by node, and put together from other sets.
 use Prim.Native.Nat.{ℕ, _+_, _-_, _*_, _≤_, _<_}
-use mathlib.Core.Bool.{Bool, true, false, not, _&&_, _||_, and-true, and-false, or-false}
+use mathlib.Core.Bool.{Bool, true, false, _&&_, _||_, and-true, and-false, or-false}
 use mathlib.Core.List.{List}
 use mathlib.Core.Path.{_≡_, refl, sym, ap, _∙_}
 use native.Mathlib.Omega.{arith}
@@ -9,8 +9,8 @@ use lib.ListN.{length, replicate, take, drop, length-drop, drop-of-length-le}
 use lib.Seq.{take-all}
 use borrow.Author.Tests.{eqb-true, le-ltb, ltb-true}
 use Rattle.base.proofs.Bools.{bool-cases}
-use Rattle.nodeset.specs.Words.{has, wordsOf, intersection, difference}
-use Rattle.nodeset.proofs.Sets.{wordsOf-ext, has-of, length-of, zeros, ltb-more, intersection-of, difference-of}
+use Rattle.nodeset.specs.Words.{has, wordsOf, intersection}
+use Rattle.nodeset.proofs.Sets.{wordsOf-ext, has-of, length-of, zeros, ltb-more, intersection-of}
 use Rattle.stepsets.specs.Conditions.{nodesOf}
 
 pub nodes-ext : (p q : ℕ → Bool) (n : ℕ) → ((v : ℕ) → v < n → p v ≡ q v) → nodesOf p n ≡ nodesOf q n
@@ -58,19 +58,11 @@ pub nodes-never : (n : ℕ) → wordsOf (λ m. false) 16 ≡ nodesOf (λ v. fals
 unfolding nodesOf
 nodes-never n = wordsOf-ext (λ m. false) (λ v. ltb v n && false) 16 (λ m l. sym (and-false (ltb m n)))
 
--- ---- of all nodes, those in a set, and those not in a set of nodes
+-- ---- of all nodes, those in a set
 module _ {w s : List ℕ} (p : ℕ → Bool) (n : ℕ) (ew : w ≡ wordsOf (λ m. ltb m n) 16) where
   pub whole-and : s ≡ wordsOf p 16 → intersection w s ≡ nodesOf p n
   unfolding nodesOf
   whole-and es = intersection-of (λ m. ltb m n) p 16 ew es
-
-  pub whole-not : s ≡ nodesOf p n → difference w s ≡ nodesOf (λ v. not (p v)) n
-  unfolding nodesOf
-  whole-not es = difference-of (λ m. ltb m n) (λ v. ltb v n && p v) 16 ew es ∙ wordsOf-ext (λ m. ltb m n && not (ltb m n && p m)) (λ v. ltb v n && not (p v)) 16 (λ m l. here (ltb m n) (p m))
-    where
-      here : (a b : Bool) → (a && not (a && b)) ≡ (a && not b)
-      here true b = refl
-      here false b = refl
 
 -- ---- the part from a place on, as the code cuts it; there is none past the end
 pub part-from : (ws : List ℕ) (at : ℕ) → take (length ws - at) (drop at ws) ≡ drop at ws

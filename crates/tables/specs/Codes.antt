@@ -17,6 +17,10 @@ nodeText = 3
 abbrev pub nodeWords : ℕ
 nodeWords = 4
 
+-- the first that is no kind's
+abbrev pub nodeUnknown : ℕ
+nodeUnknown = 5
+
 -- ---- path entries: a bare link, and the words after a bracket
 abbrev pub pathLink : ℕ
 pathLink = 0

@@ -30,10 +30,10 @@ use Rattle.verdict.proofs.Memo.{known-right}
 use Rattle.verdict.proofs.Parts.{first-by, second-by, parts-by, looks-here, looks-along, parts-lower}
 
 -- there are no more codes
-pub code-le : {cs index : List ℕ} {vs : List ℤ} {memo : List ℕ} {e : ℕ} → Ready cs index vs memo e → formCodeAt cs e ≤ 20
+pub code-le : {cs index : List ℕ} {vs : List ℤ} {memo : List ℕ} {e : ℕ} → Ready cs index vs memo e → formCodeAt cs e ≤ codes.formOnelang
 unfolding entryOf entryOk
-code-le {cs} {index} {vs} {memo} {e} r = bool-cases (λ b. leb (formCodeAt cs e) 20 ≡ b → formCodeAt cs e ≤ 20) (leb (formCodeAt cs e) 20) (λ _ h. leb-true (formCodeAt cs e) 20 h)
-    (λ _ h. absurd (never-both (right-by cs (r .tables) vs e (r .entry) (formCodeAt cs e) refl) (ap (entryOk cs e) (bad (formCodeAt cs e) (leb-false (formCodeAt cs e) 20 h))))) refl
+code-le {cs} {index} {vs} {memo} {e} r = bool-cases (λ b. leb (formCodeAt cs e) codes.formOnelang ≡ b → formCodeAt cs e ≤ codes.formOnelang) (leb (formCodeAt cs e) codes.formOnelang) (λ _ h. leb-true (formCodeAt cs e) codes.formOnelang h)
+    (λ _ h. absurd (never-both (right-by cs (r .tables) vs e (r .entry) (formCodeAt cs e) refl) (ap (entryOk cs e) (bad (formCodeAt cs e) (leb-false (formCodeAt cs e) codes.formOnelang h))))) refl
   where
     bad : (n : ℕ) → 21 ≤ n → entryBy cs (r .tables) vs e (r .entry) n ≡ Entry.bad
     bad n h = rw List·getD-eq-default
@@ -127,12 +127,12 @@ module _ {cs index : List ℕ} {vs : List ℤ} {memo : List ℕ} {e v : ℕ} (k 
       unfolding entryOf shapeOf conforms graphAt
       holds-count q =
           ap (within (formThirdAt cs e) (upperOf (formFourthAt cs e))) (size-ext (λ w. ended w && has ws w) (λ w. ended w && conforms (graphAt cs vs) (shapeAt cs vs (formSecondAt cs e)) w) (nodeCount cs) (λ w l.
-          bool-cases (λ t. ended w ≡ t → (t && has ws w) ≡ (t && conforms (graphAt cs vs) (shapeAt cs vs (formSecondAt cs e)) w)) (ended w) (λ _ h. row-known 13 q refl refl w l h) (λ _ h. refl) refl))
+          bool-cases (λ t. ended w ≡ t → (t && has ws w) ≡ (t && conforms (graphAt cs vs) (shapeAt cs vs (formSecondAt cs e)) w)) (ended w) (λ _ h. row-known codes.formCount q refl refl w l h) (λ _ h. refl) refl))
           ∙ means codes.formCount q
 
       pub holds-all : formCodeAt cs e ≡ codes.formAll → every (λ w. ended w ⇒ has ws w) (nodeCount cs) ≡ holds
       unfolding entryOf shapeOf conforms graphAt
       holds-all q =
           every-ext (λ w. ended w ⇒ has ws w) (λ w. ended w ⇒ conforms (graphAt cs vs) (shapeAt cs vs (formSecondAt cs e)) w) (nodeCount cs) (λ w l.
-          bool-cases (λ t. ended w ≡ t → (t ⇒ has ws w) ≡ (t ⇒ conforms (graphAt cs vs) (shapeAt cs vs (formSecondAt cs e)) w)) (ended w) (λ _ h. row-known 14 q refl refl w l h) (λ _ h. refl) refl)
+          bool-cases (λ t. ended w ≡ t → (t ⇒ has ws w) ≡ (t ⇒ conforms (graphAt cs vs) (shapeAt cs vs (formSecondAt cs e)) w)) (ended w) (λ _ h. row-known codes.formAll q refl refl w l h) (λ _ h. refl) refl)
           ∙ means codes.formAll q

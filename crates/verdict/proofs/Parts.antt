@@ -68,45 +68,45 @@ module _ (cs : List ℕ) (e : ℕ) where
     lower-shape : formCodeAt cs e ≡ codes.formShape → Lower
     unfolding entryOf entryOk
     lower-shape q =
-        let h : rootAt cs (formFirstAt cs e) < e = ltb-true (rootAt cs (formFirstAt cs e)) e (and-right (ltb (formFirstAt cs e) (shapeCount cs)) (ltb (rootAt cs (formFirstAt cs e)) e) (right-by cs t [] e l 2 q)) in
-        lower 2 (rootAt cs (formFirstAt cs e)) (rootAt cs (formFirstAt cs e)) q refl refl h h
+        let h : rootAt cs (formFirstAt cs e) < e = ltb-true (rootAt cs (formFirstAt cs e)) e (and-right (ltb (formFirstAt cs e) (shapeCount cs)) (ltb (rootAt cs (formFirstAt cs e)) e) (right-by cs t [] e l codes.formShape q)) in
+        lower codes.formShape (rootAt cs (formFirstAt cs e)) (rootAt cs (formFirstAt cs e)) q refl refl h h
 
     lower-and : formCodeAt cs e ≡ codes.formAnd → Lower
     unfolding entryOf entryOk
-    lower-and q = let h = two (formFirstAt cs e) (formSecondAt cs e) (right-by cs t [] e l 3 q) in lower 3 (formFirstAt cs e) (formSecondAt cs e) q refl refl (h .0) (h .1)
+    lower-and q = let h = two (formFirstAt cs e) (formSecondAt cs e) (right-by cs t [] e l codes.formAnd q) in lower codes.formAnd (formFirstAt cs e) (formSecondAt cs e) q refl refl (h .0) (h .1)
 
     lower-or : formCodeAt cs e ≡ codes.formOr → Lower
     unfolding entryOf entryOk
-    lower-or q = let h = two (formFirstAt cs e) (formSecondAt cs e) (right-by cs t [] e l 4 q) in lower 4 (formFirstAt cs e) (formSecondAt cs e) q refl refl (h .0) (h .1)
+    lower-or q = let h = two (formFirstAt cs e) (formSecondAt cs e) (right-by cs t [] e l codes.formOr q) in lower codes.formOr (formFirstAt cs e) (formSecondAt cs e) q refl refl (h .0) (h .1)
 
     lower-not : formCodeAt cs e ≡ codes.formNot → Lower
     unfolding entryOf entryOk
-    lower-not q = let h = ltb-true (formFirstAt cs e) e (right-by cs t [] e l 5 q) in lower 5 (formFirstAt cs e) (formFirstAt cs e) q refl refl h h
+    lower-not q = let h = ltb-true (formFirstAt cs e) e (right-by cs t [] e l codes.formNot q) in lower codes.formNot (formFirstAt cs e) (formFirstAt cs e) q refl refl h h
 
     lower-count : formCodeAt cs e ≡ codes.formCount → Lower
     unfolding entryOf entryOk
     lower-count q =
-        let h = ltb-true (formSecondAt cs e) e (and-right (ltb (formFirstAt cs e) (pathCount cs)) (ltb (formSecondAt cs e) e) (and-left (ltb (formFirstAt cs e) (pathCount cs) && ltb (formSecondAt cs e) e) (leb (formThirdAt cs e) maxCount && upperOk cs (formFourthAt cs e)) (right-by cs t [] e l 13 q))) in
-        lower 13 (formSecondAt cs e) (formSecondAt cs e) q refl refl h h
+        let h = ltb-true (formSecondAt cs e) e (and-right (ltb (formFirstAt cs e) (pathCount cs)) (ltb (formSecondAt cs e) e) (and-left (ltb (formFirstAt cs e) (pathCount cs) && ltb (formSecondAt cs e) e) (leb (formThirdAt cs e) maxCount && upperOk cs (formFourthAt cs e)) (right-by cs t [] e l codes.formCount q))) in
+        lower codes.formCount (formSecondAt cs e) (formSecondAt cs e) q refl refl h h
 
     lower-all : formCodeAt cs e ≡ codes.formAll → Lower
     unfolding entryOf entryOk
-    lower-all q = let h = ltb-true (formSecondAt cs e) e (and-right (ltb (formFirstAt cs e) (pathCount cs)) (ltb (formSecondAt cs e) e) (right-by cs t [] e l 14 q)) in lower 14 (formSecondAt cs e) (formSecondAt cs e) q refl refl h h
+    lower-all q = let h = ltb-true (formSecondAt cs e) e (and-right (ltb (formFirstAt cs e) (pathCount cs)) (ltb (formSecondAt cs e) e) (right-by cs t [] e l codes.formAll q)) in lower codes.formAll (formSecondAt cs e) (formSecondAt cs e) q refl refl h h
 
     pub parts-lower : hasParts cs e ≡ true → Lower
     unfolding hasParts
     parts-lower h = ⊎-elim
         (λ m.
-        let a : 2 ≤ formCodeAt cs e = leb-true 2 (formCodeAt cs e) (and-left (leb 2 (formCodeAt cs e)) (leb (formCodeAt cs e) 5) m) in
-        let b : formCodeAt cs e ≤ 5 = leb-true (formCodeAt cs e) 5 (and-right (leb 2 (formCodeAt cs e)) (leb (formCodeAt cs e) 5) m) in
-        case (formCodeAt cs e) 2 lower-shape (λ n2. case (formCodeAt cs e) 3 lower-and (λ n3. case (formCodeAt cs e) 4 lower-or (λ n4. lower-not (omega arith)))))
-        (λ m. ⊎-elim (λ a. lower-count (eqb-true (formCodeAt cs e) 13 a)) (λ a. lower-all (eqb-true (formCodeAt cs e) 14 a)) (or-cases (eqb (formCodeAt cs e) 13) (eqb (formCodeAt cs e) 14) m))
-        (or-cases (leb 2 (formCodeAt cs e) && leb (formCodeAt cs e) 5) (endsCode (formCodeAt cs e)) h)
+        let a : 2 ≤ formCodeAt cs e = leb-true 2 (formCodeAt cs e) (and-left (leb 2 (formCodeAt cs e)) (leb (formCodeAt cs e) codes.formNot) m) in
+        let b : formCodeAt cs e ≤ codes.formNot = leb-true (formCodeAt cs e) codes.formNot (and-right (leb 2 (formCodeAt cs e)) (leb (formCodeAt cs e) codes.formNot) m) in
+        case (formCodeAt cs e) codes.formShape lower-shape (λ n2. case (formCodeAt cs e) codes.formAnd lower-and (λ n3. case (formCodeAt cs e) codes.formOr lower-or (λ n4. lower-not (omega arith)))))
+        (λ m. ⊎-elim (λ a. lower-count (eqb-true (formCodeAt cs e) codes.formCount a)) (λ a. lower-all (eqb-true (formCodeAt cs e) codes.formAll a)) (or-cases (eqb (formCodeAt cs e) codes.formCount) (eqb (formCodeAt cs e) codes.formAll) m))
+        (or-cases (leb 2 (formCodeAt cs e) && leb (formCodeAt cs e) codes.formNot) (endsCode (formCodeAt cs e)) h)
 
     -- the path of an entry that looks along one
     pub looks-path : looksAtEnds cs e ≡ true → formFirstAt cs e < pathCount cs
     unfolding looksAtEnds
-    looks-path h = ⊎-elim (λ a. count-path cs t [] e l (eqb-true (formCodeAt cs e) 13 a)) (λ a. all-path cs t [] e l (eqb-true (formCodeAt cs e) 14 a)) (or-cases (eqb (formCodeAt cs e) 13) (eqb (formCodeAt cs e) 14) h)
+    looks-path h = ⊎-elim (λ a. count-path cs t [] e l (eqb-true (formCodeAt cs e) codes.formCount a)) (λ a. all-path cs t [] e l (eqb-true (formCodeAt cs e) codes.formAll a)) (or-cases (eqb (formCodeAt cs e) codes.formCount) (eqb (formCodeAt cs e) codes.formAll) h)
 
     -- the nodes that are asked for have all that is looked at
     pub asked-ends : (nodes ws : List ℕ) → looksAtEnds cs e ≡ true → ws ≡ wordsOf (image (nodeCount cs) (ends (nodeCount cs) (triplesAt cs) (pathAt cs (formFirstAt cs e))) (has nodes)) 16

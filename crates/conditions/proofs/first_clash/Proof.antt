@@ -1,16 +1,15 @@
 -- `first_clash` meets its contract. The invariants: each of the ends before place i has the language of none after it, and the one
 -- at place i that of none before place k.
-use Prim.Native.Nat.{ℕ, _+_, _-_, _≤_, _<_}
-use mathlib.Core.Bool.{Bool, true, false, not, _&&_}
+use Prim.Native.Nat.{ℕ, _-_, _≤_, _<_}
+use mathlib.Core.Bool.{true, _&&_}
 use mathlib.Core.List.{List}
-use mathlib.Core.Option.{Option}
 use mathlib.Core.Path.{_≡_, refl, sym, ap, _∙_, subst}
 use native.Mathlib.Omega.{arith}
-use lib.Dec.{eqb, ltb}
+use lib.Dec.{eqb}
 use lib.IntN.{ℤ}
 use lib.ListN.{getD, length-replicate}
 use borrow.Author.Needs.{needs}
-use Rattle.base.specs.Bounded.{_⇒_, every}
+use Rattle.base.specs.Bounded.{every}
 use Rattle.base.proofs.Bounded.{every-more}
 use Rattle.nodeset.specs.Words.{has}
 use Rattle.model.specs.Limits.{maxNodes}

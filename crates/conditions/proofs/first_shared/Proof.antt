@@ -1,6 +1,6 @@
 -- `first_shared` meets its contract: the next one from 0 on, where there is one.
-use mathlib.Core.Path.{ap, _∙_}
-use mathlib.Core.Bool.{not, _&&_}
+use mathlib.Core.Path.{_∙_}
+use mathlib.Core.Bool.{_&&_}
 use Rattle.nodeset.specs.Words.{has}
 use Rattle.conditions.proofs.Searches.{first-next}
 use borrow.Author.Needs.{needs}

@@ -1,12 +1,9 @@
 -- `links_hold` meets its contract: the set of listed links has the links of the list.
-use Prim.Native.Nat.{ℕ}
-use mathlib.Core.Bool.{Bool}
 use mathlib.Core.List.{[]}
-use mathlib.Core.Path.{ap, _∙_}
-use Rattle.base.specs.Lists.{member}
+use mathlib.Core.Path.{_∙_}
 use Rattle.model.specs.Shapes.{onlyListed}
 use Rattle.tables.specs.Layout.{formFirstAt, formSecondAt}
-use Rattle.tables.specs.Decode.{triplesAt, itemsAt}
+use Rattle.tables.specs.Decode.{triplesAt}
 use Rattle.conditions.proofs.Items.{links-has}
 use Rattle.entries.proofs.Codes.{sound-of, closed-links}
 use borrow.Author.Needs.{needs}

@@ -5,6 +5,7 @@ use native.Mathlib.Omega.{arith}
 use lib.Dec.{eqb, leb}
 use borrow.Author.Needs.{needs}
 use borrow.Author.Tests.{eqb-false}
+use Rattle.tables.specs.Codes as codes
 use Rattle.verdict.proofs.decide.Statement.{statement}
 use Rattle.verdict.proofs.decide.Tie as tie
 
@@ -34,7 +35,7 @@ set-along-requires : tie.Need-set-along-requires
 set-along-requires c κs =
     let k = c .before .before .before .form-code .result in
     let e = c .before .before .before .form-code .ensures in
-    (c .before .before .before .before .before .before .before .pre .0, omega (arith, e, c .before .before .if1 .left), λ h. eqb-false k 17 (not-first (eqb k 17) (leb (c .before .count .result) 16) (c .if2 .left)) (e ∙ h))
+    (c .before .before .before .before .before .before .before .pre .0, omega (arith, e, c .before .before .if1 .left), λ h. eqb-false k codes.formClosed (not-first (eqb k codes.formClosed) (leb (c .before .count .result) 16) (c .if2 .left)) (e ∙ h))
 
 returns-3 : tie.Need-returns-3
 returns-3 c = λ v l h. c .set-along .ensures v l (c .before .before .before .before .before .before .before .before .pre .1 v l h)

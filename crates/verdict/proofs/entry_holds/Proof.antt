@@ -73,7 +73,7 @@ lang-holds-requires c κs = (asked-of (c .before .before .before .before .before
 
 test-holds-requires : tie.Need-test-holds-requires
 test-holds-requires c κs =
-    let k : 6 ≤ c .before .before .form-code .result = past (c .before .before .form-code .result) 0 6 zero-le (c .before .match .rest .0 .0 .0 .0) in
+    let k : codes.formKind ≤ c .before .before .form-code .result = past (c .before .before .form-code .result) 0 6 zero-le (c .before .match .rest .0 .0 .0 .0) in
     (c .before .before .before .before .before .before .before .before .pre .node, omega (arith, c .before .before .form-code .ensures), omega (arith, c .if1 .taken, c .before .before .form-code .ensures))
 
 sets-hold-requires : tie.Need-sets-hold-requires

@@ -55,7 +55,7 @@ first-four k l a b c d = omega arith
 last-four : (k : ℕ) → codes.formClosed ≤ k → k ≤ codes.formOnelang → (k ≡ codes.formClosed → ⊥) → (k ≡ codes.formLess → ⊥) → (k ≡ codes.formLesseq → ⊥) → k ≡ codes.formOnelang
 last-four k l m a b c = omega arith
 
-lang : (c : tie.At-match-rest) → formCodeAt (cells (c .before)) (c .before .before .before .before .before .before .before .before .before .before .before .before .before .before .before .before .before .args .e) ≡ 20
+lang : (c : tie.At-match-rest) → formCodeAt (cells (c .before)) (c .before .before .before .before .before .before .before .before .before .before .before .before .before .before .before .before .before .args .e) ≡ codes.formOnelang
 lang c =
     let k = c .before .form-code .result in
     let pre = c .before .before .before .before .before .before .before .before .before .before .before .before .before .before .before .before .before .pre in
@@ -67,8 +67,8 @@ lang c =
     let n17 : k ≡ codes.formClosed → ⊥ = λ h. pre .2 (sym e ∙ h) in
     let n18 : k ≡ codes.formLess → ⊥ = c .match .rest .0 .1 in
     let n19 : k ≡ codes.formLesseq → ⊥ = c .match .rest .1 in
-    let past : 17 ≤ k = first-four k (subst (λ (x : ℕ). 13 ≤ x) (sym e) (pre .1)) n13 n14 n15 n16 in
-    let most : k ≤ 20 = subst (λ (x : ℕ). x ≤ 20) (sym e) (code-le (ready (c .before))) in
+    let past : codes.formClosed ≤ k = first-four k (subst (λ (x : ℕ). codes.formCount ≤ x) (sym e) (pre .1)) n13 n14 n15 n16 in
+    let most : k ≤ codes.formOnelang = subst (λ (x : ℕ). x ≤ codes.formOnelang) (sym e) (code-le (ready (c .before))) in
     sym e ∙ last-four k past most n17 n18 n19
 
 form-first-requires : tie.Need-form-first-requires
@@ -117,11 +117,11 @@ path-set-requires-2 c κs = (ready (c .before .before) .tables, entry (c .before
 
 ends-set-requires : tie.Need-ends-set-requires
 unfolding conditionOk
-ends-set-requires c κs = (ready (c .before .before .before) .tables, end-right (c .before .before .before) 15 (sym (c .before .before .before .form-code .ensures) ∙ c .before .before .match .keys3) (omega arith) (omega arith) (λ z. let y : ⊥ = omega arith in y), refl, held-none (cells (c .before .before .before)) (c .before .before .before .before .before .before .before .before .before .before .before .before .before .before .before .before .before .before .before .pre .3), held-none (cells (c .before .before .before)) (c .before .before .before .before .before .before .before .before .before .before .before .before .before .before .before .before .before .before .before .pre .4))
+ends-set-requires c κs = (ready (c .before .before .before) .tables, end-right (c .before .before .before) codes.formEqual (sym (c .before .before .before .form-code .ensures) ∙ c .before .before .match .keys3) (omega arith) (omega arith) (λ z. let y : ⊥ = omega arith in y), refl, held-none (cells (c .before .before .before)) (c .before .before .before .before .before .before .before .before .before .before .before .before .before .before .before .before .before .before .before .pre .3), held-none (cells (c .before .before .before)) (c .before .before .before .before .before .before .before .before .before .before .before .before .before .before .before .before .before .before .before .pre .4))
 
 ends-set-requires-2 : tie.Need-ends-set-requires-2
 unfolding conditionOk
-ends-set-requires-2 c κs = (ready (c .before .before .before) .tables, end-right (c .before .before .before) 16 (sym (c .before .before .before .form-code .ensures) ∙ c .before .before .match .keys4) (omega arith) (omega arith) (λ z. let y : ⊥ = omega arith in y), refl, held-none (cells (c .before .before .before)) (c .before .before .before .before .before .before .before .before .before .before .before .before .before .before .before .before .before .before .before .pre .3), held-none (cells (c .before .before .before)) (c .before .before .before .before .before .before .before .before .before .before .before .before .before .before .before .before .before .before .before .pre .4))
+ends-set-requires-2 c κs = (ready (c .before .before .before) .tables, end-right (c .before .before .before) codes.formApart (sym (c .before .before .before .form-code .ensures) ∙ c .before .before .match .keys4) (omega arith) (omega arith) (λ z. let y : ⊥ = omega arith in y), refl, held-none (cells (c .before .before .before)) (c .before .before .before .before .before .before .before .before .before .before .before .before .before .before .before .before .before .before .before .pre .3), held-none (cells (c .before .before .before)) (c .before .before .before .before .before .before .before .before .before .before .before .before .before .before .before .before .before .before .before .pre .4))
 
 ends-set-requires-3 : tie.Need-ends-set-requires-3
 unfolding conditionOk endKnown
