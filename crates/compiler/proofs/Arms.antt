@@ -1,9 +1,10 @@
 -- The arms of the match over the entry codes: what a callee stored is the part of the entry with that code.
 use Prim.Native.Nat.{ℕ, _≤_, _<_}
-use mathlib.Core.List.{List, [], _∷_}
+use mathlib.Core.List.{List, []}
 use mathlib.Core.Path.{_≡_, refl, sym, ap, _∙_, subst}
 use native.Mathlib.Nat.{add-zero}
 use lib.ListN.{getD, List·getD-eq-default}
+use Rattle.tables.specs.Codes as codes
 use Rattle.tables.specs.Layout.{formCodeAt, formFirstAt, formSecondAt, formThirdAt, formFourthAt, limitAt, rootAt, noNumber}
 use Rattle.tables.specs.Entries.{Entry, entryOf}
 use Rattle.tables.specs.Decode.{entryAt}
@@ -24,82 +25,103 @@ module _ (cs ps qs ks bs : List ℕ) (e n code next k m : ℕ) (ec : code ≡ fo
   abbrev coded : ℕ → Entry
   coded i = entryOf i (formFirstAt cs e) (formSecondAt cs e) (formThirdAt cs e) (formFourthAt cs e) (limitAt [] e)
 
+  -- its operands; the keeping step of entry j, and the breaking one
+  abbrev first : ℕ
+  first = formFirstAt cs e
+
+  abbrev second : ℕ
+  second = formSecondAt cs e
+
+  abbrev kept : ℕ → ℕ
+  kept j = getD ks j 0
+
+  abbrev broken : ℕ → ℕ
+  broken j = getD bs j 0
+
+  -- what was stored: a part; that of the entry; two steps
   abbrev Done : Part → Type 0
   Done x = Added ps qs n x next k m
 
-  pub arm : (i : ℕ) (x : Part) → code ≡ i → part (coded i) ≡ x → Done x → Done (part (entryAt cs [] e))
+  abbrev Entered : Type 0
+  Entered = Done (part (entryAt cs [] e))
+
+  abbrev Two : Step → Step → Type 0
+  Two s t = TwoAdded ps qs n (numbersOf s) (numbersOf t) next k m
+
+  arm : (i : ℕ) (x : Part) → code ≡ i → part (coded i) ≡ x → Done x → Entered
   unfolding entryAt
   arm i x z f r = subst Done (sym f ∙ ap (λ (j : ℕ). part (coded j)) (sym z ∙ ec)) r
 
   -- an entry with two steps
-  arm-two : (i : ℕ) (s t : Step) → code ≡ i → part (coded i) ≡ two n s t → TwoAdded ps qs n (numbersOf s) (numbersOf t) next k m → Done (part (entryAt cs [] e))
+  arm-two : (i : ℕ) (s t : Step) → code ≡ i → part (coded i) ≡ two n s t → Two s t → Entered
   arm-two i s t z f r = arm i (two n s t) z f (two-added ps qs n s t next k m r)
 
   -- an entry with none
-  arm-taken : (i a b : ℕ) → code ≡ i → part (coded i) ≡ taken a b → qs ≡ ps → next ≡ n → k ≡ a → m ≡ b → Done (part (entryAt cs [] e))
+  arm-taken : (i a b : ℕ) → code ≡ i → part (coded i) ≡ taken a b → qs ≡ ps → next ≡ n → k ≡ a → m ≡ b → Entered
   unfolding withSteps
   arm-taken i a b z f q en ek em = arm i (taken a b) z f (record { stored = q; after = en ∙ sym (add-zero n); keeps = ek; breaks = em })
 
-  pub arm-top : code ≡ 0 → TwoAdded ps qs n (0 ∷ 0 ∷ 0 ∷ 0 ∷ 0 ∷ []) (1 ∷ 0 ∷ 0 ∷ 0 ∷ 0 ∷ []) next k m → Done (part (entryAt cs [] e))
-  unfolding entryOf entryPart numbersOf
-  arm-top z r = arm-two 0 Step.all Step.none z refl r
-
-  pub arm-is : code ≡ 1 → TwoAdded ps qs n (numbersOf (Step.is (formFirstAt cs e))) (numbersOf (Step.isnot (formFirstAt cs e))) next k m → Done (part (entryAt cs [] e))
-  unfolding entryOf entryPart numbersOf
-  arm-is z r = arm-two 1 (Step.is (formFirstAt cs e)) (Step.isnot (formFirstAt cs e)) z refl r
-
-  pub arm-shape : code ≡ 2 → qs ≡ ps → next ≡ n → k ≡ getD ks (rootAt cs (formFirstAt cs e)) 0 → m ≡ getD bs (rootAt cs (formFirstAt cs e)) 0 → Done (part (entryAt cs [] e))
-  unfolding entryOf entryPart numberIn
-  arm-shape z q en ek em = arm-taken 2 (getD ks (rootAt cs (formFirstAt cs e)) 0) (getD bs (rootAt cs (formFirstAt cs e)) 0) z refl q en ek em
-
-  pub arm-conj : code ≡ 3 → TwoAdded ps qs n (6 ∷ getD ks (formFirstAt cs e) 0 ∷ getD ks (formSecondAt cs e) 0 ∷ 0 ∷ 0 ∷ []) (7 ∷ getD bs (formFirstAt cs e) 0 ∷ getD bs (formSecondAt cs e) 0 ∷ 0 ∷ 0 ∷ []) next k m → Done (part (entryAt cs [] e))
-  unfolding entryOf entryPart numbersOf numberIn
-  arm-conj z r = arm-two 3 (Step.both (getD ks (formFirstAt cs e) 0) (getD ks (formSecondAt cs e) 0)) (Step.either (getD bs (formFirstAt cs e) 0) (getD bs (formSecondAt cs e) 0)) z refl r
-
-  pub arm-disj : code ≡ 4 → TwoAdded ps qs n (7 ∷ getD ks (formFirstAt cs e) 0 ∷ getD ks (formSecondAt cs e) 0 ∷ 0 ∷ 0 ∷ []) (6 ∷ getD bs (formFirstAt cs e) 0 ∷ getD bs (formSecondAt cs e) 0 ∷ 0 ∷ 0 ∷ []) next k m → Done (part (entryAt cs [] e))
-  unfolding entryOf entryPart numbersOf numberIn
-  arm-disj z r = arm-two 4 (Step.either (getD ks (formFirstAt cs e) 0) (getD ks (formSecondAt cs e) 0)) (Step.both (getD bs (formFirstAt cs e) 0) (getD bs (formSecondAt cs e) 0)) z refl r
-
-  pub arm-neg : code ≡ 5 → qs ≡ ps → next ≡ n → k ≡ getD bs (formFirstAt cs e) 0 → m ≡ getD ks (formFirstAt cs e) 0 → Done (part (entryAt cs [] e))
-  unfolding entryOf entryPart numberIn
-  arm-neg z q en ek em = arm-taken 5 (getD bs (formFirstAt cs e) 0) (getD ks (formFirstAt cs e) 0) z refl q en ek em
-
-  pub arm-test : 6 ≤ code → code < 13 → TwoAdded ps qs n (4 ∷ e ∷ 0 ∷ 0 ∷ 0 ∷ []) (5 ∷ e ∷ 0 ∷ 0 ∷ 0 ∷ []) next k m → Done (part (entryAt cs [] e))
-  unfolding entryOf entryPart numbersOf
-  arm-test l h r = arm-two code (Step.test e) (Step.untest e) refl (in-range (λ i. part (coded i) ≡ two n (Step.test e) (Step.untest e)) 6 7 code l h (refl, (refl, (refl, (refl, (refl, (refl, (refl, tt)))))))) r
-
-  pub arm-count : code ≡ 13 → Done (countPart n (formFirstAt cs e) (getD ks (formSecondAt cs e) 0) (formThirdAt cs e) (formFourthAt cs e)) → Done (part (entryAt cs [] e))
-  unfolding entryOf entryPart numberIn
-  arm-count z r = arm 13 (countPart n (formFirstAt cs e) (getD ks (formSecondAt cs e) 0) (formThirdAt cs e) (formFourthAt cs e)) z refl r
-
-  pub arm-all : code ≡ 14 → TwoAdded ps qs n (numbersOf (Step.every (formFirstAt cs e) (getD ks (formSecondAt cs e) 0))) (numbersOf (Step.count (formFirstAt cs e) (getD bs (formSecondAt cs e) 0) 1 noNumber)) next k m → Done (part (entryAt cs [] e))
-  unfolding entryOf entryPart numbersOf numberIn
-  arm-all z r = arm-two 14 (Step.every (formFirstAt cs e) (getD ks (formSecondAt cs e) 0)) (Step.count (formFirstAt cs e) (getD bs (formSecondAt cs e) 0) 1 noNumber) z refl r
-
-  pub arm-equal : code ≡ 15 → TwoAdded ps qs n (10 ∷ formFirstAt cs e ∷ formSecondAt cs e ∷ 0 ∷ 0 ∷ []) (11 ∷ formFirstAt cs e ∷ formSecondAt cs e ∷ 0 ∷ 0 ∷ []) next k m → Done (part (entryAt cs [] e))
-  unfolding entryOf entryPart numbersOf
-  arm-equal z r = arm-two 15 (Step.equal (formFirstAt cs e) (formSecondAt cs e)) (Step.unequal (formFirstAt cs e) (formSecondAt cs e)) z refl r
-
-  pub arm-apart : code ≡ 16 → TwoAdded ps qs n (12 ∷ formFirstAt cs e ∷ formSecondAt cs e ∷ 0 ∷ 0 ∷ []) (13 ∷ formFirstAt cs e ∷ formSecondAt cs e ∷ 0 ∷ 0 ∷ []) next k m → Done (part (entryAt cs [] e))
-  unfolding entryOf entryPart numbersOf
-  arm-apart z r = arm-two 16 (Step.apart (formFirstAt cs e) (formSecondAt cs e)) (Step.meet (formFirstAt cs e) (formSecondAt cs e)) z refl r
-
-  pub arm-closed : code ≡ 17 → TwoAdded ps qs n (14 ∷ e ∷ 0 ∷ 0 ∷ 0 ∷ []) (15 ∷ e ∷ 0 ∷ 0 ∷ 0 ∷ []) next k m → Done (part (entryAt cs [] e))
-  unfolding entryOf entryPart numbersOf
-  arm-closed z r = arm-two 17 (Step.closed e) (Step.opened e) z refl r
-
-  pub arm-less : code ≡ 18 → TwoAdded ps qs n (16 ∷ formFirstAt cs e ∷ formSecondAt cs e ∷ 0 ∷ 0 ∷ []) (17 ∷ formFirstAt cs e ∷ formSecondAt cs e ∷ 0 ∷ 0 ∷ []) next k m → Done (part (entryAt cs [] e))
-  unfolding entryOf entryPart numbersOf
-  arm-less z r = arm-two 18 (Step.less (formFirstAt cs e) (formSecondAt cs e)) (Step.notless (formFirstAt cs e) (formSecondAt cs e)) z refl r
-
-  pub arm-lesseq : code ≡ 19 → TwoAdded ps qs n (18 ∷ formFirstAt cs e ∷ formSecondAt cs e ∷ 0 ∷ 0 ∷ []) (19 ∷ formFirstAt cs e ∷ formSecondAt cs e ∷ 0 ∷ 0 ∷ []) next k m → Done (part (entryAt cs [] e))
-  unfolding entryOf entryPart numbersOf
-  arm-lesseq z r = arm-two 19 (Step.lesseq (formFirstAt cs e) (formSecondAt cs e)) (Step.notlesseq (formFirstAt cs e) (formSecondAt cs e)) z refl r
-
-  pub arm-onelang : code ≡ 20 → TwoAdded ps qs n (numbersOf (Step.onelang (formFirstAt cs e))) (numbersOf (Step.manylang (formFirstAt cs e))) next k m → Done (part (entryAt cs [] e))
-  unfolding entryOf entryPart numbersOf
-  arm-onelang z r = arm-two 20 (Step.onelang (formFirstAt cs e)) (Step.manylang (formFirstAt cs e)) z refl r
-
-  pub arm-unknown : 21 ≤ code → qs ≡ ps → next ≡ n → k ≡ 0 → m ≡ 0 → Done (part (entryAt cs [] e))
+  pub arm-top : code ≡ codes.formTrue → Two Step.all Step.none → Entered
   unfolding entryOf entryPart
-  arm-unknown l q en ek em = arm-taken code 0 0 refl (ap part (List·getD-eq-default (byCode (formFirstAt cs e) (formSecondAt cs e) (formThirdAt cs e) (formFourthAt cs e) (limitAt [] e)) Entry.bad l)) q en ek em
+  arm-top z r = arm-two codes.formTrue Step.all Step.none z refl r
+
+  pub arm-is : code ≡ codes.formIs → Two (Step.is first) (Step.isnot first) → Entered
+  unfolding entryOf entryPart
+  arm-is z r = arm-two codes.formIs (Step.is first) (Step.isnot first) z refl r
+
+  pub arm-shape : code ≡ codes.formShape → qs ≡ ps → next ≡ n → k ≡ kept (rootAt cs first) → m ≡ broken (rootAt cs first) → Entered
+  unfolding entryOf entryPart numberIn
+  arm-shape z q en ek em = arm-taken codes.formShape (kept (rootAt cs first)) (broken (rootAt cs first)) z refl q en ek em
+
+  pub arm-conj : code ≡ codes.formAnd → Two (Step.both (kept first) (kept second)) (Step.either (broken first) (broken second)) → Entered
+  unfolding entryOf entryPart numberIn
+  arm-conj z r = arm-two codes.formAnd (Step.both (kept first) (kept second)) (Step.either (broken first) (broken second)) z refl r
+
+  pub arm-disj : code ≡ codes.formOr → Two (Step.either (kept first) (kept second)) (Step.both (broken first) (broken second)) → Entered
+  unfolding entryOf entryPart numberIn
+  arm-disj z r = arm-two codes.formOr (Step.either (kept first) (kept second)) (Step.both (broken first) (broken second)) z refl r
+
+  pub arm-neg : code ≡ codes.formNot → qs ≡ ps → next ≡ n → k ≡ broken first → m ≡ kept first → Entered
+  unfolding entryOf entryPart numberIn
+  arm-neg z q en ek em = arm-taken codes.formNot (broken first) (kept first) z refl q en ek em
+
+  pub arm-test : codes.formKind ≤ code → code < codes.formCount → Two (Step.test e) (Step.untest e) → Entered
+  unfolding entryOf entryPart
+  arm-test l h r = arm-two code (Step.test e) (Step.untest e) refl (in-range (λ i. part (coded i) ≡ two n (Step.test e) (Step.untest e)) codes.formKind 7 code l h (refl, (refl, (refl, (refl, (refl, (refl, (refl, tt)))))))) r
+
+  pub arm-count : code ≡ codes.formCount → Done (countPart n first (kept second) (formThirdAt cs e) (formFourthAt cs e)) → Entered
+  unfolding entryOf entryPart numberIn
+  arm-count z r = arm codes.formCount (countPart n first (kept second) (formThirdAt cs e) (formFourthAt cs e)) z refl r
+
+  pub arm-all : code ≡ codes.formAll → Two (Step.every first (kept second)) (Step.count first (broken second) 1 noNumber) → Entered
+  unfolding entryOf entryPart numberIn
+  arm-all z r = arm-two codes.formAll (Step.every first (kept second)) (Step.count first (broken second) 1 noNumber) z refl r
+
+  pub arm-equal : code ≡ codes.formEqual → Two (Step.equal first second) (Step.unequal first second) → Entered
+  unfolding entryOf entryPart
+  arm-equal z r = arm-two codes.formEqual (Step.equal first second) (Step.unequal first second) z refl r
+
+  pub arm-apart : code ≡ codes.formApart → Two (Step.apart first second) (Step.meet first second) → Entered
+  unfolding entryOf entryPart
+  arm-apart z r = arm-two codes.formApart (Step.apart first second) (Step.meet first second) z refl r
+
+  pub arm-closed : code ≡ codes.formClosed → Two (Step.closed e) (Step.opened e) → Entered
+  unfolding entryOf entryPart
+  arm-closed z r = arm-two codes.formClosed (Step.closed e) (Step.opened e) z refl r
+
+  pub arm-less : code ≡ codes.formLess → Two (Step.less first second) (Step.notless first second) → Entered
+  unfolding entryOf entryPart
+  arm-less z r = arm-two codes.formLess (Step.less first second) (Step.notless first second) z refl r
+
+  pub arm-lesseq : code ≡ codes.formLesseq → Two (Step.lesseq first second) (Step.notlesseq first second) → Entered
+  unfolding entryOf entryPart
+  arm-lesseq z r = arm-two codes.formLesseq (Step.lesseq first second) (Step.notlesseq first second) z refl r
+
+  pub arm-onelang : code ≡ codes.formOnelang → Two (Step.onelang first) (Step.manylang first) → Entered
+  unfolding entryOf entryPart
+  arm-onelang z r = arm-two codes.formOnelang (Step.onelang first) (Step.manylang first) z refl r
+
+  -- past the last code
+  pub arm-unknown : codes.formOnelang < code → qs ≡ ps → next ≡ n → k ≡ 0 → m ≡ 0 → Entered
+  unfolding entryOf entryPart
+  arm-unknown l q en ek em = arm-taken code 0 0 refl (ap part (List·getD-eq-default (byCode first second (formThirdAt cs e) (formFourthAt cs e) (limitAt [] e)) Entry.bad l)) q en ek em

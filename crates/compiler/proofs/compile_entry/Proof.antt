@@ -1,7 +1,9 @@
 use Prim.Native.Nat.{zero-le}
 use mathlib.Core.Path.{refl}
 use denote.Ref.{now}
-use Rattle.tablecheck.proofs.Codes.{next}
+use Rattle.tables.specs.Codes as codes
+use Rattle.plan.specs.Steps.{numbersOf}
+use Rattle.plan.proofs.Codes.{nots-past}
 use Rattle.compiler.proofs.Arms.{arm-top, arm-is, arm-shape, arm-conj, arm-disj, arm-neg, arm-test, arm-count, arm-all, arm-equal, arm-apart, arm-closed, arm-less, arm-lesseq, arm-onelang, arm-unknown}
 use borrow.Author.Needs.{needs}
 use Rattle.compiler.proofs.compile_entry.Statement.{statement}
@@ -59,6 +61,7 @@ same-length : tie.Need-same-length
 same-length c = search needs
 
 returns : tie.Need-returns
+unfolding numbersOf
 returns c = let a = c .before .before .before .before .before .before .before .before .before .before .args in arm-top (now (a .cells)) (now (a .plan)) (c .before .before .two .last .0) (now (a .keeps)) (now (a .breaks)) (a .e) (a .n) (c .before .before .before .before .before .form-code .result) (c .before .before .two .result .next) (c .before .before .two .result .keep) (c .before .before .two .result .breaking) (c .before .before .before .before .before .form-code .ensures) (c .before .before .before .before .match .keys1) (c .before .before .two .ensures)
 
 same-length-2 : tie.Need-same-length-2
@@ -74,12 +77,14 @@ same-length-3 : tie.Need-same-length-3
 same-length-3 c = search needs
 
 returns-4 : tie.Need-returns-4
+unfolding numbersOf
 returns-4 c = let a = c .before .before .before .before .before .before .before .before .before .before .args in arm-conj (now (a .cells)) (now (a .plan)) (c .before .before .joined .last .0) (now (a .keeps)) (now (a .breaks)) (a .e) (a .n) (c .before .before .before .before .before .form-code .result) (c .before .before .joined .result .next) (c .before .before .joined .result .keep) (c .before .before .joined .result .breaking) (c .before .before .before .before .before .form-code .ensures) (c .before .before .before .before .match .keys4) (c .before .before .joined .ensures)
 
 same-length-4 : tie.Need-same-length-4
 same-length-4 c = search needs
 
 returns-5 : tie.Need-returns-5
+unfolding numbersOf
 returns-5 c = let a = c .before .before .before .before .before .before .before .before .before .before .args in arm-disj (now (a .cells)) (now (a .plan)) (c .before .before .joined2 .last .0) (now (a .keeps)) (now (a .breaks)) (a .e) (a .n) (c .before .before .before .before .before .form-code .result) (c .before .before .joined2 .result .next) (c .before .before .joined2 .result .keep) (c .before .before .joined2 .result .breaking) (c .before .before .before .before .before .form-code .ensures) (c .before .before .before .before .match .keys5) (c .before .before .joined2 .ensures)
 
 returns-6 : tie.Need-returns-6
@@ -101,30 +106,35 @@ same-length-7 : tie.Need-same-length-7
 same-length-7 c = search needs
 
 returns-9 : tie.Need-returns-9
+unfolding numbersOf
 returns-9 c = let a = c .before .before .before .before .before .before .before .before .before .before .args in arm-equal (now (a .cells)) (now (a .plan)) (c .before .before .link-steps .last .0) (now (a .keeps)) (now (a .breaks)) (a .e) (a .n) (c .before .before .before .before .before .form-code .result) (c .before .before .link-steps .result .next) (c .before .before .link-steps .result .keep) (c .before .before .link-steps .result .breaking) (c .before .before .before .before .before .form-code .ensures) (c .before .before .before .before .match .keys9) (c .before .before .link-steps .ensures)
 
 same-length-8 : tie.Need-same-length-8
 same-length-8 c = search needs
 
 returns-10 : tie.Need-returns-10
+unfolding numbersOf
 returns-10 c = let a = c .before .before .before .before .before .before .before .before .before .before .args in arm-apart (now (a .cells)) (now (a .plan)) (c .before .before .link-steps2 .last .0) (now (a .keeps)) (now (a .breaks)) (a .e) (a .n) (c .before .before .before .before .before .form-code .result) (c .before .before .link-steps2 .result .next) (c .before .before .link-steps2 .result .keep) (c .before .before .link-steps2 .result .breaking) (c .before .before .before .before .before .form-code .ensures) (c .before .before .before .before .match .keys10) (c .before .before .link-steps2 .ensures)
 
 same-length-9 : tie.Need-same-length-9
 same-length-9 c = search needs
 
 returns-11 : tie.Need-returns-11
+unfolding numbersOf
 returns-11 c = let a = c .before .before .before .before .before .before .before .before .before .before .args in arm-closed (now (a .cells)) (now (a .plan)) (c .before .before .own-steps .last .0) (now (a .keeps)) (now (a .breaks)) (a .e) (a .n) (c .before .before .before .before .before .form-code .result) (c .before .before .own-steps .result .next) (c .before .before .own-steps .result .keep) (c .before .before .own-steps .result .breaking) (c .before .before .before .before .before .form-code .ensures) (c .before .before .before .before .match .keys11) (c .before .before .own-steps .ensures)
 
 same-length-10 : tie.Need-same-length-10
 same-length-10 c = search needs
 
 returns-12 : tie.Need-returns-12
+unfolding numbersOf
 returns-12 c = let a = c .before .before .before .before .before .before .before .before .before .before .args in arm-less (now (a .cells)) (now (a .plan)) (c .before .before .link-steps3 .last .0) (now (a .keeps)) (now (a .breaks)) (a .e) (a .n) (c .before .before .before .before .before .form-code .result) (c .before .before .link-steps3 .result .next) (c .before .before .link-steps3 .result .keep) (c .before .before .link-steps3 .result .breaking) (c .before .before .before .before .before .form-code .ensures) (c .before .before .before .before .match .keys12) (c .before .before .link-steps3 .ensures)
 
 same-length-11 : tie.Need-same-length-11
 same-length-11 c = search needs
 
 returns-13 : tie.Need-returns-13
+unfolding numbersOf
 returns-13 c = let a = c .before .before .before .before .before .before .before .before .before .before .args in arm-lesseq (now (a .cells)) (now (a .plan)) (c .before .before .link-steps4 .last .0) (now (a .keeps)) (now (a .breaks)) (a .e) (a .n) (c .before .before .before .before .before .form-code .result) (c .before .before .link-steps4 .result .next) (c .before .before .link-steps4 .result .keep) (c .before .before .link-steps4 .result .breaking) (c .before .before .before .before .before .form-code .ensures) (c .before .before .before .before .match .keys13) (c .before .before .link-steps4 .ensures)
 
 same-length-12 : tie.Need-same-length-12
@@ -137,10 +147,11 @@ same-length-13 : tie.Need-same-length-13
 same-length-13 c = search needs
 
 returns-15 : tie.Need-returns-15
-returns-15 c = let a = c .before .before .before .before .before .before .before .before .before .before .before .args in arm-test (now (a .cells)) (now (a .plan)) (c .before .before .own-steps2 .last .0) (now (a .keeps)) (now (a .breaks)) (a .e) (a .n) (c .before .before .before .before .before .before .form-code .result) (c .before .before .own-steps2 .result .next) (c .before .before .own-steps2 .result .keep) (c .before .before .own-steps2 .result .breaking) (c .before .before .before .before .before .before .form-code .ensures) (next 5 (c .before .before .before .before .before .before .form-code .result) (next 4 (c .before .before .before .before .before .before .form-code .result) (next 3 (c .before .before .before .before .before .before .form-code .result) (next 2 (c .before .before .before .before .before .before .form-code .result) (next 1 (c .before .before .before .before .before .before .form-code .result) (next 0 (c .before .before .before .before .before .before .form-code .result) zero-le (c .before .before .before .before .before .match .rest .0 .0 .0 .0 .0 .0 .0 .0 .0 .0 .0 .0 .0 .1)) (c .before .before .before .before .before .match .rest .0 .0 .0 .0 .0 .0 .0 .0 .0 .0 .0 .0 .1)) (c .before .before .before .before .before .match .rest .0 .0 .0 .0 .0 .0 .0 .0 .0 .0 .0 .1)) (c .before .before .before .before .before .match .rest .0 .0 .0 .0 .0 .0 .0 .0 .0 .0 .1)) (c .before .before .before .before .before .match .rest .0 .0 .0 .0 .0 .0 .0 .0 .0 .1)) (c .before .before .before .before .before .match .rest .0 .0 .0 .0 .0 .0 .0 .0 .1)) (c .before .before .before .before .if1 .taken) (c .before .before .own-steps2 .ensures)
+unfolding numbersOf
+returns-15 c = let a = c .before .before .before .before .before .before .before .before .before .before .before .args in arm-test (now (a .cells)) (now (a .plan)) (c .before .before .own-steps2 .last .0) (now (a .keeps)) (now (a .breaks)) (a .e) (a .n) (c .before .before .before .before .before .before .form-code .result) (c .before .before .own-steps2 .result .next) (c .before .before .own-steps2 .result .keep) (c .before .before .own-steps2 .result .breaking) (c .before .before .before .before .before .before .form-code .ensures) (nots-past _ (c .before .before .before .before .before .before .form-code .result) 0 codes.formKind zero-le (c .before .before .before .before .before .match .rest .0 .0 .0 .0 .0 .0 .0 .0)) (c .before .before .before .before .if1 .taken) (c .before .before .own-steps2 .ensures)
 
 returns-16 : tie.Need-returns-16
-returns-16 c = let a = c .before .before .before .before .before .before .before .args in arm-unknown (now (a .cells)) (now (a .plan)) (now (a .plan)) (now (a .keeps)) (now (a .breaks)) (a .e) (a .n) (c .before .before .form-code .result) (a .n) 0 0 (c .before .before .form-code .ensures) (next 20 (c .before .before .form-code .result) (next 19 (c .before .before .form-code .result) (next 18 (c .before .before .form-code .result) (next 17 (c .before .before .form-code .result) (next 16 (c .before .before .form-code .result) (next 15 (c .before .before .form-code .result) (next 14 (c .before .before .form-code .result) (next 13 (c .before .before .form-code .result) (c .if1 .left) (c .before .match .rest .0 .0 .0 .0 .0 .0 .0 .1)) (c .before .match .rest .0 .0 .0 .0 .0 .0 .1)) (c .before .match .rest .0 .0 .0 .0 .0 .1)) (c .before .match .rest .0 .0 .0 .0 .1)) (c .before .match .rest .0 .0 .0 .1)) (c .before .match .rest .0 .0 .1)) (c .before .match .rest .0 .1)) (c .before .match .rest .1)) refl refl refl refl
+returns-16 c = let a = c .before .before .before .before .before .before .before .args in arm-unknown (now (a .cells)) (now (a .plan)) (now (a .plan)) (now (a .keeps)) (now (a .breaks)) (a .e) (a .n) (c .before .before .form-code .result) (a .n) 0 0 (c .before .before .form-code .ensures) (nots-past _ (c .before .before .form-code .result) codes.formCount 8 (c .if1 .left) (c .before .match .rest)) refl refl refl refl
 
 pub compile-entry-spec : {M : Type 1} → statement M
 compile-entry-spec =
