@@ -26,7 +26,7 @@ use Rattle.model.specs.Limits.{maxFacts, maxForms, maxPaths, maxItems}
 use Rattle.grammar.specs.Writing.{nameOf}
 use Rattle.grammar.specs.Valid.{wellNamed}
 use Rattle.grammar.specs.Syntax.{Slot, used, new, subject, literalType, kindWord, value, low, high, path, end, form, target, list, Arg, Args, Family, pathFamily, formFamily, targetFamily, LineCode, linkL, typeL, langL, thingL, blankL, numberL, textL, wordsL, factL, shapeL, ruleL, lineFamily}
-use Rattle.grammar.specs.Reading.{Read, got, refused, andThen, Begun, after, formBegun, pathBegun, Readers, usedAt, subjectAt, literalTypeAt, newAt, kindAt, valueAt, lowAt, highAt, endAt, argAt, argsAt, closeAt, bodyAt, headed, bracketAt, linkAt, trueAt, deeper, noReaders, readersAt, lineRoom, begunAbove, lineAt}
+use Rattle.grammar.specs.Reading.{maxWithin, Read, got, refused, andThen, Begun, after, formBegun, pathBegun, Readers, usedAt, subjectAt, literalTypeAt, newAt, kindAt, valueAt, lowAt, highAt, endAt, argAt, argsAt, closeAt, bodyAt, headed, bracketAt, linkAt, trueAt, deeper, noReaders, readersAt, lineRoom, begunAbove, lineAt}
 use Rattle.grammar.proofs.Exact.{thens, got-next, edge-of, edge-inside}
 use Rattle.grammar.proofs.Leaves.{Pools}
 use Rattle.grammar.specs.Args.{isList}
@@ -203,12 +203,12 @@ module _ (s : List ℕ) (above : Book) (start : ℕ) where
       line-full shapeL b m n W e r = absurd (never-both refl r)
       line-full ruleL b m n W e r = rules-full W b e (ltb-false (length (rules above)) 32 r)
 
-      line-bracket : Settles s above start (itemEnd s start) (λ t. bracketAt t above lineFamily (readersAt t above 31) false false (lineRoom s above) (refused 2) (begunAbove above) start)
-      line-bracket = bracket-settled lineFamily (λ t. readersAt t above 31) false false (lineRoom s above) (begunAbove above) (λ t. refused 2) start
+      line-bracket : Settles s above start (itemEnd s start) (λ t. bracketAt t above lineFamily (readersAt t above maxWithin) false false (lineRoom s above) (refused 2) (begunAbove above) start)
+      line-bracket = bracket-settled lineFamily (λ t. readersAt t above maxWithin) false false (lineRoom s above) (begunAbove above) (λ t. refused 2) start
           (λ w b e. no-line-word w b e)
           (λ i c b. absurd (never-both i refl))
           (λ i j c b. absurd (never-both j refl))
-          (λ i j c b. body-settled N (λ t. readersAt t above 31) 31 1 (readers-exact s above N 31) (readers-settled 31 1 refl) lineFamily (lineRoom s above) c f (line c (opened start (lineFamily .word c) b)) (line-full c b))
+          (λ i j c b. body-settled N (λ t. readersAt t above maxWithin) maxWithin 1 (readers-exact s above N maxWithin) (readers-settled maxWithin 1 refl) lineFamily (lineRoom s above) c f (line c (opened start (lineFamily .word c) b)) (line-full c b))
           (λ e. settled-refused start (no-line e) (stop-item s start))
 
       pub line-settled : start ≤ length s → Settles s above start start (λ t. lineAt t above start)
