@@ -16,7 +16,7 @@ use Rattle.base.proofs.Bools.{bool-cases, and-left, and-right, and-both}
 use Rattle.text.specs.Items.{isName, nameByte}
 use Rattle.text.specs.Spans.{Span}
 use Rattle.text.proofs.Spans.{span-join, span-split, span-whole, span-all, span-nothing, span-none, span-length}
-use Rattle.model.specs.Limits.{maxBytes}
+use Rattle.model.specs.Limits.{maxBytes, maxDepth}
 use Rattle.model.specs.Answers.{Answer, value, refusal}
 use Rattle.model.specs.Books.{Name, Line, link, type, lang, node, fact, shape, rule, Book, Pool, nodes, links, types, langs, shapes, poolNumber, builtIn, joins, newNames, collect, names}
 use Rattle.model.specs.Valid.{lineOk, admissibleFrom, admissible}
@@ -107,7 +107,7 @@ unfolding validLine
 sane-more a l S e =
     record {
       valid-above = valid-more [] a l (S .valid-above) e;
-      pools-above = λ p. subst (PoolOk p) (sym (names-snoc p a l)) (line-pool a p (S .pools-above p) l (and-left (namesOk a l) (leb (lineDepth l) 32) (and-right (lineOk a l) (namesOk a l && leb (lineDepth l) 32) e)));
+      pools-above = λ p. subst (PoolOk p) (sym (names-snoc p a l)) (line-pool a p (S .pools-above p) l (and-left (namesOk a l) (leb (lineDepth l) maxDepth) (and-right (lineOk a l) (namesOk a l && leb (lineDepth l) maxDepth) e)));
     }
 
 -- a valid book is admissible
@@ -115,7 +115,7 @@ pub admissible-from : (a b : Book) → validFrom a b ≡ true → admissibleFrom
 unfolding validFrom admissibleFrom validLine
 admissible-from a [] v = refl
 admissible-from a (l ∷ b) v =
-    and-both (lineOk a l) (admissibleFrom (a ++ (l ∷ [])) b) (and-left (lineOk a l) (namesOk a l && leb (lineDepth l) 32) (and-left (validLine a l) (validFrom (a ++ (l ∷ [])) b) v)) (admissible-from (a ++ (l ∷ [])) b (and-right (validLine a l) (validFrom (a ++ (l ∷ [])) b) v))
+    and-both (lineOk a l) (admissibleFrom (a ++ (l ∷ [])) b) (and-left (lineOk a l) (namesOk a l && leb (lineDepth l) maxDepth) (and-left (validLine a l) (validFrom (a ++ (l ∷ [])) b) v)) (admissible-from (a ++ (l ∷ [])) b (and-right (validLine a l) (validFrom (a ++ (l ∷ [])) b) v))
 
 pub valid-admissible : (b : Book) → valid b ≡ true → admissible b ≡ true
 unfolding valid admissible

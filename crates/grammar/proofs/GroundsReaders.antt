@@ -22,7 +22,7 @@ use Rattle.model.specs.Graph.{iri, langString}
 use Rattle.model.specs.Paths.{self, along}
 use Rattle.model.specs.Books.{Book, nodes, links, types, builtIn, names, collect, newTerms, newTriples, rules}
 use Rattle.model.specs.Valid.{isResource}
-use Rattle.model.specs.Limits.{maxFacts, maxForms, maxPaths, maxItems}
+use Rattle.model.specs.Limits.{maxDepth, maxFacts, maxForms, maxPaths, maxItems}
 use Rattle.grammar.specs.Writing.{nameOf}
 use Rattle.grammar.specs.Valid.{wellNamed}
 use Rattle.grammar.specs.Syntax.{Slot, used, new, subject, literalType, kindWord, value, low, high, path, end, form, target, list, Arg, Args, Family, pathFamily, formFamily, targetFamily, LineCode, linkL, typeL, langL, thingL, blankL, numberL, textL, wordsL, factL, shapeL, ruleL, lineFamily}
@@ -158,7 +158,7 @@ module _ (s : List ℕ) (above : Book) (start : ℕ) where
 
   module _ (N : Pools above) where
     -- with one bracket more than Q; deep: 32 are open
-    nested-step : (Q : List ℕ → Readers) (d o : ℕ) (deep : Bool) → (deep ≡ true → o ≡ 32) → (deep ≡ false → o < 32) → (deep ≡ false → Exacts s above (Q s) d) → (deep ≡ false → Nested Q (suc o)) → Nested (λ t. deeper t above deep (Q t)) o
+    nested-step : (Q : List ℕ → Readers) (d o : ℕ) (deep : Bool) → (deep ≡ true → o ≡ maxDepth) → (deep ≡ false → o < maxDepth) → (deep ≡ false → Exacts s above (Q s) d) → (deep ≡ false → Nested Q (suc o)) → Nested (λ t. deeper t above deep (Q t)) o
     unfolding deeper linkAt
     nested-step Q d o deep most fewer X S =
         record {
@@ -182,7 +182,7 @@ module _ (s : List ℕ) (above : Book) (start : ℕ) where
               (λ e. settled-refused (q + 1) (misfit W (itemAt s (q + 1)) (sp, refl) (λ f. f) (λ b. absurd (e b))) (stop-item s (q + 1)));
         }
 
-    readers-settled : (left o : ℕ) → o + left ≡ 32 → Nested (λ t. readersAt t above left) o
+    readers-settled : (left o : ℕ) → o + left ≡ maxDepth → Nested (λ t. readersAt t above left) o
     unfolding readersAt
     readers-settled zero o e = nested-step (λ t. noReaders t above) 0 o true (λ _. omega arith) (λ i. absurd (never-both refl i)) (λ i. absurd (never-both refl i)) (λ i. absurd (never-both refl i))
     readers-settled (suc left) o e = nested-step (λ t. readersAt t above left) left o false (λ i. absurd (never-both i refl)) (λ _. omega arith) (λ _. readers-exact s above N left) (λ _. readers-settled left (suc o) (omega arith))

@@ -16,7 +16,7 @@ use Rattle.model.specs.Graph.{iri, blankNode, numeric, plain, tagged, langStrin
 use Rattle.model.specs.Books.{Book, Line, link, type, lang, node, fact, shape, rule, nodes, links, types, langs, shapes, collect, newTerms, newTriples, rules}
 use Rattle.model.specs.Sizes.{formEntries, shapePaths, listItems, formsIn, pathsIn, itemsIn}
 use Rattle.model.specs.Valid.{defined, hasRoom, termOk, factOk, isResource, shapeOk, targetOk, entriesFit, lineOk}
-use Rattle.model.specs.Limits.{maxFacts, maxForms, maxPaths, maxItems}
+use Rattle.model.specs.Limits.{maxDepth, maxRules, maxFacts, maxForms, maxPaths, maxItems}
 use Rattle.grammar.specs.Writing.{spaced, bracket, writeNode, writeLine}
 use Rattle.grammar.specs.Valid.{lineDepth, newName, namesOk, validLine}
 use Rattle.grammar.specs.Syntax.{Args, LineCode, linkL, typeL, langL, thingL, blankL, numberL, textL, wordsL, factL, shapeL, ruleL, lineFamily}
@@ -109,11 +109,11 @@ module _ (above : Book) where
   line-ok s wordsL xs = words-tests (hasRoom above nodes) (defined above langs (xs .1 .0)) (newName above nodes (xs .0))
   line-ok s factL xs = fact-tests (defined above nodes (xs .0)) (isResource (getD (collect newTerms above) (xs .0) iri)) (defined above links (xs .1 .0)) (defined above nodes (xs .1 .1 .0)) (ltb (length (collect newTriples above)) maxFacts)
   line-ok s shapeL xs = shape-tests (hasRoom above shapes) (shapeOk above (xs .1 .0)) (entriesFit above (xs .1 .0)) (newName above shapes (xs .0))
-  line-ok s ruleL xs = rule-tests (defined above shapes (xs .0)) (targetOk above (xs .1 .0)) (ltb (length (rules above)) 32)
+  line-ok s ruleL xs = rule-tests (defined above shapes (xs .0)) (targetOk above (xs .1 .0)) (ltb (length (rules above)) maxRules)
 
-  valid-tests : (l : Line) (b : Bool) → (lineOk above l && namesOk above l) ≡ b → validLine above l ≡ (b && leb (lineDepth l) 32)
+  valid-tests : (l : Line) (b : Bool) → (lineOk above l && namesOk above l) ≡ b → validLine above l ≡ (b && leb (lineDepth l) maxDepth)
   unfolding validLine
-  valid-tests l b e = sym (and-assoc (lineOk above l) (namesOk above l) (leb (lineDepth l) 32)) ∙ ap (λ (c : Bool). c && leb (lineDepth l) 32) e
+  valid-tests l b e = sym (and-assoc (lineOk above l) (namesOk above l) (leb (lineDepth l) maxDepth)) ∙ ap (λ (c : Bool). c && leb (lineDepth l) maxDepth) e
 
   -- the entries of the lines above and of this one
   fits-from : (c : LineCode) (xs : Args (lineFamily .slots c)) → Fit (begunAbove above) → lineFits c xs ≡ true → Fit (afterAll (lineFamily .slots c) xs (begunAbove above))
@@ -177,9 +177,9 @@ module _ (s : List ℕ) (above : Book) (N : Pools above) (f : Fit (begunAbove ab
       subst (λ (l : Line). Span s at nx (writeLine above l) × (validLine above l ≡ true)) (O .made) (
         subst (λ (w : List ℕ). Span s at nx w) (sym (line-text above (O .code) (O .args))) (O .span),
         valid-tests above (lineFamily .build (O .code) (O .args)) (argsOk above (lineFamily .slots (O .code)) (O .args) && (lineRoom s above (O .code) && lineFits above (O .code) (O .args))) (line-ok above s (O .code) (O .args))
-            ∙ and-both (argsOk above (lineFamily .slots (O .code)) (O .args) && (lineRoom s above (O .code) && lineFits above (O .code) (O .args))) (leb (lineDepth (lineFamily .build (O .code) (O .args))) 32)
+            ∙ and-both (argsOk above (lineFamily .slots (O .code)) (O .args) && (lineRoom s above (O .code) && lineFits above (O .code) (O .args))) (leb (lineDepth (lineFamily .build (O .code) (O .args))) maxDepth)
             (and-both (argsOk above (lineFamily .slots (O .code)) (O .args)) (lineRoom s above (O .code) && lineFits above (O .code) (O .args)) (O .good .0) (and-both (lineRoom s above (O .code)) (lineFits above (O .code) (O .args)) (O .roomy) (from-fits above (O .code) (O .args) (O .good .2))))
-            (le-leb (lineDepth (lineFamily .build (O .code) (O .args))) 32 (omega arith)),
+            (le-leb (lineDepth (lineFamily .build (O .code) (O .args))) maxDepth (omega arith)),
       )
 
   -- a line without its LF
@@ -200,9 +200,9 @@ module _ (s : List ℕ) (above : Book) (N : Pools above) (f : Fit (begunAbove ab
       → bracketAt s above lineFamily (readersAt s above maxWithin) false false (lineRoom s above) (refused 2) (begunAbove above) at ≡ got (lineFamily .build c xs) nx
   built-accepted c xs at nx p v =
       let t = sym (valid-tests above (lineFamily .build c xs) (argsOk above (lineFamily .slots c) xs && (lineRoom s above c && lineFits above c xs)) (line-ok above s c xs)) ∙ v in
-      let a = and-left (argsOk above (lineFamily .slots c) xs && (lineRoom s above c && lineFits above c xs)) (leb (lineDepth (lineFamily .build c xs)) 32) t in
+      let a = and-left (argsOk above (lineFamily .slots c) xs && (lineRoom s above c && lineFits above c xs)) (leb (lineDepth (lineFamily .build c xs)) maxDepth) t in
       let b = and-right (argsOk above (lineFamily .slots c) xs) (lineRoom s above c && lineFits above c xs) a in
-      let dd : lineDepth (lineFamily .build c xs) ≤ 32 = leb-true (lineDepth (lineFamily .build c xs)) 32 (and-right (argsOk above (lineFamily .slots c) xs && (lineRoom s above c && lineFits above c xs)) (leb (lineDepth (lineFamily .build c xs)) 32) t) in
+      let dd : lineDepth (lineFamily .build c xs) ≤ maxDepth = leb-true (lineDepth (lineFamily .build c xs)) maxDepth (and-right (argsOk above (lineFamily .slots c) xs && (lineRoom s above c && lineFits above c xs)) (leb (lineDepth (lineFamily .build c xs)) maxDepth) t) in
       let dr = line-depth above c xs in
       bracket-complete s above N lineFamily line-placed (readersAt s above maxWithin) maxWithin false false (lineRoom s above) (begunAbove above) (λ _. readers-exact s above N maxWithin) (λ _. f) c refl refl (and-left (lineRoom s above c) (lineFits above c xs) b) (refused 2) at nx xs
       (subst (λ (w : List ℕ). Span s at nx w) (line-text above c xs) p)
