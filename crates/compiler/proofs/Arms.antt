@@ -1,9 +1,10 @@
 -- The arms of the match over the entry codes: what a callee stored is the part of the entry with that code.
 use Prim.Native.Nat.{ℕ, _≤_, _<_}
-use mathlib.Core.List.{List, [], _∷_}
+use mathlib.Core.List.{List, []}
 use mathlib.Core.Path.{_≡_, refl, sym, ap, _∙_, subst}
 use native.Mathlib.Nat.{add-zero}
 use lib.ListN.{getD, List·getD-eq-default}
+use Rattle.tables.specs.Codes as codes
 use Rattle.tables.specs.Layout.{formCodeAt, formFirstAt, formSecondAt, formThirdAt, formFourthAt, limitAt, rootAt, noNumber}
 use Rattle.tables.specs.Entries.{Entry, entryOf}
 use Rattle.tables.specs.Decode.{entryAt}
@@ -11,95 +12,135 @@ use Rattle.tablecheck.proofs.Codes.{in-range}
 use Rattle.plan.specs.Steps.{Step, numbersOf}
 use Rattle.plan.specs.Layout.{withSteps}
 use Rattle.translation.specs.Compile.{Part, taken, two, countPart, entryPart}
+use Rattle.compiler.specs.declared.Out.{Out}
 use Rattle.compiler.specs.Stores.{numberIn, TwoAdded, Added}
 use Rattle.translation.proofs.Whole.{byCode}
 use Rattle.compiler.proofs.Laws.{two-added}
 
--- cs: the cells; ps and qs: the plan before and after; ks and bs: the keeping and breaking steps so far
-module _ (cs ps qs ks bs : List ℕ) (e n code next k m : ℕ) (ec : code ≡ formCodeAt cs e) where
+-- what has been read where the match begins: the cells, the plan, the keeping and breaking steps so far, the entry, the
+-- number of the next step, and the entry's code
+pub record Read : Type 0 where
+  pub cs : List ℕ
+  pub ps : List ℕ
+  pub ks : List ℕ
+  pub bs : List ℕ
+  pub e : ℕ
+  pub n : ℕ
+  pub code : ℕ
+  pub same : code ≡ formCodeAt cs e
+
+-- qs: the plan after an arm; o: what the arm answers
+module _ (h : Read) (qs : List ℕ) (o : Out) where
   abbrev part : Entry → Part
-  part x = entryPart cs (numberIn ks) (numberIn bs) n e x
+  part x = entryPart (h .cs) (numberIn (h .ks)) (numberIn (h .bs)) (h .n) (h .e) x
 
-  -- the entry, if its code is i
+  -- the entry's operands; the entry, if its code is i
+  abbrev first : ℕ
+  first = formFirstAt (h .cs) (h .e)
+
+  abbrev second : ℕ
+  second = formSecondAt (h .cs) (h .e)
+
+  abbrev third : ℕ
+  third = formThirdAt (h .cs) (h .e)
+
+  abbrev fourth : ℕ
+  fourth = formFourthAt (h .cs) (h .e)
+
   abbrev coded : ℕ → Entry
-  coded i = entryOf i (formFirstAt cs e) (formSecondAt cs e) (formThirdAt cs e) (formFourthAt cs e) (limitAt [] e)
+  coded i = entryOf i first second third fourth (limitAt [] (h .e))
 
+  -- the keeping step of entry j, and the breaking one
+  abbrev kept : ℕ → ℕ
+  kept j = getD (h .ks) j 0
+
+  abbrev broken : ℕ → ℕ
+  broken j = getD (h .bs) j 0
+
+  -- what was stored: a part; that of the entry; two steps
   abbrev Done : Part → Type 0
-  Done x = Added ps qs n x next k m
+  Done x = Added (h .ps) qs (h .n) x (o .next) (o .keep) (o .breaking)
 
-  pub arm : (i : ℕ) (x : Part) → code ≡ i → part (coded i) ≡ x → Done x → Done (part (entryAt cs [] e))
+  abbrev Entered : Type 0
+  Entered = Done (part (entryAt (h .cs) [] (h .e)))
+
+  abbrev Two : Step → Step → Type 0
+  Two s t = TwoAdded (h .ps) qs (h .n) (numbersOf s) (numbersOf t) (o .next) (o .keep) (o .breaking)
+
+  arm : (i : ℕ) (x : Part) → h .code ≡ i → part (coded i) ≡ x → Done x → Entered
   unfolding entryAt
-  arm i x z f r = subst Done (sym f ∙ ap (λ (j : ℕ). part (coded j)) (sym z ∙ ec)) r
+  arm i x z f r = subst Done (sym f ∙ ap (λ (j : ℕ). part (coded j)) (sym z ∙ h .same)) r
 
   -- an entry with two steps
-  arm-two : (i : ℕ) (s t : Step) → code ≡ i → part (coded i) ≡ two n s t → TwoAdded ps qs n (numbersOf s) (numbersOf t) next k m → Done (part (entryAt cs [] e))
-  arm-two i s t z f r = arm i (two n s t) z f (two-added ps qs n s t next k m r)
+  arm-two : (i : ℕ) (s t : Step) → h .code ≡ i → part (coded i) ≡ two (h .n) s t → Two s t → Entered
+  arm-two i s t z f r = arm i (two (h .n) s t) z f (two-added (h .ps) qs (h .n) s t (o .next) (o .keep) (o .breaking) r)
 
   -- an entry with none
-  arm-taken : (i a b : ℕ) → code ≡ i → part (coded i) ≡ taken a b → qs ≡ ps → next ≡ n → k ≡ a → m ≡ b → Done (part (entryAt cs [] e))
+  arm-taken : (i a b : ℕ) → h .code ≡ i → part (coded i) ≡ taken a b → qs ≡ h .ps → o .next ≡ h .n → o .keep ≡ a → o .breaking ≡ b → Entered
   unfolding withSteps
-  arm-taken i a b z f q en ek em = arm i (taken a b) z f (record { stored = q; after = en ∙ sym (add-zero n); keeps = ek; breaks = em })
+  arm-taken i a b z f q en ek em = arm i (taken a b) z f (record { stored = q; after = en ∙ sym (add-zero (h .n)); keeps = ek; breaks = em })
 
-  pub arm-top : code ≡ 0 → TwoAdded ps qs n (0 ∷ 0 ∷ 0 ∷ 0 ∷ 0 ∷ []) (1 ∷ 0 ∷ 0 ∷ 0 ∷ 0 ∷ []) next k m → Done (part (entryAt cs [] e))
-  unfolding entryOf entryPart numbersOf
-  arm-top z r = arm-two 0 Step.all Step.none z refl r
-
-  pub arm-is : code ≡ 1 → TwoAdded ps qs n (numbersOf (Step.is (formFirstAt cs e))) (numbersOf (Step.isnot (formFirstAt cs e))) next k m → Done (part (entryAt cs [] e))
-  unfolding entryOf entryPart numbersOf
-  arm-is z r = arm-two 1 (Step.is (formFirstAt cs e)) (Step.isnot (formFirstAt cs e)) z refl r
-
-  pub arm-shape : code ≡ 2 → qs ≡ ps → next ≡ n → k ≡ getD ks (rootAt cs (formFirstAt cs e)) 0 → m ≡ getD bs (rootAt cs (formFirstAt cs e)) 0 → Done (part (entryAt cs [] e))
-  unfolding entryOf entryPart numberIn
-  arm-shape z q en ek em = arm-taken 2 (getD ks (rootAt cs (formFirstAt cs e)) 0) (getD bs (rootAt cs (formFirstAt cs e)) 0) z refl q en ek em
-
-  pub arm-conj : code ≡ 3 → TwoAdded ps qs n (6 ∷ getD ks (formFirstAt cs e) 0 ∷ getD ks (formSecondAt cs e) 0 ∷ 0 ∷ 0 ∷ []) (7 ∷ getD bs (formFirstAt cs e) 0 ∷ getD bs (formSecondAt cs e) 0 ∷ 0 ∷ 0 ∷ []) next k m → Done (part (entryAt cs [] e))
-  unfolding entryOf entryPart numbersOf numberIn
-  arm-conj z r = arm-two 3 (Step.both (getD ks (formFirstAt cs e) 0) (getD ks (formSecondAt cs e) 0)) (Step.either (getD bs (formFirstAt cs e) 0) (getD bs (formSecondAt cs e) 0)) z refl r
-
-  pub arm-disj : code ≡ 4 → TwoAdded ps qs n (7 ∷ getD ks (formFirstAt cs e) 0 ∷ getD ks (formSecondAt cs e) 0 ∷ 0 ∷ 0 ∷ []) (6 ∷ getD bs (formFirstAt cs e) 0 ∷ getD bs (formSecondAt cs e) 0 ∷ 0 ∷ 0 ∷ []) next k m → Done (part (entryAt cs [] e))
-  unfolding entryOf entryPart numbersOf numberIn
-  arm-disj z r = arm-two 4 (Step.either (getD ks (formFirstAt cs e) 0) (getD ks (formSecondAt cs e) 0)) (Step.both (getD bs (formFirstAt cs e) 0) (getD bs (formSecondAt cs e) 0)) z refl r
-
-  pub arm-neg : code ≡ 5 → qs ≡ ps → next ≡ n → k ≡ getD bs (formFirstAt cs e) 0 → m ≡ getD ks (formFirstAt cs e) 0 → Done (part (entryAt cs [] e))
-  unfolding entryOf entryPart numberIn
-  arm-neg z q en ek em = arm-taken 5 (getD bs (formFirstAt cs e) 0) (getD ks (formFirstAt cs e) 0) z refl q en ek em
-
-  pub arm-test : 6 ≤ code → code < 13 → TwoAdded ps qs n (4 ∷ e ∷ 0 ∷ 0 ∷ 0 ∷ []) (5 ∷ e ∷ 0 ∷ 0 ∷ 0 ∷ []) next k m → Done (part (entryAt cs [] e))
-  unfolding entryOf entryPart numbersOf
-  arm-test l h r = arm-two code (Step.test e) (Step.untest e) refl (in-range (λ i. part (coded i) ≡ two n (Step.test e) (Step.untest e)) 6 7 code l h (refl, (refl, (refl, (refl, (refl, (refl, (refl, tt)))))))) r
-
-  pub arm-count : code ≡ 13 → Done (countPart n (formFirstAt cs e) (getD ks (formSecondAt cs e) 0) (formThirdAt cs e) (formFourthAt cs e)) → Done (part (entryAt cs [] e))
-  unfolding entryOf entryPart numberIn
-  arm-count z r = arm 13 (countPart n (formFirstAt cs e) (getD ks (formSecondAt cs e) 0) (formThirdAt cs e) (formFourthAt cs e)) z refl r
-
-  pub arm-all : code ≡ 14 → TwoAdded ps qs n (numbersOf (Step.every (formFirstAt cs e) (getD ks (formSecondAt cs e) 0))) (numbersOf (Step.count (formFirstAt cs e) (getD bs (formSecondAt cs e) 0) 1 noNumber)) next k m → Done (part (entryAt cs [] e))
-  unfolding entryOf entryPart numbersOf numberIn
-  arm-all z r = arm-two 14 (Step.every (formFirstAt cs e) (getD ks (formSecondAt cs e) 0)) (Step.count (formFirstAt cs e) (getD bs (formSecondAt cs e) 0) 1 noNumber) z refl r
-
-  pub arm-equal : code ≡ 15 → TwoAdded ps qs n (10 ∷ formFirstAt cs e ∷ formSecondAt cs e ∷ 0 ∷ 0 ∷ []) (11 ∷ formFirstAt cs e ∷ formSecondAt cs e ∷ 0 ∷ 0 ∷ []) next k m → Done (part (entryAt cs [] e))
-  unfolding entryOf entryPart numbersOf
-  arm-equal z r = arm-two 15 (Step.equal (formFirstAt cs e) (formSecondAt cs e)) (Step.unequal (formFirstAt cs e) (formSecondAt cs e)) z refl r
-
-  pub arm-apart : code ≡ 16 → TwoAdded ps qs n (12 ∷ formFirstAt cs e ∷ formSecondAt cs e ∷ 0 ∷ 0 ∷ []) (13 ∷ formFirstAt cs e ∷ formSecondAt cs e ∷ 0 ∷ 0 ∷ []) next k m → Done (part (entryAt cs [] e))
-  unfolding entryOf entryPart numbersOf
-  arm-apart z r = arm-two 16 (Step.apart (formFirstAt cs e) (formSecondAt cs e)) (Step.meet (formFirstAt cs e) (formSecondAt cs e)) z refl r
-
-  pub arm-closed : code ≡ 17 → TwoAdded ps qs n (14 ∷ e ∷ 0 ∷ 0 ∷ 0 ∷ []) (15 ∷ e ∷ 0 ∷ 0 ∷ 0 ∷ []) next k m → Done (part (entryAt cs [] e))
-  unfolding entryOf entryPart numbersOf
-  arm-closed z r = arm-two 17 (Step.closed e) (Step.opened e) z refl r
-
-  pub arm-less : code ≡ 18 → TwoAdded ps qs n (16 ∷ formFirstAt cs e ∷ formSecondAt cs e ∷ 0 ∷ 0 ∷ []) (17 ∷ formFirstAt cs e ∷ formSecondAt cs e ∷ 0 ∷ 0 ∷ []) next k m → Done (part (entryAt cs [] e))
-  unfolding entryOf entryPart numbersOf
-  arm-less z r = arm-two 18 (Step.less (formFirstAt cs e) (formSecondAt cs e)) (Step.notless (formFirstAt cs e) (formSecondAt cs e)) z refl r
-
-  pub arm-lesseq : code ≡ 19 → TwoAdded ps qs n (18 ∷ formFirstAt cs e ∷ formSecondAt cs e ∷ 0 ∷ 0 ∷ []) (19 ∷ formFirstAt cs e ∷ formSecondAt cs e ∷ 0 ∷ 0 ∷ []) next k m → Done (part (entryAt cs [] e))
-  unfolding entryOf entryPart numbersOf
-  arm-lesseq z r = arm-two 19 (Step.lesseq (formFirstAt cs e) (formSecondAt cs e)) (Step.notlesseq (formFirstAt cs e) (formSecondAt cs e)) z refl r
-
-  pub arm-onelang : code ≡ 20 → TwoAdded ps qs n (numbersOf (Step.onelang (formFirstAt cs e))) (numbersOf (Step.manylang (formFirstAt cs e))) next k m → Done (part (entryAt cs [] e))
-  unfolding entryOf entryPart numbersOf
-  arm-onelang z r = arm-two 20 (Step.onelang (formFirstAt cs e)) (Step.manylang (formFirstAt cs e)) z refl r
-
-  pub arm-unknown : 21 ≤ code → qs ≡ ps → next ≡ n → k ≡ 0 → m ≡ 0 → Done (part (entryAt cs [] e))
+  pub arm-top : h .code ≡ codes.formTrue → Two Step.all Step.none → Entered
   unfolding entryOf entryPart
-  arm-unknown l q en ek em = arm-taken code 0 0 refl (ap part (List·getD-eq-default (byCode (formFirstAt cs e) (formSecondAt cs e) (formThirdAt cs e) (formFourthAt cs e) (limitAt [] e)) Entry.bad l)) q en ek em
+  arm-top z r = arm-two codes.formTrue Step.all Step.none z refl r
+
+  pub arm-is : h .code ≡ codes.formIs → Two (Step.is first) (Step.isnot first) → Entered
+  unfolding entryOf entryPart
+  arm-is z r = arm-two codes.formIs (Step.is first) (Step.isnot first) z refl r
+
+  pub arm-shape : h .code ≡ codes.formShape → qs ≡ h .ps → o .next ≡ h .n → o .keep ≡ kept (rootAt (h .cs) first) → o .breaking ≡ broken (rootAt (h .cs) first) → Entered
+  unfolding entryOf entryPart numberIn
+  arm-shape z q en ek em = arm-taken codes.formShape (kept (rootAt (h .cs) first)) (broken (rootAt (h .cs) first)) z refl q en ek em
+
+  pub arm-conj : h .code ≡ codes.formAnd → Two (Step.both (kept first) (kept second)) (Step.either (broken first) (broken second)) → Entered
+  unfolding entryOf entryPart numberIn
+  arm-conj z r = arm-two codes.formAnd (Step.both (kept first) (kept second)) (Step.either (broken first) (broken second)) z refl r
+
+  pub arm-disj : h .code ≡ codes.formOr → Two (Step.either (kept first) (kept second)) (Step.both (broken first) (broken second)) → Entered
+  unfolding entryOf entryPart numberIn
+  arm-disj z r = arm-two codes.formOr (Step.either (kept first) (kept second)) (Step.both (broken first) (broken second)) z refl r
+
+  pub arm-neg : h .code ≡ codes.formNot → qs ≡ h .ps → o .next ≡ h .n → o .keep ≡ broken first → o .breaking ≡ kept first → Entered
+  unfolding entryOf entryPart numberIn
+  arm-neg z q en ek em = arm-taken codes.formNot (broken first) (kept first) z refl q en ek em
+
+  pub arm-test : codes.formKind ≤ h .code → h .code < codes.formCount → Two (Step.test (h .e)) (Step.untest (h .e)) → Entered
+  unfolding entryOf entryPart
+  arm-test low high r = arm-two (h .code) (Step.test (h .e)) (Step.untest (h .e)) refl (in-range (λ i. part (coded i) ≡ two (h .n) (Step.test (h .e)) (Step.untest (h .e))) codes.formKind 7 (h .code) low high (refl, (refl, (refl, (refl, (refl, (refl, (refl, tt)))))))) r
+
+  pub arm-count : h .code ≡ codes.formCount → Done (countPart (h .n) first (kept second) third fourth) → Entered
+  unfolding entryOf entryPart numberIn
+  arm-count z r = arm codes.formCount (countPart (h .n) first (kept second) third fourth) z refl r
+
+  pub arm-all : h .code ≡ codes.formAll → Two (Step.every first (kept second)) (Step.count first (broken second) 1 noNumber) → Entered
+  unfolding entryOf entryPart numberIn
+  arm-all z r = arm-two codes.formAll (Step.every first (kept second)) (Step.count first (broken second) 1 noNumber) z refl r
+
+  pub arm-equal : h .code ≡ codes.formEqual → Two (Step.equal first second) (Step.unequal first second) → Entered
+  unfolding entryOf entryPart
+  arm-equal z r = arm-two codes.formEqual (Step.equal first second) (Step.unequal first second) z refl r
+
+  pub arm-apart : h .code ≡ codes.formApart → Two (Step.apart first second) (Step.meet first second) → Entered
+  unfolding entryOf entryPart
+  arm-apart z r = arm-two codes.formApart (Step.apart first second) (Step.meet first second) z refl r
+
+  pub arm-closed : h .code ≡ codes.formClosed → Two (Step.closed (h .e)) (Step.opened (h .e)) → Entered
+  unfolding entryOf entryPart
+  arm-closed z r = arm-two codes.formClosed (Step.closed (h .e)) (Step.opened (h .e)) z refl r
+
+  pub arm-less : h .code ≡ codes.formLess → Two (Step.less first second) (Step.notless first second) → Entered
+  unfolding entryOf entryPart
+  arm-less z r = arm-two codes.formLess (Step.less first second) (Step.notless first second) z refl r
+
+  pub arm-lesseq : h .code ≡ codes.formLesseq → Two (Step.lesseq first second) (Step.notlesseq first second) → Entered
+  unfolding entryOf entryPart
+  arm-lesseq z r = arm-two codes.formLesseq (Step.lesseq first second) (Step.notlesseq first second) z refl r
+
+  pub arm-onelang : h .code ≡ codes.formOnelang → Two (Step.onelang first) (Step.manylang first) → Entered
+  unfolding entryOf entryPart
+  arm-onelang z r = arm-two codes.formOnelang (Step.onelang first) (Step.manylang first) z refl r
+
+  -- past the last code
+  pub arm-unknown : codes.formOnelang < h .code → qs ≡ h .ps → o .next ≡ h .n → o .keep ≡ 0 → o .breaking ≡ 0 → Entered
+  unfolding entryOf entryPart
+  arm-unknown l q en ek em = arm-taken (h .code) 0 0 refl (ap part (List·getD-eq-default (byCode first second third fourth (limitAt [] (h .e))) Entry.bad l)) q en ek em

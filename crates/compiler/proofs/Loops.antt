@@ -13,11 +13,12 @@ use borrow.Author.Tests.{eqb-true, eqb-false}
 use Rattle.base.specs.Lists.{values}
 use Rattle.base.proofs.Lists.{length-valuesFrom, valuesFrom-snoc}
 use Rattle.model.specs.Limits.{maxRules, maxForms, maxSteps}
+use Rattle.tables.specs.Codes as codes
 use Rattle.tables.specs.Layout.{formCount, ruleCount, rootAt, ruleShapeAt, ruleTargetAt, ruleOperandAt}
 use Rattle.tables.specs.Decode.{entryAt, targetOf, ruleAt}
 use Rattle.tables.specs.Sizes.{cleared}
 use Rattle.plan.specs.Steps.{Step, numbersOf}
-use Rattle.plan.specs.Layout.{planCount, laid, withNumbers, withSteps, planCells}
+use Rattle.plan.specs.Layout.{planCount, ruleSteps, laid, withNumbers, withSteps, planCells}
 use Rattle.plan.proofs.Stores.{store-rule, store-count, store-steps, laid-none}
 use Rattle.translation.specs.Compile.{Part, entryPart, putAt, more, made, targetStep, stepsOfRule, stepsTo, stepsOf, ruleStep, planOf}
 use Rattle.compiler.specs.Stores.{numberIn, Added, FormsAdded, ruleStored}
@@ -85,30 +86,30 @@ module _ (cs ps qs : List ℕ) (r n code a : ℕ) (ec : code ≡ ruleTargetAt cs
   abbrev Stored : Type 0
   Stored = qs ≡ withNumbers ps n (numbersOf (targetStep (ruleAt cs r .target)))
 
-  target-is : (i : ℕ) (xs : List ℕ) → code ≡ i → xs ≡ numbersOf (targetStep (targetOf i a)) → qs ≡ withNumbers ps n xs → Stored
+  target-is : (i : ℕ) (s : Step) → code ≡ i → s ≡ targetStep (targetOf i a) → qs ≡ withNumbers ps n (numbersOf s) → Stored
   unfolding ruleAt
-  target-is i xs z x q = q ∙ ap (withNumbers ps n) (x ∙ (λ t. numbersOf (targetStep (targetOf ((sym z ∙ ec) t) (ea t)))))
+  target-is i s z x q = q ∙ ap (λ (s : Step). withNumbers ps n (numbersOf s)) (x ∙ (λ t. targetStep (targetOf ((sym z ∙ ec) t) (ea t))))
 
-  pub target-node : code ≡ 0 → qs ≡ withNumbers ps n (2 ∷ a ∷ 0 ∷ 0 ∷ 0 ∷ []) → Stored
-  unfolding numbersOf targetStep targetOf
-  target-node z q = target-is 0 (2 ∷ a ∷ 0 ∷ 0 ∷ 0 ∷ []) z refl q
+  pub target-node : code ≡ codes.targetNode → qs ≡ withNumbers ps n (numbersOf (Step.is a)) → Stored
+  unfolding targetStep targetOf
+  target-node z q = target-is codes.targetNode (Step.is a) z refl q
 
-  pub target-subjects : code ≡ 1 → qs ≡ withNumbers ps n (22 ∷ a ∷ 0 ∷ 0 ∷ 0 ∷ []) → Stored
-  unfolding numbersOf targetStep targetOf
-  target-subjects z q = target-is 1 (22 ∷ a ∷ 0 ∷ 0 ∷ 0 ∷ []) z refl q
+  pub target-subjects : code ≡ codes.targetSubjects → qs ≡ withNumbers ps n (numbersOf (Step.from a)) → Stored
+  unfolding targetStep targetOf
+  target-subjects z q = target-is codes.targetSubjects (Step.from a) z refl q
 
-  pub target-objects : code ≡ 2 → qs ≡ withNumbers ps n (23 ∷ a ∷ 0 ∷ 0 ∷ 0 ∷ []) → Stored
-  unfolding numbersOf targetStep targetOf
-  target-objects z q = target-is 2 (23 ∷ a ∷ 0 ∷ 0 ∷ 0 ∷ []) z refl q
+  pub target-objects : code ≡ codes.targetObjects → qs ≡ withNumbers ps n (numbersOf (Step.into a)) → Stored
+  unfolding targetStep targetOf
+  target-objects z q = target-is codes.targetObjects (Step.into a) z refl q
 
-  pub target-class : 3 ≤ code → qs ≡ withNumbers ps n (24 ∷ a ∷ 0 ∷ 0 ∷ 0 ∷ []) → Stored
-  unfolding numbersOf targetStep targetOf
-  target-class l q = target-is code (24 ∷ a ∷ 0 ∷ 0 ∷ 0 ∷ []) refl (rw List·getD-eq-default) q
+  pub target-class : codes.targetClass ≤ code → qs ≡ withNumbers ps n (numbersOf (Step.typed a)) → Stored
+  unfolding targetStep targetOf
+  target-class l q = target-is code (Step.typed a) refl (rw List·getD-eq-default) q
 
 -- ---- rules
-pub rule-law : (cs ps p1 p2 : List ℕ) (r n x b b′ y : ℕ) → p1 ≡ withNumbers ps n (numbersOf (targetStep (ruleAt cs r .target))) → p2 ≡ withNumbers p1 (n + 1) (6 ∷ x ∷ b ∷ 0 ∷ 0 ∷ []) → x ≡ n → b ≡ b′ → y ≡ n + 1 → set p2 (1 + r) y ≡ ruleStored cs ps r n b′
-unfolding ruleStored withSteps numbersOf
-rule-law cs ps p1 p2 r n x b b′ y f g ex eb ey = λ i. set ((g ∙ (λ t. withNumbers (f t) (n + 1) (6 ∷ ex t ∷ eb t ∷ 0 ∷ 0 ∷ []))) i) (1 + r) (ey i)
+pub rule-law : (cs ps p1 p2 : List ℕ) (r n x b b′ y : ℕ) → p1 ≡ withNumbers ps n (numbersOf (targetStep (ruleAt cs r .target))) → p2 ≡ withNumbers p1 (n + 1) (numbersOf (Step.both x b)) → x ≡ n → b ≡ b′ → y ≡ n + 1 → set p2 (ruleSteps + r) y ≡ ruleStored cs ps r n b′
+unfolding ruleStored withSteps
+rule-law cs ps p1 p2 r n x b b′ y f g ex eb ey = λ i. set ((g ∙ (λ t. withNumbers (f t) (n + 1) (numbersOf (Step.both (ex t) (eb t))))) i) (ruleSteps + r) (ey i)
 
 pub rule-next : (cs : List ℕ) (r n : ℕ) → n ≡ length (stepsTo cs r) → n + 2 ≡ length (stepsTo cs (r + 1))
 rule-next cs r n e = ap (λ (k : ℕ). k + 2) e ∙ sym (length-to cs r) ∙ ap (λ (k : ℕ). length (stepsTo cs k)) (sym (add-one r))
@@ -118,8 +119,8 @@ pub rule-more : (cs t qs rs : List ℕ) (r n b : ℕ) → r < maxRules → n + 2
 unfolding ruleStored stepsTo stepsOfRule ruleStep
 rule-more cs t qs rs r n b lr ln en eb f g =
     let new : List Step = stepsOfRule cs r (length (stepsTo cs r)) in
-    f ∙ (λ i. set (withSteps (g i) (en i) (targetStep (ruleAt cs r .target) ∷ Step.both (en i) (eb i) ∷ [])) (1 + r) (en i + 1))
-    ∙ ap (λ (p : List ℕ). set p (1 + r) (ruleStep cs r)) (store-steps t [] (values (ruleStep cs) r) (stepsTo cs r) (length (stepsTo cs r)) new refl (omega arith))
+    f ∙ (λ i. set (withSteps (g i) (en i) (targetStep (ruleAt cs r .target) ∷ Step.both (en i) (eb i) ∷ [])) (ruleSteps + r) (en i + 1))
+    ∙ ap (λ (p : List ℕ). set p (ruleSteps + r) (ruleStep cs r)) (store-steps t [] (values (ruleStep cs) r) (stepsTo cs r) (length (stepsTo cs r)) new refl (omega arith))
     ∙ store-rule t (values (ruleStep cs) r) (stepsTo cs r ++ new) r (ruleStep cs r) (sym (length-valuesFrom (ruleStep cs) 0 r)) lr
     ∙ ap (λ (l : List ℕ). laid t [] l (stepsTo cs (suc r))) (ap (λ (k : ℕ). values (ruleStep cs) r ++ (ruleStep cs k ∷ [])) (sym (zero-add r)) ∙ sym (valuesFrom-snoc (ruleStep cs) 0 r))
     ∙ ap (λ (k : ℕ). laid t [] (values (ruleStep cs) k) (stepsTo cs k)) (sym (add-one r))

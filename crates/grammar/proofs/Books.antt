@@ -16,6 +16,7 @@ use Rattle.base.proofs.Bools.{bool-cases, and-left, and-right, and-both}
 use Rattle.text.specs.Items.{isName, nameByte}
 use Rattle.text.specs.Spans.{Span}
 use Rattle.text.proofs.Spans.{span-join, span-split, span-whole, span-all, span-nothing, span-none, span-length}
+use Rattle.model.specs.Limits.{maxBytes, maxDepth}
 use Rattle.model.specs.Answers.{Answer, value, refusal}
 use Rattle.model.specs.Books.{Name, Line, link, type, lang, node, fact, shape, rule, Book, Pool, nodes, links, types, langs, shapes, poolNumber, builtIn, joins, newNames, collect, names}
 use Rattle.model.specs.Valid.{lineOk, admissibleFrom, admissible}
@@ -106,7 +107,7 @@ unfolding validLine
 sane-more a l S e =
     record {
       valid-above = valid-more [] a l (S .valid-above) e;
-      pools-above = λ p. subst (PoolOk p) (sym (names-snoc p a l)) (line-pool a p (S .pools-above p) l (and-left (namesOk a l) (leb (lineDepth l) 32) (and-right (lineOk a l) (namesOk a l && leb (lineDepth l) 32) e)));
+      pools-above = λ p. subst (PoolOk p) (sym (names-snoc p a l)) (line-pool a p (S .pools-above p) l (and-left (namesOk a l) (leb (lineDepth l) maxDepth) (and-right (lineOk a l) (namesOk a l && leb (lineDepth l) maxDepth) e)));
     }
 
 -- a valid book is admissible
@@ -114,11 +115,11 @@ pub admissible-from : (a b : Book) → validFrom a b ≡ true → admissibleFrom
 unfolding validFrom admissibleFrom validLine
 admissible-from a [] v = refl
 admissible-from a (l ∷ b) v =
-    and-both (lineOk a l) (admissibleFrom (a ++ (l ∷ [])) b) (and-left (lineOk a l) (namesOk a l && leb (lineDepth l) 32) (and-left (validLine a l) (validFrom (a ++ (l ∷ [])) b) v)) (admissible-from (a ++ (l ∷ [])) b (and-right (validLine a l) (validFrom (a ++ (l ∷ [])) b) v))
+    and-both (lineOk a l) (admissibleFrom (a ++ (l ∷ [])) b) (and-left (lineOk a l) (namesOk a l && leb (lineDepth l) maxDepth) (and-left (validLine a l) (validFrom (a ++ (l ∷ [])) b) v)) (admissible-from (a ++ (l ∷ [])) b (and-right (validLine a l) (validFrom (a ++ (l ∷ [])) b) v))
 
 pub valid-admissible : (b : Book) → valid b ≡ true → admissible b ≡ true
 unfolding valid admissible
-valid-admissible b v = admissible-from [] b (and-left (validFrom [] b) (leb (length (render b)) 65536) v)
+valid-admissible b v = admissible-from [] b (and-left (validFrom [] b) (leb (length (render b)) maxBytes) v)
 
 pub pools-of : (a : Book) → Sane a → Pools a
 unfolding nameOf
@@ -222,16 +223,16 @@ reading-sound s b e = ⊎-elim
     (λ t.
     let (c, q, v, p) = lines-sound s (length s) 0 0 [] sane-start (omega arith) (omega arith) b (t .1) in
     let r : renderFrom [] b ≡ s = ap (renderFrom []) q ∙ sym (span-all p) in
-    (and-both (validFrom [] b) (leb (length (renderFrom [] b)) 65536) (ap (validFrom []) q ∙ v) (le-leb (length (renderFrom [] b)) 65536 (let l : length s ≤ 65536 = ltb-false 65536 (length s) (t .0) in omega (arith, ap length r))), r))
-    (either (ltb 65536 (length s)) (refusal 1 0) (linesFrom s (length s) 0 0 []) (value b) e)
+    (and-both (validFrom [] b) (leb (length (renderFrom [] b)) maxBytes) (ap (validFrom []) q ∙ v) (le-leb (length (renderFrom [] b)) maxBytes (let l : length s ≤ maxBytes = ltb-false maxBytes (length s) (t .0) in omega (arith, ap length r))), r))
+    (either (ltb maxBytes (length s)) (refusal 1 0) (linesFrom s (length s) 0 0 []) (value b) e)
 
 -- and a valid book is accepted as it is written
 pub reading-complete : (b : Book) → valid b ≡ true → reading (render b) ≡ value b
 unfolding reading valid render
 reading-complete b v =
     let s = renderFrom [] b in
-    ap (λ (t : Bool). cond t (refusal 1 0) (linesFrom (renderFrom [] b) (length (renderFrom [] b)) 0 0 [])) (le-ltb 65536 (length (renderFrom [] b)) (leb-true (length (renderFrom [] b)) 65536 (and-right (validFrom [] b) (leb (length (renderFrom [] b)) 65536) v)))
-    ∙ lines-complete (renderFrom [] b) b (length (renderFrom [] b)) 0 0 [] sane-start (omega arith) (and-left (validFrom [] b) (leb (length (renderFrom [] b)) 65536) v) (span-whole (renderFrom [] b))
+    ap (λ (t : Bool). cond t (refusal 1 0) (linesFrom (renderFrom [] b) (length (renderFrom [] b)) 0 0 [])) (le-ltb maxBytes (length (renderFrom [] b)) (leb-true (length (renderFrom [] b)) maxBytes (and-right (validFrom [] b) (leb (length (renderFrom [] b)) maxBytes) v)))
+    ∙ lines-complete (renderFrom [] b) b (length (renderFrom [] b)) 0 0 [] sane-start (omega arith) (and-left (validFrom [] b) (leb (length (renderFrom [] b)) maxBytes) v) (span-whole (renderFrom [] b))
 
 -- the reading accepts s as b exactly when b is valid and renders to s
 pub reading-iff : (s : List ℕ) (b : Book) → (reading s ≡ value b) ↔ ((valid b ≡ true) × (render b ≡ s))
@@ -246,12 +247,12 @@ pub refused-only : (s : List ℕ) (k line : ℕ) → reading s ≡ refusal k lin
 refused-only s k line e b v r = not-refused (sym (reading-complete b v) ∙ ap reading r ∙ e)
 
 -- after the lines of a valid book, the refusal of the next line is the text's
-pub refused-after : (s : List ℕ) (b : Book) (at r : ℕ) → validFrom [] b ≡ true → Span s 0 at (renderFrom [] b) → at < length s → length s ≤ 65536 → lineAt s b at ≡ refused r → reading s ≡ refusal r (suc (length b))
+pub refused-after : (s : List ℕ) (b : Book) (at r : ℕ) → validFrom [] b ≡ true → Span s 0 at (renderFrom [] b) → at < length s → length s ≤ maxBytes → lineAt s b at ≡ refused r → reading s ≡ refusal r (suc (length b))
 unfolding reading
 refused-after s b at r v p i l q =
     let n = few-lines s [] b in
     let m = span-length p in
-    ap (λ (t : Bool). cond t (refusal 1 0) (linesFrom s (length s) 0 0 [])) (le-ltb 65536 (length s) l)
+    ap (λ (t : Bool). cond t (refusal 1 0) (linesFrom s (length s) 0 0 [])) (le-ltb maxBytes (length s) l)
     ∙ lines-read s b (length s) (length s - length b) 0 at 0 [] sane-start (omega arith) v p
     ∙ lines-refused s (length s - length b) at (0 + length b) r b (omega arith) i q
     ∙ ap (refusal r) (let z : 0 + length b + 1 ≡ suc (length b) = omega arith in z)

@@ -20,6 +20,7 @@ use Rattle.text.proofs.Places.{index-nothing}
 use Rattle.text.specs.Spans.{Span}
 use Rattle.text.proofs.Spans.{span-split, span-head, span-length, span-whole}
 use Rattle.text.proofs.Words.{word-ends, word-item, span-ends, names-plain}
+use Rattle.model.specs.Limits.{maxBytes, maxNodes}
 use Rattle.model.specs.Answers.{refusal}
 use Rattle.model.specs.Graph.{iri}
 use Rattle.model.specs.Books.{Name, Line, node, Book, Pool, nodes, builtIn, joins, newNames, newTerms, newTriples, newShapes, newRules, collect, names, rules}
@@ -28,7 +29,7 @@ use Rattle.model.specs.Valid.{capacity, hasRoom, isResource}
 use Rattle.grammar.specs.Writing.{spaced, bracket, writeNode, writeLine, renderFrom, render}
 use Rattle.grammar.specs.Valid.{reserved, wellNamed, newName, validFrom}
 use Rattle.grammar.specs.Syntax.{Slot, new, Args, LineCode, thingL, lineFamily}
-use Rattle.grammar.specs.Reading.{Read, got, refused, andThen, item, unknown, after, usedAt, newAt, subjectAt, literalTypeAt, kindAt, valueAt, lowAt, highAt, listAt, endAt, argAt, argsAt, closeAt, bodyAt, headed, bracketAt, linkAt, trueAt, deeper, readersAt, lineRoom, begunAbove, lineAt, linesFrom, reading}
+use Rattle.grammar.specs.Reading.{maxWithin, Read, got, refused, andThen, item, unknown, after, usedAt, newAt, subjectAt, literalTypeAt, kindAt, valueAt, lowAt, highAt, listAt, endAt, argAt, argsAt, closeAt, bodyAt, headed, bracketAt, linkAt, trueAt, deeper, readersAt, lineRoom, begunAbove, lineAt, linesFrom, reading}
 use Rattle.grammar.specs.Cases.{Case, edges}
 use Rattle.grammar.proofs.Leaves.{fresh-nothing, nothing-fresh}
 use Rattle.grammar.proofs.Rows.{line-placed}
@@ -62,7 +63,7 @@ module _ (s : List ℕ) (above : Book) (p : Pool) (at : ℕ) where
             ∙ ap (λ (b : Bool). cond b (got (item s above at) (itemEnd s at)) (refused 7)) (le-ltb (length (names p above)) (capacity p) (q .1)),
       )
 
-pub node-capacity : capacity nodes ≡ 1024
+pub node-capacity : capacity nodes ≡ maxNodes
 unfolding capacity
 node-capacity = refl
 
@@ -74,13 +75,13 @@ module _ (s : List ℕ) (above : Book) (at : ℕ) where
   full-line c p ks sl o w sp n f =
       let e : ℕ = itemEnd s (at + 1) in
       let (k, found, back, _, _) = line-placed c in
-      let args : argsAt s above (readersAt s above 31) (lineFamily .slots c) (begunAbove above) (itemEnd s (at + 1)) ≡ refused 7 =
-      subst (λ (js : List Slot). argsAt s above (readersAt s above 31) js (begunAbove above) (itemEnd s (at + 1)) ≡ refused 7) (sym sl)
-      (ap₂ (λ (b : Bool) (r : Read Name). andThen (cond b r (refused 2)) (λ a next. andThen (argsAt s above (readersAt s above 31) ks (after (new p) a (begunAbove above)) next) (λ xs last. got (a, xs) last))) (eq-eqb (getD s (itemEnd s (at + 1)) 0) 32 sp) (full-pool s above p (itemEnd s (at + 1) + 1) .1 (n, f))) in
+      let args : argsAt s above (readersAt s above maxWithin) (lineFamily .slots c) (begunAbove above) (itemEnd s (at + 1)) ≡ refused 7 =
+      subst (λ (js : List Slot). argsAt s above (readersAt s above maxWithin) js (begunAbove above) (itemEnd s (at + 1)) ≡ refused 7) (sym sl)
+      (ap₂ (λ (b : Bool) (r : Read Name). andThen (cond b r (refused 2)) (λ a next. andThen (argsAt s above (readersAt s above maxWithin) ks (after (new p) a (begunAbove above)) next) (λ xs last. got (a, xs) last))) (eq-eqb (getD s (itemEnd s (at + 1)) 0) 32 sp) (full-pool s above p (itemEnd s (at + 1) + 1) .1 (n, f))) in
       ap (λ (r : Read Line). andThen r (λ l next. cond (eqb (getD s next 0) 10) (got l (next + 1)) (refused 2)))
-      (ap₂ (λ (b : Bool) (v : List ℕ). cond b (headed s above lineFamily (readersAt s above 31) false false (lineRoom s above) (begunAbove above) (indexOf (map (lineFamily .word) (lineFamily .codes)) v) (itemEnd s (at + 1))) (refused 2)) (eq-eqb (getD s at 0) 40 o) w
-      ∙ ap (λ (f : Found). headed s above lineFamily (readersAt s above 31) false false (lineRoom s above) (begunAbove above) f (itemEnd s (at + 1))) found
-      ∙ ap (λ (d : LineCode). bodyAt s above lineFamily (readersAt s above 31) (lineRoom s above) d (begunAbove above) (itemEnd s (at + 1))) back
+      (ap₂ (λ (b : Bool) (v : List ℕ). cond b (headed s above lineFamily (readersAt s above maxWithin) false false (lineRoom s above) (begunAbove above) (indexOf (map (lineFamily .word) (lineFamily .codes)) v) (itemEnd s (at + 1))) (refused 2)) (eq-eqb (getD s at 0) 40 o) w
+      ∙ ap (λ (f : Found). headed s above lineFamily (readersAt s above maxWithin) false false (lineRoom s above) (begunAbove above) f (itemEnd s (at + 1))) found
+      ∙ ap (λ (d : LineCode). bodyAt s above lineFamily (readersAt s above maxWithin) (lineRoom s above) d (begunAbove above) (itemEnd s (at + 1))) back
       ∙ ap (λ (r : Read (Args (lineFamily .slots c))). andThen r (λ xs next. closeAt s above (lineRoom s above c) (lineFamily .build c xs) next)) args)
 
 -- node 1,025: after any valid book with 1,024 nodes, a line that defines one more is refused by 7
@@ -100,7 +101,7 @@ module _ (b : Book) (n : Name) where
       let i = word-ends (bytes "thing") (sp .0) refl e in
       (h .1, word-item (bytes "thing") (sp .0) refl e, ap (λ (j : ℕ). getD s j 0) i ∙ k .1, ap (λ (j : ℕ). slice (j + 1) (itemEnd s (j + 1)) s) i ∙ word-item n (u .0) (names-plain n w) (span-ends (u .1) refl))
 
-  pub node-1025 : validFrom [] b ≡ true → length (names nodes b) ≡ 1024 → newName b nodes n ≡ true → length (render b ++ oneMore) ≤ 65536 → reading (render b ++ oneMore) ≡ refusal 7 (suc (length b))
+  pub node-1025 : validFrom [] b ≡ true → length (names nodes b) ≡ maxNodes → newName b nodes n ≡ true → length (render b ++ oneMore) ≤ maxBytes → reading (render b ++ oneMore) ≡ refusal 7 (suc (length b))
   unfolding render newName wellNamed
   node-1025 v l w m =
       let s : List ℕ = renderFrom [] b ++ oneMore in

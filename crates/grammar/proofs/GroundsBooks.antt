@@ -85,16 +85,16 @@ module _ (s : List ℕ) where
 pub refusal-ground : (s : List ℕ) (r k : ℕ) → reading s ≡ refusal r k → ((r ≡ 1) × (k ≡ 0) × (maxBytes < length s)) ⊎ ((length s ≤ maxBytes) × (G : Grounded s r k) × NoneBegins s (G .place))
 unfolding reading render renderFrom
 refusal-ground s r k e = ⊎-elim
-    (λ t. let z = same-refusal (t .1) in inl (sym (z .0), sym (z .1), ltb-true 65536 (length s) (t .0)))
+    (λ t. let z = same-refusal (t .1) in inl (sym (z .0), sym (z .1), ltb-true maxBytes (length s) (t .0)))
     (λ t.
     let (G, _, none) = lines-grounds s (length s) 0 0 [] sane-start (omega arith) (span-nothing s 0 (omega arith)) refl r k (t .1) in
-    inr (ltb-false 65536 (length s) (t .0), G, λ b v g. none (renderFrom [] b) g b v (span-whole (renderFrom [] b))))
-    (either (ltb 65536 (length s)) (refusal 1 0) (linesFrom s (length s) 0 0 []) (refusal r k) e)
+    inr (ltb-false maxBytes (length s) (t .0), G, λ b v g. none (renderFrom [] b) g b v (span-whole (renderFrom [] b))))
+    (either (ltb maxBytes (length s)) (refusal 1 0) (linesFrom s (length s) 0 0 []) (refusal r k) e)
 
 -- 1 exactly when the text is longer than 65,536 bytes, and at line 0
 pub too-long : (s : List ℕ) (k : ℕ) → (reading s ≡ refusal 1 k) ↔ ((k ≡ 0) × (maxBytes < length s))
 unfolding reading
 too-long s k = (
   λ e. ⊎-elim (λ t. (t .1, t .2)) (λ t. absurd (let G = t .1 in let z = ground-numbered s (G .above) (G .at) (G .ground) .least in let y : ⊥ = omega arith in y)) (refusal-ground s 1 k e),
-  λ p. ap (λ (b : Bool). cond b (refusal 1 0) (linesFrom s (length s) 0 0 [])) (lt-ltb 65536 (length s) (p .1)) ∙ ap (refusal 1) (sym (p .0)),
+  λ p. ap (λ (b : Bool). cond b (refusal 1 0) (linesFrom s (length s) 0 0 [])) (lt-ltb maxBytes (length s) (p .1)) ∙ ap (refusal 1) (sym (p .0)),
 )

@@ -22,11 +22,11 @@ use Rattle.model.specs.Graph.{iri, langString}
 use Rattle.model.specs.Paths.{self, along}
 use Rattle.model.specs.Books.{Book, nodes, links, types, builtIn, names, collect, newTerms, newTriples, rules}
 use Rattle.model.specs.Valid.{isResource}
-use Rattle.model.specs.Limits.{maxFacts, maxForms, maxPaths, maxItems}
+use Rattle.model.specs.Limits.{maxDepth, maxFacts, maxForms, maxPaths, maxItems}
 use Rattle.grammar.specs.Writing.{nameOf}
 use Rattle.grammar.specs.Valid.{wellNamed}
 use Rattle.grammar.specs.Syntax.{Slot, used, new, subject, literalType, kindWord, value, low, high, path, end, form, target, list, Arg, Args, Family, pathFamily, formFamily, targetFamily, LineCode, linkL, typeL, langL, thingL, blankL, numberL, textL, wordsL, factL, shapeL, ruleL, lineFamily}
-use Rattle.grammar.specs.Reading.{Read, got, refused, andThen, Begun, after, formBegun, pathBegun, Readers, usedAt, subjectAt, literalTypeAt, newAt, kindAt, valueAt, lowAt, highAt, endAt, argAt, argsAt, closeAt, bodyAt, headed, bracketAt, linkAt, trueAt, deeper, noReaders, readersAt, lineRoom, begunAbove, lineAt}
+use Rattle.grammar.specs.Reading.{maxWithin, Read, got, refused, andThen, Begun, after, formBegun, pathBegun, Readers, usedAt, subjectAt, literalTypeAt, newAt, kindAt, valueAt, lowAt, highAt, endAt, argAt, argsAt, closeAt, bodyAt, headed, bracketAt, linkAt, trueAt, deeper, noReaders, readersAt, lineRoom, begunAbove, lineAt}
 use Rattle.grammar.proofs.Exact.{thens, got-next, edge-of, edge-inside}
 use Rattle.grammar.proofs.Leaves.{Pools}
 use Rattle.grammar.specs.Args.{isList}
@@ -158,7 +158,7 @@ module _ (s : List ℕ) (above : Book) (start : ℕ) where
 
   module _ (N : Pools above) where
     -- with one bracket more than Q; deep: 32 are open
-    nested-step : (Q : List ℕ → Readers) (d o : ℕ) (deep : Bool) → (deep ≡ true → o ≡ 32) → (deep ≡ false → o < 32) → (deep ≡ false → Exacts s above (Q s) d) → (deep ≡ false → Nested Q (suc o)) → Nested (λ t. deeper t above deep (Q t)) o
+    nested-step : (Q : List ℕ → Readers) (d o : ℕ) (deep : Bool) → (deep ≡ true → o ≡ maxDepth) → (deep ≡ false → o < maxDepth) → (deep ≡ false → Exacts s above (Q s) d) → (deep ≡ false → Nested Q (suc o)) → Nested (λ t. deeper t above deep (Q t)) o
     unfolding deeper linkAt
     nested-step Q d o deep most fewer X S =
         record {
@@ -182,7 +182,7 @@ module _ (s : List ℕ) (above : Book) (start : ℕ) where
               (λ e. settled-refused (q + 1) (misfit W (itemAt s (q + 1)) (sp, refl) (λ f. f) (λ b. absurd (e b))) (stop-item s (q + 1)));
         }
 
-    readers-settled : (left o : ℕ) → o + left ≡ 32 → Nested (λ t. readersAt t above left) o
+    readers-settled : (left o : ℕ) → o + left ≡ maxDepth → Nested (λ t. readersAt t above left) o
     unfolding readersAt
     readers-settled zero o e = nested-step (λ t. noReaders t above) 0 o true (λ _. omega arith) (λ i. absurd (never-both refl i)) (λ i. absurd (never-both refl i)) (λ i. absurd (never-both refl i))
     readers-settled (suc left) o e = nested-step (λ t. readersAt t above left) left o false (λ i. absurd (never-both i refl)) (λ _. omega arith) (λ _. readers-exact s above N left) (λ _. readers-settled left (suc o) (omega arith))
@@ -203,12 +203,12 @@ module _ (s : List ℕ) (above : Book) (start : ℕ) where
       line-full shapeL b m n W e r = absurd (never-both refl r)
       line-full ruleL b m n W e r = rules-full W b e (ltb-false (length (rules above)) 32 r)
 
-      line-bracket : Settles s above start (itemEnd s start) (λ t. bracketAt t above lineFamily (readersAt t above 31) false false (lineRoom s above) (refused 2) (begunAbove above) start)
-      line-bracket = bracket-settled lineFamily (λ t. readersAt t above 31) false false (lineRoom s above) (begunAbove above) (λ t. refused 2) start
+      line-bracket : Settles s above start (itemEnd s start) (λ t. bracketAt t above lineFamily (readersAt t above maxWithin) false false (lineRoom s above) (refused 2) (begunAbove above) start)
+      line-bracket = bracket-settled lineFamily (λ t. readersAt t above maxWithin) false false (lineRoom s above) (begunAbove above) (λ t. refused 2) start
           (λ w b e. no-line-word w b e)
           (λ i c b. absurd (never-both i refl))
           (λ i j c b. absurd (never-both j refl))
-          (λ i j c b. body-settled N (λ t. readersAt t above 31) 31 1 (readers-exact s above N 31) (readers-settled 31 1 refl) lineFamily (lineRoom s above) c f (line c (opened start (lineFamily .word c) b)) (line-full c b))
+          (λ i j c b. body-settled N (λ t. readersAt t above maxWithin) maxWithin 1 (readers-exact s above N maxWithin) (readers-settled maxWithin 1 refl) lineFamily (lineRoom s above) c f (line c (opened start (lineFamily .word c) b)) (line-full c b))
           (λ e. settled-refused start (no-line e) (stop-item s start))
 
       pub line-settled : start ≤ length s → Settles s above start start (λ t. lineAt t above start)

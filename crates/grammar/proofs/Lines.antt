@@ -16,11 +16,11 @@ use Rattle.model.specs.Graph.{iri, blankNode, numeric, plain, tagged, langStrin
 use Rattle.model.specs.Books.{Book, Line, link, type, lang, node, fact, shape, rule, nodes, links, types, langs, shapes, collect, newTerms, newTriples, rules}
 use Rattle.model.specs.Sizes.{formEntries, shapePaths, listItems, formsIn, pathsIn, itemsIn}
 use Rattle.model.specs.Valid.{defined, hasRoom, termOk, factOk, isResource, shapeOk, targetOk, entriesFit, lineOk}
-use Rattle.model.specs.Limits.{maxFacts, maxForms, maxPaths, maxItems}
+use Rattle.model.specs.Limits.{maxDepth, maxRules, maxFacts, maxForms, maxPaths, maxItems}
 use Rattle.grammar.specs.Writing.{spaced, bracket, writeNode, writeLine}
 use Rattle.grammar.specs.Valid.{lineDepth, newName, namesOk, validLine}
 use Rattle.grammar.specs.Syntax.{Args, LineCode, linkL, typeL, langL, thingL, blankL, numberL, textL, wordsL, factL, shapeL, ruleL, lineFamily}
-use Rattle.grammar.specs.Reading.{Read, got, refused, andThen, after, bracketAt, readersAt, lineRoom, begunAbove, lineAt}
+use Rattle.grammar.specs.Reading.{maxWithin, Read, got, refused, andThen, after, bracketAt, readersAt, lineRoom, begunAbove, lineAt}
 use Rattle.grammar.proofs.Exact.{never-refused, passes, thens, got-value, got-next}
 use Rattle.grammar.proofs.Leaves.{Pools}
 use Rattle.grammar.proofs.Args.{argsDepth, afterAll, Fit, writeArgs, argsOk}
@@ -109,11 +109,11 @@ module _ (above : Book) where
   line-ok s wordsL xs = words-tests (hasRoom above nodes) (defined above langs (xs .1 .0)) (newName above nodes (xs .0))
   line-ok s factL xs = fact-tests (defined above nodes (xs .0)) (isResource (getD (collect newTerms above) (xs .0) iri)) (defined above links (xs .1 .0)) (defined above nodes (xs .1 .1 .0)) (ltb (length (collect newTriples above)) maxFacts)
   line-ok s shapeL xs = shape-tests (hasRoom above shapes) (shapeOk above (xs .1 .0)) (entriesFit above (xs .1 .0)) (newName above shapes (xs .0))
-  line-ok s ruleL xs = rule-tests (defined above shapes (xs .0)) (targetOk above (xs .1 .0)) (ltb (length (rules above)) 32)
+  line-ok s ruleL xs = rule-tests (defined above shapes (xs .0)) (targetOk above (xs .1 .0)) (ltb (length (rules above)) maxRules)
 
-  valid-tests : (l : Line) (b : Bool) → (lineOk above l && namesOk above l) ≡ b → validLine above l ≡ (b && leb (lineDepth l) 32)
+  valid-tests : (l : Line) (b : Bool) → (lineOk above l && namesOk above l) ≡ b → validLine above l ≡ (b && leb (lineDepth l) maxDepth)
   unfolding validLine
-  valid-tests l b e = sym (and-assoc (lineOk above l) (namesOk above l) (leb (lineDepth l) 32)) ∙ ap (λ (c : Bool). c && leb (lineDepth l) 32) e
+  valid-tests l b e = sym (and-assoc (lineOk above l) (namesOk above l) (leb (lineDepth l) maxDepth)) ∙ ap (λ (c : Bool). c && leb (lineDepth l) maxDepth) e
 
   -- the entries of the lines above and of this one
   fits-from : (c : LineCode) (xs : Args (lineFamily .slots c)) → Fit (begunAbove above) → lineFits c xs ≡ true → Fit (afterAll (lineFamily .slots c) xs (begunAbove above))
@@ -167,7 +167,7 @@ line-made (shape n φ) = (shapeL, (n, (φ, tt)), refl)
 line-made (rule r) = (ruleL, (r .shape, (r .target, tt)), refl)
 
 module _ (s : List ℕ) (above : Book) (N : Pools above) (f : Fit (begunAbove above)) where
-  opened-valid : (l : Line) (at nx : ℕ) → Opened s above N lineFamily line-placed (readersAt s above 31) 31 false false (lineRoom s above) (begunAbove above) (λ _. readers-exact s above N 31) (λ _. f) l at nx
+  opened-valid : (l : Line) (at nx : ℕ) → Opened s above N lineFamily line-placed (readersAt s above maxWithin) maxWithin false false (lineRoom s above) (begunAbove above) (λ _. readers-exact s above N maxWithin) (λ _. f) l at nx
       → Span s at nx (writeLine above l) × (validLine above l ≡ true)
   opened-valid l at nx O =
       let c = O .code in
@@ -177,34 +177,34 @@ module _ (s : List ℕ) (above : Book) (N : Pools above) (f : Fit (begunAbove ab
       subst (λ (l : Line). Span s at nx (writeLine above l) × (validLine above l ≡ true)) (O .made) (
         subst (λ (w : List ℕ). Span s at nx w) (sym (line-text above (O .code) (O .args))) (O .span),
         valid-tests above (lineFamily .build (O .code) (O .args)) (argsOk above (lineFamily .slots (O .code)) (O .args) && (lineRoom s above (O .code) && lineFits above (O .code) (O .args))) (line-ok above s (O .code) (O .args))
-            ∙ and-both (argsOk above (lineFamily .slots (O .code)) (O .args) && (lineRoom s above (O .code) && lineFits above (O .code) (O .args))) (leb (lineDepth (lineFamily .build (O .code) (O .args))) 32)
+            ∙ and-both (argsOk above (lineFamily .slots (O .code)) (O .args) && (lineRoom s above (O .code) && lineFits above (O .code) (O .args))) (leb (lineDepth (lineFamily .build (O .code) (O .args))) maxDepth)
             (and-both (argsOk above (lineFamily .slots (O .code)) (O .args)) (lineRoom s above (O .code) && lineFits above (O .code) (O .args)) (O .good .0) (and-both (lineRoom s above (O .code)) (lineFits above (O .code) (O .args)) (O .roomy) (from-fits above (O .code) (O .args) (O .good .2))))
-            (le-leb (lineDepth (lineFamily .build (O .code) (O .args))) 32 (omega arith)),
+            (le-leb (lineDepth (lineFamily .build (O .code) (O .args))) maxDepth (omega arith)),
       )
 
   -- a line without its LF
-  pub bracket-line : (at : ℕ) → at ≤ length s → (l : Line) (nx : ℕ) → bracketAt s above lineFamily (readersAt s above 31) false false (lineRoom s above) (refused 2) (begunAbove above) at ≡ got l nx → Span s at nx (writeLine above l) × (validLine above l ≡ true)
+  pub bracket-line : (at : ℕ) → at ≤ length s → (l : Line) (nx : ℕ) → bracketAt s above lineFamily (readersAt s above maxWithin) false false (lineRoom s above) (refused 2) (begunAbove above) at ≡ got l nx → Span s at nx (writeLine above l) × (validLine above l ≡ true)
   bracket-line at h l nx r =
-      ⊎-elim (λ b. absurd (never-refused b)) (opened-valid l at nx) (bracket-sound s above N lineFamily line-placed (readersAt s above 31) 31 false false (lineRoom s above) (begunAbove above) (λ _. readers-exact s above N 31) (λ _. f) (refused 2) at h l nx r)
+      ⊎-elim (λ b. absurd (never-refused b)) (opened-valid l at nx) (bracket-sound s above N lineFamily line-placed (readersAt s above maxWithin) maxWithin false false (lineRoom s above) (begunAbove above) (λ _. readers-exact s above N maxWithin) (λ _. f) (refused 2) at h l nx r)
 
   pub line-sound : (at : ℕ) → at ≤ length s → (l : Line) (nx : ℕ) → lineAt s above at ≡ got l nx → Span s at nx (writeLine above l ++ (10 ∷ [])) × (validLine above l ≡ true)
   unfolding lineAt
   line-sound at h l nx e =
-      let (k, m, r, g) = thens (bracketAt s above lineFamily (readersAt s above 31) false false (lineRoom s above) (refused 2) (begunAbove above) at) (λ l next. cond (eqb (getD s next 0) 10) (got l (next + 1)) (refused 2)) e in
+      let (k, m, r, g) = thens (bracketAt s above lineFamily (readersAt s above maxWithin) false false (lineRoom s above) (refused 2) (begunAbove above) at) (λ l next. cond (eqb (getD s next 0) 10) (got l (next + 1)) (refused 2)) e in
       let p = passes (eqb (getD s m 0) 10) 2 (got k (m + 1)) g in
       let u = bracket-line at h k m r in
       subst (λ (l : Line). Span s at nx (writeLine above l ++ (10 ∷ [])) × (validLine above l ≡ true)) (got-value (p .1))
       (subst (λ (j : ℕ). Span s at j (writeLine above k ++ (10 ∷ []))) (got-next (p .1)) (span-join (u .0) (span-byte s m 9 (eqb-true (getD s m 0) 10 (p .0)))), u .1)
 
   built-accepted : (c : LineCode) (xs : Args (lineFamily .slots c)) (at nx : ℕ) → Span s at nx (writeLine above (lineFamily .build c xs)) → validLine above (lineFamily .build c xs) ≡ true
-      → bracketAt s above lineFamily (readersAt s above 31) false false (lineRoom s above) (refused 2) (begunAbove above) at ≡ got (lineFamily .build c xs) nx
+      → bracketAt s above lineFamily (readersAt s above maxWithin) false false (lineRoom s above) (refused 2) (begunAbove above) at ≡ got (lineFamily .build c xs) nx
   built-accepted c xs at nx p v =
       let t = sym (valid-tests above (lineFamily .build c xs) (argsOk above (lineFamily .slots c) xs && (lineRoom s above c && lineFits above c xs)) (line-ok above s c xs)) ∙ v in
-      let a = and-left (argsOk above (lineFamily .slots c) xs && (lineRoom s above c && lineFits above c xs)) (leb (lineDepth (lineFamily .build c xs)) 32) t in
+      let a = and-left (argsOk above (lineFamily .slots c) xs && (lineRoom s above c && lineFits above c xs)) (leb (lineDepth (lineFamily .build c xs)) maxDepth) t in
       let b = and-right (argsOk above (lineFamily .slots c) xs) (lineRoom s above c && lineFits above c xs) a in
-      let dd : lineDepth (lineFamily .build c xs) ≤ 32 = leb-true (lineDepth (lineFamily .build c xs)) 32 (and-right (argsOk above (lineFamily .slots c) xs && (lineRoom s above c && lineFits above c xs)) (leb (lineDepth (lineFamily .build c xs)) 32) t) in
+      let dd : lineDepth (lineFamily .build c xs) ≤ maxDepth = leb-true (lineDepth (lineFamily .build c xs)) maxDepth (and-right (argsOk above (lineFamily .slots c) xs && (lineRoom s above c && lineFits above c xs)) (leb (lineDepth (lineFamily .build c xs)) maxDepth) t) in
       let dr = line-depth above c xs in
-      bracket-complete s above N lineFamily line-placed (readersAt s above 31) 31 false false (lineRoom s above) (begunAbove above) (λ _. readers-exact s above N 31) (λ _. f) c refl refl (and-left (lineRoom s above c) (lineFits above c xs) b) (refused 2) at nx xs
+      bracket-complete s above N lineFamily line-placed (readersAt s above maxWithin) maxWithin false false (lineRoom s above) (begunAbove above) (λ _. readers-exact s above N maxWithin) (λ _. f) c refl refl (and-left (lineRoom s above c) (lineFits above c xs) b) (refused 2) at nx xs
       (subst (λ (w : List ℕ). Span s at nx w) (line-text above c xs) p)
       (and-left (argsOk above (lineFamily .slots c) xs) (lineRoom s above c && lineFits above c xs) a, omega arith, fits-from above c xs f (and-right (lineRoom s above c) (lineFits above c xs) b))
 
@@ -216,5 +216,5 @@ module _ (s : List ℕ) (above : Book) (N : Pools above) (f : Fit (begunAbove ab
       let mid : ℕ = at + length (writeLine above l) in
       let o = span-one (sp .1) in
       ap (λ (r : Read Line). andThen r (λ l next. cond (eqb (getD s next 0) 10) (got l (next + 1)) (refused 2)))
-      (subst (λ (l : Line). Span s at mid (writeLine above l) → validLine above l ≡ true → bracketAt s above lineFamily (readersAt s above 31) false false (lineRoom s above) (refused 2) (begunAbove above) at ≡ got l mid) i (built-accepted c xs at mid) (sp .0) v)
+      (subst (λ (l : Line). Span s at mid (writeLine above l) → validLine above l ≡ true → bracketAt s above lineFamily (readersAt s above maxWithin) false false (lineRoom s above) (refused 2) (begunAbove above) at ≡ got l mid) i (built-accepted c xs at mid) (sp .0) v)
       ∙ ap₂ (λ (b : Bool) (j : ℕ). cond b (got l j) (refused 2)) (eq-eqb (getD s mid 0) 10 (o .1)) (o .0)

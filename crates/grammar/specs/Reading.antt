@@ -13,7 +13,7 @@ use Rattle.text.specs.Pool.{indexOf}
 use Rattle.text.specs.declared.Found.{Found}
 use Rattle.text.specs.declared.Number.{Number}
 use Rattle.text.specs.declared.Bound.{Bound}
-use Rattle.model.specs.Limits.{maxBytes, maxRules, maxFacts, maxForms, maxPaths, maxItems}
+use Rattle.model.specs.Limits.{maxBytes, maxDepth, maxRules, maxFacts, maxForms, maxPaths, maxItems}
 use Rattle.model.specs.Answers.{Answer, refusal}
 use Rattle.model.specs.Graph.{iri, langString}
 use Rattle.model.specs.Paths.{Path, predicate, End, self, along}
@@ -25,6 +25,10 @@ use Rattle.model.specs.Valid.{hasRoom, isResource}
 use Rattle.grammar.specs.Writing.{writeKind}
 use Rattle.grammar.specs.Valid.{wellNamed}
 use Rattle.grammar.specs.Syntax.{Slot, used, new, subject, literalType, kindWord, value, low, high, path, end, form, target, list, Arg, Args, Family, pathFamily, formFamily, targetFamily, LineCode, linkL, typeL, langL, thingL, blankL, numberL, textL, wordsL, factL, shapeL, ruleL, lineFamily}
+
+-- how many brackets may be open together within a line's own
+abbrev pub maxWithin : ℕ
+maxWithin = maxDepth - 1
 
 -- what was read and the position after it; or the number of a refusal
 pub data Read (A : Type 0) : Type 0 where
@@ -215,9 +219,9 @@ module _ (s : List ℕ) (above : Book) where
   lineRoom shapeL = true
   lineRoom ruleL = ltb (length (rules above)) maxRules
 
-  -- a line and its LF; its own bracket is open, 31 more may be
+  -- a line and its LF; its own bracket is open
   unfoldable pub lineAt : ℕ → Read Line
-  lineAt at = andThen (bracketAt lineFamily (readersAt 31) false false lineRoom (refused 2) (begunAbove above) at) (λ l next. cond (eqb (getD s next 0) 10) (got l (next + 1)) (refused 2))
+  lineAt at = andThen (bracketAt lineFamily (readersAt maxWithin) false false lineRoom (refused 2) (begunAbove above) at) (λ l next. cond (eqb (getD s next 0) 10) (got l (next + 1)) (refused 2))
 
 -- a line was read, and what follows it; or the refusal at that line
 abbrev pub follow : ℕ → Read Line → (Line → ℕ → Answer Book) → Answer Book

@@ -23,7 +23,7 @@ use Rattle.grammar.specs.Valid.{wellNamed}
 use Rattle.tables.specs.Layout.{nodeKinds, nodeTypes, nodeLangs, subjects, predicates, objects, ruleShapes, ruleTargets, ruleOperands, nameCount}
 use Rattle.encoding.specs.Rows.{nodeRow, targetCode, targetOperand}
 use Rattle.grammar.specs.Syntax.{Slot, Arg, Args, new, LineCode, linkL, typeL, langL, thingL, blankL, factL, ruleL, lineFamily}
-use Rattle.grammar.specs.Reading.{Read, got, refused, andThen, Readers, Begun, after, unknown, newAt, argAt, argsAt, closeAt, bodyAt, readersAt, lineRoom, begunAbove}
+use Rattle.grammar.specs.Reading.{maxWithin, Read, got, refused, andThen, Readers, Begun, after, unknown, newAt, argAt, argsAt, closeAt, bodyAt, readersAt, lineRoom, begunAbove}
 use Rattle.encoding.specs.Encode.{poolBase}
 use Rattle.stores.specs.Lines.{putName, putNode, putFact, putRule, lineNames, lineCells, lineValues}
 use Rattle.itemreader.specs.Answers.{Reads, Inside, restAt}
@@ -59,40 +59,40 @@ module _ (s : List ℕ) (a : Book) (room : Bool) (l : Line) (at : ℕ) where
 module _ (s : List ℕ) (a : Book) (room : Bool) where
   -- the arguments ks, the closing bracket and the LF, where f makes the line of them
   abbrev pub lineRest : (ks : List Slot) → (Args ks → Line) → Begun → ℕ → Read Line
-  lineRest ks f n at = andThen (restAt s a (readersAt s a 31) room ks f n at) (endLine s)
+  lineRest ks f n at = andThen (restAt s a (readersAt s a maxWithin) room ks f n at) (endLine s)
 
   pub args-end : (f : Args [] → Line) (n : Begun) (at : ℕ) → lineRest [] f n at ≡ lineEnd s a room (f tt) at
   unfolding lineEnd argsAt
   args-end f n at = refl
 
   module _ (k : Slot) (ks : List Slot) (f : Args (k ∷ ks) → Line) (n : Begun) (at : ℕ) where
-    pub arg-got : (x : Arg k) (next : ℕ) → argAt s a (readersAt s a 31) k n at ≡ got x next → lineRest (k ∷ ks) f n at ≡ lineRest ks (λ xs. f (x, xs)) (after k x n) next
-    arg-got x next e = ap (λ (r : Read Line). andThen r (endLine s)) (rest-got s a (readersAt s a 31) room k ks f n at x next e)
+    pub arg-got : (x : Arg k) (next : ℕ) → argAt s a (readersAt s a maxWithin) k n at ≡ got x next → lineRest (k ∷ ks) f n at ≡ lineRest ks (λ xs. f (x, xs)) (after k x n) next
+    arg-got x next e = ap (λ (r : Read Line). andThen r (endLine s)) (rest-got s a (readersAt s a maxWithin) room k ks f n at x next e)
 
-    pub arg-refused : (r : ℕ) → argAt s a (readersAt s a 31) k n at ≡ refused r → lineRest (k ∷ ks) f n at ≡ refused r
-    arg-refused r e = ap (λ (r : Read Line). andThen r (endLine s)) (rest-refused s a (readersAt s a 31) room k ks f n at r e)
+    pub arg-refused : (r : ℕ) → argAt s a (readersAt s a maxWithin) k n at ≡ refused r → lineRest (k ∷ ks) f n at ≡ refused r
+    arg-refused r e = ap (λ (r : Read Line). andThen r (endLine s)) (rest-refused s a (readersAt s a maxWithin) room k ks f n at r e)
 
   -- a refusal at the first, the second and the third argument
-  pub stop₁ : (k : Slot) (ks : List Slot) (f : Args (k ∷ ks) → Line) (n : Begun) (at r : ℕ) → argAt s a (readersAt s a 31) k n at ≡ refused r → lineRest (k ∷ ks) f n at ≡ refused r
+  pub stop₁ : (k : Slot) (ks : List Slot) (f : Args (k ∷ ks) → Line) (n : Begun) (at r : ℕ) → argAt s a (readersAt s a maxWithin) k n at ≡ refused r → lineRest (k ∷ ks) f n at ≡ refused r
   stop₁ k ks f n at r e = arg-refused k ks f n at r e
 
-  module _ (k l : Slot) (ks : List Slot) (f : Args (k ∷ l ∷ ks) → Line) (n : Begun) (at : ℕ) (x : Arg k) (i : ℕ) (e : argAt s a (readersAt s a 31) k n at ≡ got x i) where
-    pub stop₂ : (r : ℕ) → argAt s a (readersAt s a 31) l (after k x n) i ≡ refused r → lineRest (k ∷ l ∷ ks) f n at ≡ refused r
+  module _ (k l : Slot) (ks : List Slot) (f : Args (k ∷ l ∷ ks) → Line) (n : Begun) (at : ℕ) (x : Arg k) (i : ℕ) (e : argAt s a (readersAt s a maxWithin) k n at ≡ got x i) where
+    pub stop₂ : (r : ℕ) → argAt s a (readersAt s a maxWithin) l (after k x n) i ≡ refused r → lineRest (k ∷ l ∷ ks) f n at ≡ refused r
     stop₂ r q = arg-got k (l ∷ ks) f n at x i e ∙ arg-refused l ks (λ xs. f (x, xs)) (after k x n) i r q
 
-  module _ (k l m : Slot) (ks : List Slot) (f : Args (k ∷ l ∷ m ∷ ks) → Line) (n : Begun) (at : ℕ) (x : Arg k) (i : ℕ) (e : argAt s a (readersAt s a 31) k n at ≡ got x i) (y : Arg l) (j : ℕ) (q : argAt s a (readersAt s a 31) l (after k x n) i ≡ got y j) where
-    pub stop₃ : (r : ℕ) → argAt s a (readersAt s a 31) m (after l y (after k x n)) j ≡ refused r → lineRest (k ∷ l ∷ m ∷ ks) f n at ≡ refused r
+  module _ (k l m : Slot) (ks : List Slot) (f : Args (k ∷ l ∷ m ∷ ks) → Line) (n : Begun) (at : ℕ) (x : Arg k) (i : ℕ) (e : argAt s a (readersAt s a maxWithin) k n at ≡ got x i) (y : Arg l) (j : ℕ) (q : argAt s a (readersAt s a maxWithin) l (after k x n) i ≡ got y j) where
+    pub stop₃ : (r : ℕ) → argAt s a (readersAt s a maxWithin) m (after l y (after k x n)) j ≡ refused r → lineRest (k ∷ l ∷ m ∷ ks) f n at ≡ refused r
     stop₃ r p = arg-got k (l ∷ m ∷ ks) f n at x i e ∙ stop₂ l m ks (λ xs. f (x, xs)) (after k x n) i y j q r p
 
   -- one, two and three arguments that were read
-  pub all₁ : (k : Slot) (f : Args (k ∷ []) → Line) (n : Begun) (at : ℕ) (x : Arg k) (i : ℕ) → argAt s a (readersAt s a 31) k n at ≡ got x i → lineRest (k ∷ []) f n at ≡ lineEnd s a room (f (x, tt)) i
+  pub all₁ : (k : Slot) (f : Args (k ∷ []) → Line) (n : Begun) (at : ℕ) (x : Arg k) (i : ℕ) → argAt s a (readersAt s a maxWithin) k n at ≡ got x i → lineRest (k ∷ []) f n at ≡ lineEnd s a room (f (x, tt)) i
   all₁ k f n at x i e = arg-got k [] f n at x i e ∙ args-end (λ xs. f (x, xs)) (after k x n) i
 
-  module _ (k l : Slot) (f : Args (k ∷ l ∷ []) → Line) (n : Begun) (at : ℕ) (x : Arg k) (i : ℕ) (e : argAt s a (readersAt s a 31) k n at ≡ got x i) (y : Arg l) (j : ℕ) (q : argAt s a (readersAt s a 31) l (after k x n) i ≡ got y j) where
+  module _ (k l : Slot) (f : Args (k ∷ l ∷ []) → Line) (n : Begun) (at : ℕ) (x : Arg k) (i : ℕ) (e : argAt s a (readersAt s a maxWithin) k n at ≡ got x i) (y : Arg l) (j : ℕ) (q : argAt s a (readersAt s a maxWithin) l (after k x n) i ≡ got y j) where
     pub all₂ : lineRest (k ∷ l ∷ []) f n at ≡ lineEnd s a room (f (x, (y, tt))) j
     all₂ = arg-got k (l ∷ []) f n at x i e ∙ all₁ l (λ xs. f (x, xs)) (after k x n) i y j q
 
-  module _ (k l m : Slot) (f : Args (k ∷ l ∷ m ∷ []) → Line) (n : Begun) (at : ℕ) (x : Arg k) (i : ℕ) (e : argAt s a (readersAt s a 31) k n at ≡ got x i) (y : Arg l) (j : ℕ) (q : argAt s a (readersAt s a 31) l (after k x n) i ≡ got y j) (z : Arg m) (h : ℕ) (p : argAt s a (readersAt s a 31) m (after l y (after k x n)) j ≡ got z h) where
+  module _ (k l m : Slot) (f : Args (k ∷ l ∷ m ∷ []) → Line) (n : Begun) (at : ℕ) (x : Arg k) (i : ℕ) (e : argAt s a (readersAt s a maxWithin) k n at ≡ got x i) (y : Arg l) (j : ℕ) (q : argAt s a (readersAt s a maxWithin) l (after k x n) i ≡ got y j) (z : Arg m) (h : ℕ) (p : argAt s a (readersAt s a maxWithin) m (after l y (after k x n)) j ≡ got z h) where
     pub all₃ : lineRest (k ∷ l ∷ m ∷ []) f n at ≡ lineEnd s a room (f (x, (y, (z, tt)))) h
     all₃ = arg-got k (l ∷ m ∷ []) f n at x i e ∙ all₂ l m (λ xs. f (x, xs)) (after k x n) i y j q z h p
 
@@ -104,8 +104,8 @@ body-is s a c at = refl
 pub item-no : (s : List ℕ) (a : Book) (R : Readers) (k : Slot) (f : Arg k → ℕ) (n : Begun) (at : ℕ) (r : Item) (j m : ℕ) → Reads s a k f at r → r ≡ Item.No j → m ≡ refusalOf r → argAt s a R k n at ≡ refused m
 item-no s a R k f n at r j m h e q = item-refused f (argAt s a R k n at) r j (h R n) e ∙ ap refused (sym (q ∙ ap refusalOf e))
 
-pub item-stop : (s : List ℕ) (a : Book) (k : Slot) (f : Arg k → ℕ) (n : Begun) (at : ℕ) (r : Item) (j m : ℕ) → Reads s a k f at r → r ≡ Item.No j → m ≡ refusalOf r → argAt s a (readersAt s a 31) k n at ≡ refused m
-item-stop s a k f n at r j m h e q = item-no s a (readersAt s a 31) k f n at r j m h e q
+pub item-stop : (s : List ℕ) (a : Book) (k : Slot) (f : Arg k → ℕ) (n : Begun) (at : ℕ) (r : Item) (j m : ℕ) → Reads s a k f at r → r ≡ Item.No j → m ≡ refusalOf r → argAt s a (readersAt s a maxWithin) k n at ≡ refused m
+item-stop s a k f n at r j m h e q = item-no s a (readersAt s a maxWithin) k f n at r j m h e q
 
 -- ---- a value
 pub value-within : (len : ℕ) (r : Value) (v : ℤ) (next : ℕ) → Inside len r → r ≡ Value.Is v next → next ≤ len
@@ -142,13 +142,13 @@ new-name s a R b p at w next e =
     go false y f h z y′ h′ e = let z : _≡_ {A = ℕ} 0 1 = cc in absurd (omega arith)
 
 module _ (s : List ℕ) (a : Book) (p : Pool) (n : Begun) (at : ℕ) (r : Item) (k next : ℕ) (h : Reads s a (new p) length at r) (e : r ≡ Item.Is k next) where
-  pub new-got : argAt s a (readersAt s a 31) (new p) n at ≡ got (slice (at + 1) next s) next
+  pub new-got : argAt s a (readersAt s a maxWithin) (new p) n at ≡ got (slice (at + 1) next s) next
   new-got =
-      let y = item-got length (argAt s a (readersAt s a 31) (new p) n at) r k next (h (readersAt s a 31) n) e in
-      y .1 ∙ ap (λ (w : Name). got w next) (new-name s a (readersAt s a 31) n p at (y .0) next (y .1) .0)
+      let y = item-got length (argAt s a (readersAt s a maxWithin) (new p) n at) r k next (h (readersAt s a maxWithin) n) e in
+      y .1 ∙ ap (λ (w : Name). got w next) (new-name s a (readersAt s a maxWithin) n p at (y .0) next (y .1) .0)
 
   pub new-facts : NewName s a p at next
-  new-facts = new-name s a (readersAt s a 31) n p at (slice (at + 1) next s) next new-got .1
+  new-facts = new-name s a (readersAt s a maxWithin) n p at (slice (at + 1) next s) next new-got .1
 
 -- its place in the pool
 pub new-place : (p : Pool) (n : ℕ) → n < capacity p → poolBase p + n * nameBytes + nameBytes ≤ nameCount
@@ -215,14 +215,14 @@ ended-room s a room l at next e = go (eqb (getD s at 0) 41) room e
 
 -- ---- lines that hold a name and nothing else
 module _ (s : List ℕ) (a : Book) where
-  pub lone-stop : (p : Pool) → HasNameLine p → (at r : ℕ) → argAt s a (readersAt s a 31) (new p) (begunAbove a) at ≡ refused r → lineBody s a (nameLineCode p) at ≡ refused r
+  pub lone-stop : (p : Pool) → HasNameLine p → (at r : ℕ) → argAt s a (readersAt s a maxWithin) (new p) (begunAbove a) at ≡ refused r → lineBody s a (nameLineCode p) at ≡ refused r
   lone-stop nodes o at r e = absurd o
   lone-stop links o at r e = body-is s a linkL at ∙ stop₁ s a (lineRoom s a linkL) (new links) [] (lineFamily .build linkL) (begunAbove a) at r e
   lone-stop types o at r e = body-is s a typeL at ∙ stop₁ s a (lineRoom s a typeL) (new types) [] (lineFamily .build typeL) (begunAbove a) at r e
   lone-stop langs o at r e = body-is s a langL at ∙ stop₁ s a (lineRoom s a langL) (new langs) [] (lineFamily .build langL) (begunAbove a) at r e
   lone-stop shapes o at r e = absurd o
 
-  pub lone-got : (p : Pool) → HasNameLine p → (at : ℕ) (w : Name) (i : ℕ) → argAt s a (readersAt s a 31) (new p) (begunAbove a) at ≡ got w i → lineBody s a (nameLineCode p) at ≡ lineEnd s a true (nameLine p w) i
+  pub lone-got : (p : Pool) → HasNameLine p → (at : ℕ) (w : Name) (i : ℕ) → argAt s a (readersAt s a maxWithin) (new p) (begunAbove a) at ≡ got w i → lineBody s a (nameLineCode p) at ≡ lineEnd s a true (nameLine p w) i
   unfolding lineRoom
   lone-got nodes o at w i e = absurd o
   lone-got links o at w i e = body-is s a linkL at ∙ all₁ s a true (new links) (lineFamily .build linkL) (begunAbove a) at w i e
@@ -270,11 +270,11 @@ node-counted w t c = simp add-zero
 
 -- ---- thing and blank
 module _ (s : List ℕ) (a : Book) where
-  pub resource-stop : (k at r : ℕ) → argAt s a (readersAt s a 31) (new nodes) (begunAbove a) at ≡ refused r → lineBody s a (resourceCode k) at ≡ refused r
+  pub resource-stop : (k at r : ℕ) → argAt s a (readersAt s a maxWithin) (new nodes) (begunAbove a) at ≡ refused r → lineBody s a (resourceCode k) at ≡ refused r
   resource-stop zero at r e = body-is s a thingL at ∙ stop₁ s a (lineRoom s a thingL) (new nodes) [] (lineFamily .build thingL) (begunAbove a) at r e
   resource-stop (suc k) at r e = body-is s a blankL at ∙ stop₁ s a (lineRoom s a blankL) (new nodes) [] (lineFamily .build blankL) (begunAbove a) at r e
 
-  pub resource-got : (k at : ℕ) (w : Name) (i : ℕ) → argAt s a (readersAt s a 31) (new nodes) (begunAbove a) at ≡ got w i → lineBody s a (resourceCode k) at ≡ lineEnd s a true (node w (resourceTerm k)) i
+  pub resource-got : (k at : ℕ) (w : Name) (i : ℕ) → argAt s a (readersAt s a maxWithin) (new nodes) (begunAbove a) at ≡ got w i → lineBody s a (resourceCode k) at ≡ lineEnd s a true (node w (resourceTerm k)) i
   unfolding lineRoom
   resource-got zero at w i e = body-is s a thingL at ∙ all₁ s a true (new nodes) (lineFamily .build thingL) (begunAbove a) at w i e
   resource-got (suc k) at w i e = body-is s a blankL at ∙ all₁ s a true (new nodes) (lineFamily .build blankL) (begunAbove a) at w i e

@@ -10,7 +10,7 @@ use Rattle.model.specs.Books.{Book, Pool, nodes, links}
 use Rattle.model.specs.Rules.{Target}
 use Rattle.encoding.specs.Rows.{targetCode, targetOperand}
 use Rattle.grammar.specs.Syntax.{Args, used, target, TargetCode, nodeC, subjectsC, objectsC, classC, targetFamily}
-use Rattle.grammar.specs.Reading.{Read, got, refused, Readers, Begun, after, argAt, bodyAt, bracketAt, deeper, readersAt}
+use Rattle.grammar.specs.Reading.{maxWithin, Read, got, refused, Readers, Begun, after, argAt, bodyAt, bracketAt, deeper, readersAt}
 use Rattle.itemreader.specs.declared.Head.{Head}
 use Rattle.itemreader.specs.Answers.{headAt, Headed, wordsOf, restAt}
 use Rattle.itemreader.proofs.Heads.{rest-none, rest-got, rest-refused, close-not, close-got, bracket-bare, bracket-refused, bracket-word}
@@ -34,22 +34,22 @@ target-no (refused j) r k p q = cc
 
 -- ---- the head
 module _ (s : List ℕ) (a : Book) (b : Begun) (at : ℕ) where
-  pub target-bare : (getD s at 0 ≡ 32 → ⊥) → argAt s a (readersAt s a 31) target b at ≡ refused 2
+  pub target-bare : (getD s at 0 ≡ 32 → ⊥) → argAt s a (readersAt s a maxWithin) target b at ≡ refused 2
   unfolding argAt
   target-bare n = rw (ne-eqb (getD s at 0) 32 n)
 
   module _ (z : getD s at 0 ≡ 32) where
-    target-spaced : argAt s a (readersAt s a 31) target b at ≡ bracketAt s a targetFamily (readersAt s a 30) false false (λ c. true) (refused 2) b (at + 1)
+    target-spaced : argAt s a (readersAt s a maxWithin) target b at ≡ bracketAt s a targetFamily (readersAt s a 30) false false (λ c. true) (refused 2) b (at + 1)
     unfolding argAt readersAt deeper
     target-spaced = rw (eq-eqb (getD s at 0) 32 z)
 
-    pub target-closed : headAt s (wordsOf targetFamily) false false (at + 1) ≡ Head.Bare → argAt s a (readersAt s a 31) target b at ≡ refused 2
+    pub target-closed : headAt s (wordsOf targetFamily) false false (at + 1) ≡ Head.Bare → argAt s a (readersAt s a maxWithin) target b at ≡ refused 2
     target-closed e = target-spaced ∙ bracket-bare s a targetFamily (readersAt s a 30) false false (λ c. true) (refused 2) b (at + 1) e
 
-    pub target-unknown : (k : ℕ) → headAt s (wordsOf targetFamily) false false (at + 1) ≡ Head.No k → argAt s a (readersAt s a 31) target b at ≡ refused k
+    pub target-unknown : (k : ℕ) → headAt s (wordsOf targetFamily) false false (at + 1) ≡ Head.No k → argAt s a (readersAt s a maxWithin) target b at ≡ refused k
     target-unknown k e = target-spaced ∙ bracket-refused s a targetFamily (readersAt s a 30) false false (λ c. true) (refused 2) b (at + 1) k e
 
-    pub target-word : (k end : ℕ) → headAt s (wordsOf targetFamily) false false (at + 1) ≡ Head.Word k end → argAt s a (readersAt s a 31) target b at ≡ bodyAt s a targetFamily (readersAt s a 30) (λ c. true) (getD (targetFamily .codes) k nodeC) b end
+    pub target-word : (k end : ℕ) → headAt s (wordsOf targetFamily) false false (at + 1) ≡ Head.Word k end → argAt s a (readersAt s a maxWithin) target b at ≡ bodyAt s a targetFamily (readersAt s a 30) (λ c. true) (getD (targetFamily .codes) k nodeC) b end
     target-word k end e = target-spaced ∙ bracket-word s a targetFamily (readersAt s a 30) false false (λ c. true) (refused 2) b (at + 1) k end e .1
 
 -- ---- the name and the closing bracket

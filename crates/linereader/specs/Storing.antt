@@ -16,7 +16,7 @@ use Rattle.tables.specs.Layout.{nameCount, cellCount, valueCount}
 use Rattle.tables.specs.Codes as codes
 use Rattle.encoding.specs.Rows.{nodeRow, targetCode, targetOperand}
 use Rattle.grammar.specs.Syntax.{LineCode, linkL, typeL, langL, thingL, blankL, shapeL, lineFamily}
-use Rattle.grammar.specs.Reading.{Read, got, refused, andThen, closeAt, bodyAt, readersAt, lineRoom, begunAbove}
+use Rattle.grammar.specs.Reading.{maxWithin, Read, got, refused, andThen, closeAt, bodyAt, readersAt, lineRoom, begunAbove}
 use Rattle.stores.specs.Lines.{lineNames, lineCells, lineValues}
 use Rattle.model.specs.declared.Counts.{Counts}
 use Rattle.itemreader.specs.declared.Item.{Item}
@@ -68,7 +68,7 @@ lineEnd s a room l at = andThen (closeAt s a room l at) (endLine s)
 
 -- what follows the word of a line: its arguments, its closing bracket and its LF
 unfoldable pub lineBody : List ℕ → Book → LineCode → ℕ → Read Line
-lineBody s a c at = andThen (bodyAt s a lineFamily (readersAt s a 31) (lineRoom s a) c (begunAbove a) at) (endLine s)
+lineBody s a c at = andThen (bodyAt s a lineFamily (readersAt s a maxWithin) (lineRoom s a) c (begunAbove a) at) (endLine s)
 
 -- ---- answers
 abbrev pub endedWith : Counts → Read Line → LineAnswer

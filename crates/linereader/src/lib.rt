@@ -44,7 +44,7 @@ ghost use Rattle.model.specs.Rules.{Rule};
 ghost use Rattle.model.specs.Limits.{maxNodes, maxRules, maxFacts, maxName, nameBytes};
 ghost use Rattle.tables.specs.Codes as codes;
 ghost use Rattle.grammar.specs.Syntax.{target, numberL, textL, wordsL, factL, ruleL};
-ghost use Rattle.grammar.specs.Reading.{Begun, argAt, readersAt};
+ghost use Rattle.grammar.specs.Reading.{maxWithin, Begun, argAt, readersAt};
 ghost use Rattle.tables.specs.Layout.{cellCount, valueCount, nameCount};
 ghost use Rattle.encoding.specs.Encode.{poolBase};
 ghost use Rattle.stores.specs.Lines.{putName};
@@ -390,7 +390,7 @@ fn operand_pool(k: usize) -> Pool
 // TARGET, a space before it.
 fn read_target(names: &[u8], index: &[u16], counts: Counts, book: &[u8], at: usize) -> TargetAnswer
     requires { ⌜ (at ≤ length (now book)) × (nameCount ≤ length (now names)) × Limits counts × Indexed (now names) counts (now index) ⌝ }
-    ensures { λ r. ⌜ ((a : Book) (b : Begun) → Held (now (names .entry)) counts a → r ≡ targetAnswer (argAt (now (book .entry)) a (readersAt (now (book .entry)) a 31) target b at)) ⌝ }
+    ensures { λ r. ⌜ ((a : Book) (b : Begun) → Held (now (names .entry)) counts a → r ≡ targetAnswer (argAt (now (book .entry)) a (readersAt (now (book .entry)) a maxWithin) target b at)) ⌝ }
     ensures { λ r. ⌜ Targeted maxNodes (length (now (book .entry))) r ⌝ }
 {
     if byte(book, at) != 32 {

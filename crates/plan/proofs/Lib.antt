@@ -1,3 +1,4 @@
+pub mod Codes
 pub mod Complements
 pub mod Contraries
 pub mod Stores

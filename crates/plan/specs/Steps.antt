@@ -28,6 +28,10 @@ pub data Step : Type 0 where
   from into typed : ℕ → Step
   bad : Step
 
+-- the first code that is none of these
+abbrev pub stepUnknown : ℕ
+stepUnknown = 25
+
 -- from a code and four operands
 unfoldable pub stepOf : ℕ → ℕ → ℕ → ℕ → ℕ → Step
 stepOf code a b c d =
@@ -64,4 +68,4 @@ numbersOf (manylang p) = 21 ∷ p ∷ 0 ∷ 0 ∷ 0 ∷ []
 numbersOf (from l) = 22 ∷ l ∷ 0 ∷ 0 ∷ 0 ∷ []
 numbersOf (into l) = 23 ∷ l ∷ 0 ∷ 0 ∷ 0 ∷ []
 numbersOf (typed c) = 24 ∷ c ∷ 0 ∷ 0 ∷ 0 ∷ []
-numbersOf bad = 25 ∷ 0 ∷ 0 ∷ 0 ∷ 0 ∷ []
+numbersOf bad = stepUnknown ∷ 0 ∷ 0 ∷ 0 ∷ 0 ∷ []

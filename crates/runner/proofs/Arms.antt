@@ -5,7 +5,7 @@ use mathlib.Core.Path.{_≡_, refl, sym, ap, _∙_}
 use lib.ListN.{List·getD-eq-default}
 use Rattle.model.specs.declared.NodeNo.{NodeNo}
 use Rattle.model.specs.declared.LinkNo.{LinkNo}
-use Rattle.plan.specs.Steps.{stepOf}
+use Rattle.plan.specs.Steps.{stepOf, stepUnknown}
 use Rattle.plan.specs.Layout.{stepAt, stepCodeAt, stepFirstAt, stepSecondAt, stepThirdAt, stepFourthAt}
 use Rattle.paths.specs.declared.End.{End}
 use Rattle.entries.specs.Tables.{endFor}
@@ -42,14 +42,14 @@ module _ (h : Read) where
   by code = kindOf (stepOf code (h .a) (h .b) (h .lo) (h .hi))
 
   -- an arm, by its code
-  pub arm : (code : ℕ) {r : Kind} → h .code ≡ code → r ≡ by code → r ≡ kindOf (stepAt (h .ps) (h .k))
+  pub arm : {code : ℕ} {r : Kind} → h .code ≡ code → r ≡ by code → r ≡ kindOf (stepAt (h .ps) (h .k))
   unfolding stepAt
-  arm code e q = q ∙ ap by (sym e) ∙ (λ i. kindOf (stepOf (h .same i) (h .first i) (h .second i) (h .third i) (h .fourth i)))
+  arm e q = q ∙ ap by (sym e) ∙ (λ i. kindOf (stepOf (h .same i) (h .first i) (h .second i) (h .third i) (h .fourth i)))
 
   -- an unknown code asks for no node
-  pub arm-unknown : 25 ≤ h .code → Empty ≡ kindOf (stepAt (h .ps) (h .k))
+  pub arm-unknown : stepUnknown ≤ h .code → Empty ≡ kindOf (stepAt (h .ps) (h .k))
   unfolding stepOf kindOf
-  arm-unknown low = arm (h .code) refl (rw List·getD-eq-default)
+  arm-unknown low = arm refl (rw List·getD-eq-default)
 
   -- the operands as node and link
   pub by-node : (f : NodeNo → Kind) → f (h .c) ≡ f (node (h .a))

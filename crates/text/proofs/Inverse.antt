@@ -13,7 +13,7 @@ use lib.ListN.{length, getD, length-append, List·getD-append}
 use Rattle.base.specs.Range.{inRange}
 use Rattle.base.specs.Lists.{allb}
 use Rattle.base.specs.Bytes.{bytes}
-use Rattle.base.proofs.Bools.{bool-cases, and-left, and-right, and-both, or-cases, never-both, same-test}
+use Rattle.base.proofs.Bools.{bool-cases, and-left, and-right, and-both, or-cases, same-test}
 use Rattle.base.proofs.Lists.{allb-append}
 use Rattle.text.specs.Items.{edge}
 use Rattle.text.specs.Decimals.{digitsOf, decimal, signed, digit, valueFrom, isMag, positiveOf, negativeOf, numberOf, boundOf}
@@ -101,9 +101,6 @@ unfolding valueFrom
 value-decimal = decimal-induction (λ n. valueFrom 0 (decimal n) ≡ n)
     (λ n h. rw (decimal-digit n h) (omega arith))
     (λ n h ih. rw (decimal-more n h) (value-snoc 0 (decimal (n / 10)) (48 + n % 10) ∙ rw ih (omega (arith, div-add-mod' n 10))))
-
-pub decimal-injective : (m n : ℕ) → decimal m ≡ decimal n → m ≡ n
-decimal-injective m n e = sym (value-decimal m) ∙ ap (valueFrom 0) e ∙ value-decimal n
 
 digit-low : (d : ℕ) → digit d ≡ true → 48 ≤ d
 unfolding digit
@@ -287,9 +284,6 @@ number-range = out-iff numbers (pos 0)
 pub number-not : (s : List ℕ) → (numberOf s ≡ Number.Not) ↔ ((z : ℤ) → s ≡ signed z → ⊥)
 number-not = none-iff numbers
 
-pub number-signed : (z : ℤ) → inRange z ≡ true → numberOf (signed z) ≡ Number.Value z
-number-signed z e = number-value (signed z) z .1 (refl, e)
-
 -- ---- bounds
 module _ where
   bound-forth : (n : ℕ) → boundOf (decimal n) ≡ cond (leb n maxCount) (Bound.Value n) Bound.Over
@@ -324,9 +318,6 @@ bound-over s =
 pub bound-not : (s : List ℕ) → (boundOf s ≡ Bound.Not) ↔ ((n : ℕ) → s ≡ decimal n → ⊥)
 bound-not = none-iff bounds
 
-pub bound-decimal : (n : ℕ) → n ≤ maxCount → boundOf (decimal n) ≡ Bound.Value n
-bound-decimal n h = bound-value (decimal n) n .1 (refl, h)
-
 -- ---- a decimal is an item
 pub decimal-plain : (n : ℕ) → allb plain (decimal n) ≡ true
 decimal-plain n = digits-plain (decimal n) (decimal-digits n)
@@ -335,13 +326,6 @@ pub signed-plain : (z : ℤ) → allb plain (signed z) ≡ true
 unfolding signed allb edge
 signed-plain (pos n) = decimal-plain n
 signed-plain (negsuc n) = decimal-plain (suc n)
-
-pub signed-injective : (a b : ℤ) → signed a ≡ signed b → a ≡ b
-unfolding signed
-signed-injective (pos m) (pos n) e = ap pos (decimal-injective m n e)
-signed-injective (negsuc m) (negsuc n) e = let t : decimal (suc m) ≡ decimal (suc n) = cc in let q = decimal-injective (suc m) (suc n) t in ap negsuc (omega arith)
-signed-injective (pos m) (negsuc n) e = absurd (never-both (ap (λ (s : List ℕ). eqb (getD s 0 0) 45) e) (no-minus m))
-signed-injective (negsuc m) (pos n) e = absurd (never-both (ap (λ (s : List ℕ). eqb (getD s 0 0) 45) (sym e)) (no-minus n))
 
 -- ---- the edges, computed
 abbrev Cases : Type 0

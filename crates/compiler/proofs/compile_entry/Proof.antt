@@ -1,11 +1,40 @@
+-- `compile_entry` meets its contract, arm by arm.
 use Prim.Native.Nat.{zero-le}
 use mathlib.Core.Path.{refl}
 use denote.Ref.{now}
-use Rattle.tablecheck.proofs.Codes.{next}
-use Rattle.compiler.proofs.Arms.{arm-top, arm-is, arm-shape, arm-conj, arm-disj, arm-neg, arm-test, arm-count, arm-all, arm-equal, arm-apart, arm-closed, arm-less, arm-lesseq, arm-onelang, arm-unknown}
+use Rattle.tables.specs.Codes as codes
+use Rattle.plan.specs.Steps.{numbersOf}
+use Rattle.plan.proofs.Codes.{nots-past}
+use Rattle.compiler.proofs.Arms.{Read, arm-top, arm-is, arm-shape, arm-conj, arm-disj, arm-neg, arm-test, arm-count, arm-all, arm-equal, arm-apart, arm-closed, arm-less, arm-lesseq, arm-onelang, arm-unknown}
 use borrow.Author.Needs.{needs}
 use Rattle.compiler.proofs.compile_entry.Statement.{statement}
 use Rattle.compiler.proofs.compile_entry.Tie as tie
+use Rattle.compiler.proofs.compile_entry.Reads as reads
+use Rattle.compiler.proofs.compile_entry.Lts as lts
+use Rattle.tables.proofs.reads.form_code.Reads as form-code-reads
+use Rattle.compiler.proofs.two.Reads as two-reads
+use Rattle.compiler.proofs.is_steps.Reads as is-steps-reads
+use Rattle.compiler.proofs.same_steps.Reads as same-steps-reads
+use Rattle.compiler.proofs.joined.Reads as joined-reads
+use Rattle.compiler.proofs.swapped.Reads as swapped-reads
+use Rattle.compiler.proofs.count_entry.Reads as count-entry-reads
+use Rattle.compiler.proofs.all_entry.Reads as all-entry-reads
+use Rattle.compiler.proofs.link_steps.Reads as link-steps-reads
+use Rattle.compiler.proofs.own_steps.Reads as own-steps-reads
+use Rattle.compiler.proofs.path_steps.Reads as path-steps-reads
+
+-- what is asked of each callee, and what it tells
+abbrev calls : lts.Claims
+calls = (form-code-reads.Asked, form-code-reads.Learnt, two-reads.Asked, two-reads.Learnt, is-steps-reads.Asked, is-steps-reads.Learnt, same-steps-reads.Asked, same-steps-reads.Learnt, joined-reads.Asked, joined-reads.Learnt, swapped-reads.Asked, swapped-reads.Learnt, count-entry-reads.Asked, count-entry-reads.Learnt, all-entry-reads.Asked, all-entry-reads.Learnt, link-steps-reads.Asked, link-steps-reads.Learnt, own-steps-reads.Asked, own-steps-reads.Learnt, path-steps-reads.Asked, path-steps-reads.Learnt)
+
+-- what is known after the entry's code has been read, which all arms share
+abbrev Place : Type 0
+Place = lts.After-form-code calls reads.Pre reads.Post
+
+abbrev read : Place → Read
+read c =
+    let a = c .before .before .before .before .before .args in
+    record { cs = now (a .cells); ps = now (a .plan); ks = now (a .keeps); bs = now (a .breaks); e = a .e; n = a .n; code = c .form-code .result; same = c .form-code .ensures }
 
 form-code-requires : tie.Need-form-code-requires
 form-code-requires c κs = search needs
@@ -59,88 +88,97 @@ same-length : tie.Need-same-length
 same-length c = search needs
 
 returns : tie.Need-returns
-returns c = let a = c .before .before .before .before .before .before .before .before .before .before .args in arm-top (now (a .cells)) (now (a .plan)) (c .before .before .two .last .0) (now (a .keeps)) (now (a .breaks)) (a .e) (a .n) (c .before .before .before .before .before .form-code .result) (c .before .before .two .result .next) (c .before .before .two .result .keep) (c .before .before .two .result .breaking) (c .before .before .before .before .before .form-code .ensures) (c .before .before .before .before .match .keys1) (c .before .before .two .ensures)
+unfolding numbersOf
+returns c = arm-top (read (c .before .before .before .before .before)) (c .before .before .two .last .0) (c .before .before .two .result) (c .before .before .before .before .match .keys1) (c .before .before .two .ensures)
 
 same-length-2 : tie.Need-same-length-2
 same-length-2 c = search needs
 
 returns-2 : tie.Need-returns-2
-returns-2 c = let a = c .before .before .before .before .before .before .before .before .before .before .args in arm-is (now (a .cells)) (now (a .plan)) (c .before .before .is-steps .last .0) (now (a .keeps)) (now (a .breaks)) (a .e) (a .n) (c .before .before .before .before .before .form-code .result) (c .before .before .is-steps .result .next) (c .before .before .is-steps .result .keep) (c .before .before .is-steps .result .breaking) (c .before .before .before .before .before .form-code .ensures) (c .before .before .before .before .match .keys2) (c .before .before .is-steps .ensures)
+returns-2 c = arm-is (read (c .before .before .before .before .before)) (c .before .before .is-steps .last .0) (c .before .before .is-steps .result) (c .before .before .before .before .match .keys2) (c .before .before .is-steps .ensures)
 
 returns-3 : tie.Need-returns-3
-returns-3 c = let a = c .before .before .before .before .before .before .before .args in arm-shape (now (a .cells)) (now (a .plan)) (now (a .plan)) (now (a .keeps)) (now (a .breaks)) (a .e) (a .n) (c .before .before .form-code .result) (c .same-steps .result .next) (c .same-steps .result .keep) (c .same-steps .result .breaking) (c .before .before .form-code .ensures) (c .before .match .keys3) refl (c .same-steps .ensures .0) (c .same-steps .ensures .1) (c .same-steps .ensures .2)
+returns-3 c = arm-shape (read (c .before .before)) (read (c .before .before) .ps) (c .same-steps .result) (c .before .match .keys3) refl (c .same-steps .ensures .0) (c .same-steps .ensures .1) (c .same-steps .ensures .2)
 
 same-length-3 : tie.Need-same-length-3
 same-length-3 c = search needs
 
 returns-4 : tie.Need-returns-4
-returns-4 c = let a = c .before .before .before .before .before .before .before .before .before .before .args in arm-conj (now (a .cells)) (now (a .plan)) (c .before .before .joined .last .0) (now (a .keeps)) (now (a .breaks)) (a .e) (a .n) (c .before .before .before .before .before .form-code .result) (c .before .before .joined .result .next) (c .before .before .joined .result .keep) (c .before .before .joined .result .breaking) (c .before .before .before .before .before .form-code .ensures) (c .before .before .before .before .match .keys4) (c .before .before .joined .ensures)
+unfolding numbersOf
+returns-4 c = arm-conj (read (c .before .before .before .before .before)) (c .before .before .joined .last .0) (c .before .before .joined .result) (c .before .before .before .before .match .keys4) (c .before .before .joined .ensures)
 
 same-length-4 : tie.Need-same-length-4
 same-length-4 c = search needs
 
 returns-5 : tie.Need-returns-5
-returns-5 c = let a = c .before .before .before .before .before .before .before .before .before .before .args in arm-disj (now (a .cells)) (now (a .plan)) (c .before .before .joined2 .last .0) (now (a .keeps)) (now (a .breaks)) (a .e) (a .n) (c .before .before .before .before .before .form-code .result) (c .before .before .joined2 .result .next) (c .before .before .joined2 .result .keep) (c .before .before .joined2 .result .breaking) (c .before .before .before .before .before .form-code .ensures) (c .before .before .before .before .match .keys5) (c .before .before .joined2 .ensures)
+unfolding numbersOf
+returns-5 c = arm-disj (read (c .before .before .before .before .before)) (c .before .before .joined2 .last .0) (c .before .before .joined2 .result) (c .before .before .before .before .match .keys5) (c .before .before .joined2 .ensures)
 
 returns-6 : tie.Need-returns-6
-returns-6 c = let a = c .before .before .before .before .before .before .before .args in arm-neg (now (a .cells)) (now (a .plan)) (now (a .plan)) (now (a .keeps)) (now (a .breaks)) (a .e) (a .n) (c .before .before .form-code .result) (c .swapped .result .next) (c .swapped .result .keep) (c .swapped .result .breaking) (c .before .before .form-code .ensures) (c .before .match .keys6) refl (c .swapped .ensures .0) (c .swapped .ensures .1) (c .swapped .ensures .2)
+returns-6 c = arm-neg (read (c .before .before)) (read (c .before .before) .ps) (c .swapped .result) (c .before .match .keys6) refl (c .swapped .ensures .0) (c .swapped .ensures .1) (c .swapped .ensures .2)
 
 same-length-5 : tie.Need-same-length-5
 same-length-5 c = search needs
 
 returns-7 : tie.Need-returns-7
-returns-7 c = let a = c .before .before .before .before .before .before .before .before .before .before .args in arm-count (now (a .cells)) (now (a .plan)) (c .before .before .count-entry .last .0) (now (a .keeps)) (now (a .breaks)) (a .e) (a .n) (c .before .before .before .before .before .form-code .result) (c .before .before .count-entry .result .next) (c .before .before .count-entry .result .keep) (c .before .before .count-entry .result .breaking) (c .before .before .before .before .before .form-code .ensures) (c .before .before .before .before .match .keys7) (c .before .before .count-entry .ensures)
+returns-7 c = arm-count (read (c .before .before .before .before .before)) (c .before .before .count-entry .last .0) (c .before .before .count-entry .result) (c .before .before .before .before .match .keys7) (c .before .before .count-entry .ensures)
 
 same-length-6 : tie.Need-same-length-6
 same-length-6 c = search needs
 
 returns-8 : tie.Need-returns-8
-returns-8 c = let a = c .before .before .before .before .before .before .before .before .before .before .args in arm-all (now (a .cells)) (now (a .plan)) (c .before .before .all-entry .last .0) (now (a .keeps)) (now (a .breaks)) (a .e) (a .n) (c .before .before .before .before .before .form-code .result) (c .before .before .all-entry .result .next) (c .before .before .all-entry .result .keep) (c .before .before .all-entry .result .breaking) (c .before .before .before .before .before .form-code .ensures) (c .before .before .before .before .match .keys8) (c .before .before .all-entry .ensures)
+returns-8 c = arm-all (read (c .before .before .before .before .before)) (c .before .before .all-entry .last .0) (c .before .before .all-entry .result) (c .before .before .before .before .match .keys8) (c .before .before .all-entry .ensures)
 
 same-length-7 : tie.Need-same-length-7
 same-length-7 c = search needs
 
 returns-9 : tie.Need-returns-9
-returns-9 c = let a = c .before .before .before .before .before .before .before .before .before .before .args in arm-equal (now (a .cells)) (now (a .plan)) (c .before .before .link-steps .last .0) (now (a .keeps)) (now (a .breaks)) (a .e) (a .n) (c .before .before .before .before .before .form-code .result) (c .before .before .link-steps .result .next) (c .before .before .link-steps .result .keep) (c .before .before .link-steps .result .breaking) (c .before .before .before .before .before .form-code .ensures) (c .before .before .before .before .match .keys9) (c .before .before .link-steps .ensures)
+unfolding numbersOf
+returns-9 c = arm-equal (read (c .before .before .before .before .before)) (c .before .before .link-steps .last .0) (c .before .before .link-steps .result) (c .before .before .before .before .match .keys9) (c .before .before .link-steps .ensures)
 
 same-length-8 : tie.Need-same-length-8
 same-length-8 c = search needs
 
 returns-10 : tie.Need-returns-10
-returns-10 c = let a = c .before .before .before .before .before .before .before .before .before .before .args in arm-apart (now (a .cells)) (now (a .plan)) (c .before .before .link-steps2 .last .0) (now (a .keeps)) (now (a .breaks)) (a .e) (a .n) (c .before .before .before .before .before .form-code .result) (c .before .before .link-steps2 .result .next) (c .before .before .link-steps2 .result .keep) (c .before .before .link-steps2 .result .breaking) (c .before .before .before .before .before .form-code .ensures) (c .before .before .before .before .match .keys10) (c .before .before .link-steps2 .ensures)
+unfolding numbersOf
+returns-10 c = arm-apart (read (c .before .before .before .before .before)) (c .before .before .link-steps2 .last .0) (c .before .before .link-steps2 .result) (c .before .before .before .before .match .keys10) (c .before .before .link-steps2 .ensures)
 
 same-length-9 : tie.Need-same-length-9
 same-length-9 c = search needs
 
 returns-11 : tie.Need-returns-11
-returns-11 c = let a = c .before .before .before .before .before .before .before .before .before .before .args in arm-closed (now (a .cells)) (now (a .plan)) (c .before .before .own-steps .last .0) (now (a .keeps)) (now (a .breaks)) (a .e) (a .n) (c .before .before .before .before .before .form-code .result) (c .before .before .own-steps .result .next) (c .before .before .own-steps .result .keep) (c .before .before .own-steps .result .breaking) (c .before .before .before .before .before .form-code .ensures) (c .before .before .before .before .match .keys11) (c .before .before .own-steps .ensures)
+unfolding numbersOf
+returns-11 c = arm-closed (read (c .before .before .before .before .before)) (c .before .before .own-steps .last .0) (c .before .before .own-steps .result) (c .before .before .before .before .match .keys11) (c .before .before .own-steps .ensures)
 
 same-length-10 : tie.Need-same-length-10
 same-length-10 c = search needs
 
 returns-12 : tie.Need-returns-12
-returns-12 c = let a = c .before .before .before .before .before .before .before .before .before .before .args in arm-less (now (a .cells)) (now (a .plan)) (c .before .before .link-steps3 .last .0) (now (a .keeps)) (now (a .breaks)) (a .e) (a .n) (c .before .before .before .before .before .form-code .result) (c .before .before .link-steps3 .result .next) (c .before .before .link-steps3 .result .keep) (c .before .before .link-steps3 .result .breaking) (c .before .before .before .before .before .form-code .ensures) (c .before .before .before .before .match .keys12) (c .before .before .link-steps3 .ensures)
+unfolding numbersOf
+returns-12 c = arm-less (read (c .before .before .before .before .before)) (c .before .before .link-steps3 .last .0) (c .before .before .link-steps3 .result) (c .before .before .before .before .match .keys12) (c .before .before .link-steps3 .ensures)
 
 same-length-11 : tie.Need-same-length-11
 same-length-11 c = search needs
 
 returns-13 : tie.Need-returns-13
-returns-13 c = let a = c .before .before .before .before .before .before .before .before .before .before .args in arm-lesseq (now (a .cells)) (now (a .plan)) (c .before .before .link-steps4 .last .0) (now (a .keeps)) (now (a .breaks)) (a .e) (a .n) (c .before .before .before .before .before .form-code .result) (c .before .before .link-steps4 .result .next) (c .before .before .link-steps4 .result .keep) (c .before .before .link-steps4 .result .breaking) (c .before .before .before .before .before .form-code .ensures) (c .before .before .before .before .match .keys13) (c .before .before .link-steps4 .ensures)
+unfolding numbersOf
+returns-13 c = arm-lesseq (read (c .before .before .before .before .before)) (c .before .before .link-steps4 .last .0) (c .before .before .link-steps4 .result) (c .before .before .before .before .match .keys13) (c .before .before .link-steps4 .ensures)
 
 same-length-12 : tie.Need-same-length-12
 same-length-12 c = search needs
 
 returns-14 : tie.Need-returns-14
-returns-14 c = let a = c .before .before .before .before .before .before .before .before .before .before .args in arm-onelang (now (a .cells)) (now (a .plan)) (c .before .before .path-steps .last .0) (now (a .keeps)) (now (a .breaks)) (a .e) (a .n) (c .before .before .before .before .before .form-code .result) (c .before .before .path-steps .result .next) (c .before .before .path-steps .result .keep) (c .before .before .path-steps .result .breaking) (c .before .before .before .before .before .form-code .ensures) (c .before .before .before .before .match .keys14) (c .before .before .path-steps .ensures)
+returns-14 c = arm-onelang (read (c .before .before .before .before .before)) (c .before .before .path-steps .last .0) (c .before .before .path-steps .result) (c .before .before .before .before .match .keys14) (c .before .before .path-steps .ensures)
 
 same-length-13 : tie.Need-same-length-13
 same-length-13 c = search needs
 
 returns-15 : tie.Need-returns-15
-returns-15 c = let a = c .before .before .before .before .before .before .before .before .before .before .before .args in arm-test (now (a .cells)) (now (a .plan)) (c .before .before .own-steps2 .last .0) (now (a .keeps)) (now (a .breaks)) (a .e) (a .n) (c .before .before .before .before .before .before .form-code .result) (c .before .before .own-steps2 .result .next) (c .before .before .own-steps2 .result .keep) (c .before .before .own-steps2 .result .breaking) (c .before .before .before .before .before .before .form-code .ensures) (next 5 (c .before .before .before .before .before .before .form-code .result) (next 4 (c .before .before .before .before .before .before .form-code .result) (next 3 (c .before .before .before .before .before .before .form-code .result) (next 2 (c .before .before .before .before .before .before .form-code .result) (next 1 (c .before .before .before .before .before .before .form-code .result) (next 0 (c .before .before .before .before .before .before .form-code .result) zero-le (c .before .before .before .before .before .match .rest .0 .0 .0 .0 .0 .0 .0 .0 .0 .0 .0 .0 .0 .1)) (c .before .before .before .before .before .match .rest .0 .0 .0 .0 .0 .0 .0 .0 .0 .0 .0 .0 .1)) (c .before .before .before .before .before .match .rest .0 .0 .0 .0 .0 .0 .0 .0 .0 .0 .0 .1)) (c .before .before .before .before .before .match .rest .0 .0 .0 .0 .0 .0 .0 .0 .0 .0 .1)) (c .before .before .before .before .before .match .rest .0 .0 .0 .0 .0 .0 .0 .0 .0 .1)) (c .before .before .before .before .before .match .rest .0 .0 .0 .0 .0 .0 .0 .0 .1)) (c .before .before .before .before .if1 .taken) (c .before .before .own-steps2 .ensures)
+unfolding numbersOf
+returns-15 c = arm-test (read (c .before .before .before .before .before .before)) (c .before .before .own-steps2 .last .0) (c .before .before .own-steps2 .result) (nots-past _ (c .before .before .before .before .before .before .form-code .result) 0 codes.formKind zero-le (c .before .before .before .before .before .match .rest .0 .0 .0 .0 .0 .0 .0 .0)) (c .before .before .before .before .if1 .taken) (c .before .before .own-steps2 .ensures)
 
 returns-16 : tie.Need-returns-16
-returns-16 c = let a = c .before .before .before .before .before .before .before .args in arm-unknown (now (a .cells)) (now (a .plan)) (now (a .plan)) (now (a .keeps)) (now (a .breaks)) (a .e) (a .n) (c .before .before .form-code .result) (a .n) 0 0 (c .before .before .form-code .ensures) (next 20 (c .before .before .form-code .result) (next 19 (c .before .before .form-code .result) (next 18 (c .before .before .form-code .result) (next 17 (c .before .before .form-code .result) (next 16 (c .before .before .form-code .result) (next 15 (c .before .before .form-code .result) (next 14 (c .before .before .form-code .result) (next 13 (c .before .before .form-code .result) (c .if1 .left) (c .before .match .rest .0 .0 .0 .0 .0 .0 .0 .1)) (c .before .match .rest .0 .0 .0 .0 .0 .0 .1)) (c .before .match .rest .0 .0 .0 .0 .0 .1)) (c .before .match .rest .0 .0 .0 .0 .1)) (c .before .match .rest .0 .0 .0 .1)) (c .before .match .rest .0 .0 .1)) (c .before .match .rest .0 .1)) (c .before .match .rest .1)) refl refl refl refl
+returns-16 c = arm-unknown (read (c .before .before)) (read (c .before .before) .ps) (record { next = read (c .before .before) .n; keep = 0; breaking = 0 }) (nots-past _ (c .before .before .form-code .result) codes.formCount 8 (c .if1 .left) (c .before .match .rest)) refl refl refl refl
 
 pub compile-entry-spec : {M : Type 1} → statement M
 compile-entry-spec =

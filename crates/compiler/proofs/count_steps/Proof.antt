@@ -1,4 +1,5 @@
 use denote.Ref.{now}
+use Rattle.plan.specs.Steps.{numbersOf}
 use Rattle.compiler.proofs.Laws.{count-none, count-high, count-low, count-both}
 use borrow.Author.Needs.{needs}
 use Rattle.compiler.proofs.count_steps.Statement.{statement}
@@ -29,6 +30,7 @@ same-length : tie.Need-same-length
 same-length c = search needs
 
 returns : tie.Need-returns
+unfolding numbersOf
 returns c = let a = c .before .before .before .before .before .before .before .before .before .before .before .before .before .args in count-none (now (a .plan)) (c .before .before .before .before .before .before .before .before .put-step .last .0) (c .before .before .put-step2 .last .0) (a .n) (a .p) (a .j) (a .lo) (a .hi) (c .before .before .before .before .before .before .before .before .before .before .before .narrow .result) (c .before .before .before .before .before .before .before .before .before .before .narrow2 .result) (c .before .before .before .before .before .before .before .before .put-step .ensures) (c .before .before .before .before .before .before .before .before .before .before .before .narrow .ensures) (c .before .before .before .before .before .if1 .taken) (c .before .before .before .before .if2 .taken) (c .before .before .put-step2 .ensures) (c .before .before .before .before .before .before .before .before .before .before .narrow2 .ensures)
 
 add-put-step-3 : tie.Need-add-put-step-3
@@ -44,6 +46,7 @@ same-length-2 : tie.Need-same-length-2
 same-length-2 c = search needs
 
 returns-2 : tie.Need-returns-2
+unfolding numbersOf
 returns-2 c = let a = c .before .before .before .before .before .before .before .before .before .before .before .before .before .args in count-high (now (a .plan)) (c .before .before .before .before .before .before .before .before .put-step .last .0) (c .before .before .put-step3 .last .0) (a .n) (a .p) (a .j) (a .lo) (a .hi) (c .before .before .before .before .before .before .before .before .before .before .before .narrow .result) (c .before .before .before .before .before .before .before .before .before .before .narrow2 .result) (c .before .before .before .before .before .before .before .before .put-step .ensures) (c .before .before .before .before .before .before .before .before .before .before .before .narrow .ensures) (c .before .before .before .before .before .if1 .taken) (c .before .before .before .before .if2 .left) (c .before .before .put-step3 .ensures) (c .before .before .before .before .before .before .before .before .before .before .narrow2 .ensures)
 
 add-put-step-5 : tie.Need-add-put-step-5
@@ -59,6 +62,7 @@ same-length-3 : tie.Need-same-length-3
 same-length-3 c = search needs
 
 returns-3 : tie.Need-returns-3
+unfolding numbersOf
 returns-3 c = let a = c .before .before .before .before .before .before .before .before .before .before .before .before .before .args in count-low (now (a .plan)) (c .before .before .before .before .before .before .before .before .put-step .last .0) (c .before .before .before .put-step4 .last .0) (a .n) (a .p) (a .j) (a .lo) (a .hi) (c .before .before .before .before .before .before .before .before .before .before .before .narrow .result) (c .before .before .before .before .before .before .before .before .before .before .narrow2 .result) (c .before .before .before .before .before .before .before .before .put-step .ensures) (c .before .before .before .before .before .before .before .before .before .before .before .narrow .ensures) (c .before .before .before .before .before .if1 .left) (c .if3 .taken) (c .before .before .before .put-step4 .ensures) (c .before .before .before .before .before .before .before .before .before .before .narrow2 .ensures)
 
 add-put-step-6 : tie.Need-add-put-step-6
@@ -95,6 +99,7 @@ same-length-4 : tie.Need-same-length-4
 same-length-4 c = search needs
 
 returns-4 : tie.Need-returns-4
+unfolding numbersOf
 returns-4 c = let a = c .before .before .before .before .before .before .before .before .before .before .before .before .before .before .before .before .before .before .before .before .before .before .before .args in count-both (now (a .plan)) (c .before .before .before .before .before .before .before .before .before .before .before .before .before .before .before .before .before .before .put-step .last .0) (c .before .before .before .before .before .before .before .before .before .before .before .before .before .put-step4 .last .0) (a .n) (a .p) (a .j) (a .lo) (a .hi) (c .before .before .before .before .before .before .before .before .before .before .before .before .before .before .before .before .before .before .before .before .before .narrow .result) (c .narrow4 .result) (c .before .before .before .before .before .before .before .before .before .before .before .before .before .before .before .before .before .before .put-step .ensures) (c .before .before .before .before .before .before .before .before .before .before .before .before .before .before .before .before .before .before .before .before .before .narrow .ensures) (c .before .before .before .before .before .before .before .before .put-step5 .last .0) (c .before .before .before .put-step6 .last .0) (c .before .before .before .before .before .before .before .before .before .before .before .before .before .before .before .before .before .before .before .before .narrow2 .result) (c .before .before .before .before .narrow3 .result) (c .before .before .before .before .before .before .before .before .before .before .before .before .before .before .before .if1 .left) (c .before .before .before .before .before .before .before .before .before .before .if3 .left) (c .before .before .before .before .before .before .before .before .before .before .before .before .before .put-step4 .ensures) (c .before .before .before .before .before .before .before .before .put-step5 .ensures) (c .before .before .before .put-step6 .ensures) (c .before .before .before .before .before .before .before .before .before .before .before .before .before .before .before .before .before .before .before .before .narrow2 .ensures) (c .before .before .before .before .narrow3 .ensures) (c .narrow4 .ensures)
 
 pub count-steps-spec : {M : Type 1} → statement M

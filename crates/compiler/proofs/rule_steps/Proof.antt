@@ -3,6 +3,7 @@ use mathlib.Core.Path.{ap, _∙_}
 use denote.Ref.{now}
 use lib.ListN.{getD, length-set}
 use Rattle.tables.specs.Layout.{rootAt, ruleShapeAt}
+use Rattle.plan.specs.Steps.{numbersOf}
 use Rattle.compiler.specs.Stores.{ruleStored}
 use Rattle.compiler.proofs.Loops.{rule-law}
 use borrow.Author.Needs.{needs}
@@ -52,6 +53,7 @@ same-length : tie.Need-same-length
 same-length c = length-set (c .before .before .before .put-step .last .0) _ _ ∙ c .before .before .before .put-step .kept .0 ∙ c .before .before .before .before .before .before .before .before .target-step .kept .0
 
 returns : tie.Need-returns
+unfolding numbersOf
 returns c = let a = c .before .before .before .before .before .before .before .before .before .before .before .before .before .before .before .before .before .args in let k = c .before .before .before .before .before .before .before .before .before .before .before .before .before .wide .result in rule-law (now (a .cells)) (now (a .plan)) (c .before .before .before .before .before .before .before .before .target-step .last .0) (c .before .before .before .put-step .last .0) k (a .n) (c .before .before .before .before .narrow .result) (c .before .before .before .before .before .before .before .before .before .before .cell .result) (getD (now (a .breaks)) (rootAt (now (a .cells)) (ruleShapeAt (now (a .cells)) k)) 0) (c .narrow2 .result) (c .before .before .before .before .before .before .before .before .target-step .ensures) (c .before .before .before .put-step .ensures) (c .before .before .before .before .narrow .ensures) (c .before .before .before .before .before .before .before .before .before .before .cell .ensures ∙ ap (λ (i : ℕ). getD (now (a .breaks)) i 0) (c .before .before .before .before .before .before .before .before .before .before .before .root .ensures ∙ ap (rootAt (now (a .cells))) (c .before .before .before .before .before .before .before .before .before .before .before .before .rule-shape .ensures))) (c .narrow2 .ensures) ∙ ap (λ (i : ℕ). ruleStored (now (a .cells)) (now (a .plan)) i (a .n) (getD (now (a .breaks)) (rootAt (now (a .cells)) (ruleShapeAt (now (a .cells)) i)) 0)) (c .before .before .before .before .before .before .before .before .before .before .before .before .before .wide .ensures)
 
 pub rule-steps-spec : {M : Type 1} → statement M

@@ -6,6 +6,7 @@ use native.Mathlib.Omega.{arith}
 use native.Mathlib.Nat.{add-zero}
 use Rattle.grammar.specs.Syntax.{path}
 use Rattle.grammar.specs.Reading.{readersAt}
+use Rattle.tables.specs.Codes as codes
 use Rattle.stores.specs.Entries.{putForm}
 use Rattle.itemreader.proofs.Heads.{rest-refused}
 use Rattle.pathreader.proofs.Paths.{done-refused, path-got, grown-is}
@@ -65,7 +66,7 @@ returns-2 c =
       λ a h b q vs.
           let g = path-got m next (r .ensures .0 a h b (q ∙ sym (add-zero (s .n .paths)))) (j .1) in
           form-is (rest-one (s .book .now) a (readersAt (s .book .now) a (s .left)) path uniqueLang b (s .at) (g .tree) next (g .is))
-          (closed-form (s .book .now) next (record { forms = s .n .forms; paths = m; items = s .n .items }) a (putForm (s .n .forms) 20 (m - 1) 0 0 0 mid) mid (onelang-closes (s .n) (s .cells .now) vs m (g .tree) mid (g .count) (g .cells)) (o .ensures .0) (o .ensures .1 .0)),
+          (closed-form (s .book .now) next (record { forms = s .n .forms; paths = m; items = s .n .items }) a (putForm (s .n .forms) codes.formOnelang (m - 1) 0 0 0 mid) mid (onelang-closes (s .n) (s .cells .now) vs m (g .tree) mid (g .count) (g .cells)) (o .ensures .0) (o .ensures .1 .0)),
       (rw (o .ensures .0) (closed-within (s .book .now) next (record { forms = s .n .forms; paths = m; items = s .n .items }) (s .n .forms) (s .up) (omega arith) (p .3) (omega arith) (p .5)), o .ensures .1 .1 ∙ r .ensures .1 .1),
     )
 

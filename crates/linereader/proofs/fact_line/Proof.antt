@@ -3,7 +3,7 @@ use mathlib.Core.List.{[], _∷_}
 use native.Mathlib.Omega.{arith}
 use Rattle.model.specs.Books.{fact, nodes, links}
 use Rattle.grammar.specs.Syntax.{subject, used, factL, lineFamily}
-use Rattle.grammar.specs.Reading.{argAt, after, readersAt, lineRoom, begunAbove}
+use Rattle.grammar.specs.Reading.{maxWithin, argAt, after, readersAt, lineRoom, begunAbove}
 use Rattle.model.specs.declared.Counts.{Counts}
 use Rattle.itemreader.specs.Answers.{same}
 use Rattle.itemreader.proofs.Items.{below-is, number-got}
@@ -39,7 +39,7 @@ returns c =
     let k = c .before .enum-told .given in
     let m = c .refusal .result in
     λ a vs h kinds.
-    let R = readersAt S a 31 in
+    let R = readersAt S a maxWithin in
     let b = begunAbove a in
     done-no a (s .counts) (lineBody S a factL (s .at)) _ m (s .names .now) (s .cells .now) vs (body-is S a factL (s .at) ∙ stop₁ S a (lineRoom S a factL) subject (used links ∷ used nodes ∷ []) (lineFamily .build factL) b (s .at) m (item-stop S a subject same b (s .at) (r₁ .result) (k .0 .0) m (r₁ .ensures .0 a h kinds) (k .1) (c .refusal .ensures))) refl
 
@@ -70,7 +70,7 @@ returns-2 c =
     let k = c .before .enum-told2 .given in
     let m = c .refusal2 .result in
     λ a vs h kinds.
-    let R = readersAt S a 31 in
+    let R = readersAt S a maxWithin in
     let b = begunAbove a in
     let e₁ = number-got (argAt S a R subject b (s .at)) (r₁ .result) (u₁ .0 .0) (u₁ .0 .1 .0) (r₁ .ensures .0 a h kinds R b) (u₁ .1) in
     let b₁ = after subject (u₁ .0 .0) b in
@@ -105,7 +105,7 @@ returns-3 c =
     let k = c .before .enum-told3 .given in
     let m = c .refusal3 .result in
     λ a vs h kinds.
-    let R = readersAt S a 31 in
+    let R = readersAt S a maxWithin in
     let b = begunAbove a in
     let e₁ = number-got (argAt S a R subject b (s .at)) (r₁ .result) (u₁ .0 .0) (u₁ .0 .1 .0) (r₁ .ensures .0 a h kinds R b) (u₁ .1) in
     let b₁ = after subject (u₁ .0 .0) b in
@@ -142,7 +142,7 @@ returns-4 c =
     let f = c .before .before .before .with-fact in
     let k = c .enum-told5 .given in
     λ a vs h kinds.
-    let R = readersAt S a 31 in
+    let R = readersAt S a maxWithin in
     let b = begunAbove a in
     let e₁ = number-got (argAt S a R subject b (s .at)) (r₁ .result) (u₁ .0 .0) (u₁ .0 .1 .0) (r₁ .ensures .0 a h kinds R b) (u₁ .1) in
     let b₁ = after subject (u₁ .0 .0) b in
@@ -206,7 +206,7 @@ returns-5 c =
     let f = c .before .before .before .before .before .before .before .with-fact in
     let k = c .before .before .before .before .enum-told4 .given in
     λ a vs h kinds.
-    let R = readersAt S a 31 in
+    let R = readersAt S a maxWithin in
     let b = begunAbove a in
     let e₁ = number-got (argAt S a R subject b (s .at)) (r₁ .result) (u₁ .0 .0) (u₁ .0 .1 .0) (r₁ .ensures .0 a h kinds R b) (u₁ .1) in
     let b₁ = after subject (u₁ .0 .0) b in

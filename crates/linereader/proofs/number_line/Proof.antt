@@ -9,7 +9,7 @@ use lib.Seq.{slice}
 use Rattle.model.specs.Graph.{numeric}
 use Rattle.model.specs.Books.{node, nodes}
 use Rattle.grammar.specs.Syntax.{new, literalType, value, numberL, lineFamily}
-use Rattle.grammar.specs.Reading.{argAt, after, readersAt, lineRoom, begunAbove}
+use Rattle.grammar.specs.Reading.{maxWithin, argAt, after, readersAt, lineRoom, begunAbove}
 use Rattle.encoding.specs.Rows.{nodeRow}
 use Rattle.itemreader.specs.Answers.{same}
 use Rattle.itemreader.proofs.Items.{below-is, number-got, value-got, value-refused}
@@ -119,7 +119,7 @@ returns-3 c =
     let k = c .before .k .given in
     λ a h.
     let w = slice (s .at + 1) (u .0 .1 .0) S in
-    let R = readersAt S a 31 in
+    let R = readersAt S a maxWithin in
     let b = begunAbove a in
     let b₁ = after (new nodes) w b in
     let b₂ = after literalType (v .0 .0) b₁ in
@@ -152,7 +152,7 @@ returns-4 c =
     let o = c .before .before .before .before .before .node-end in
     λ a h.
     let w = slice (s .at + 1) (u .0 .1 .0) S in
-    let R = readersAt S a 31 in
+    let R = readersAt S a maxWithin in
     let b = begunAbove a in
     let b₁ = after (new nodes) w b in
     let b₂ = after literalType (v .0 .0) b₁ in

@@ -4,7 +4,7 @@ use lib.ListN.{length}
 use Rattle.text.proofs.Parts.{inside}
 use Rattle.model.specs.Books.{Pool}
 use Rattle.grammar.specs.Syntax.{used}
-use Rattle.grammar.specs.Reading.{argAt, readersAt}
+use Rattle.grammar.specs.Reading.{maxWithin, argAt, readersAt}
 use Rattle.itemreader.specs.Answers.{poolOf, same}
 use Rattle.itemreader.proofs.Items.{below-is, number-got, count-limit}
 use Rattle.linereader.specs.Storing.{targetAnswer}
@@ -50,7 +50,7 @@ read-used-requires c κs =
     let t = c .before .before .before .before .target-head in
     let k = c .before .before .k2 .given in
     let p = c .before .before .before .before .before .before .before .before .before .before .pre in
-    (headed-is 4 31 (length (s .book .now)) (t .result) (k .0 .0) (k .0 .1 .0) (t .ensures .1) (k .1) .2, p .1, p .2, p .3)
+    (headed-is 4 maxWithin (length (s .book .now)) (t .result) (k .0 .0) (k .0 .1 .0) (t .ensures .1) (k .1) .2, p .1, p .2, p .3)
 
 enum-known-used : tie.Need-enum-known-used
 enum-known-used c = search needs
@@ -68,7 +68,7 @@ returns-2 c =
     let z = sym (c .before .before .before .before .before .before .before .before .before .before .byte .ensures) ∙ c .before .before .before .before .before .before .before .before .before .if1 .left in
     let t = c .before .before .before .before .before .before .before .before .target-head in
     let k = c .before .before .before .before .before .before .k2 .given in
-    let w = headed-is 4 31 (length S) (t .result) (k .0 .0) (k .0 .1 .0) (t .ensures .1) (k .1) in
+    let w = headed-is 4 maxWithin (length S) (t .result) (k .0 .0) (k .0 .1 .0) (t .ensures .1) (k .1) in
     let p = c .before .before .before .before .operand-pool in
     let r = c .before .before .before .read-used in
     let n = c .before .enum-told2 .given in
@@ -85,7 +85,7 @@ returns-3 c =
     let z = sym (c .before .before .before .before .before .before .before .before .before .before .before .before .byte .ensures) ∙ c .before .before .before .before .before .before .before .before .before .before .before .if1 .left in
     let t = c .before .before .before .before .before .before .before .before .before .before .target-head in
     let k = c .before .before .before .before .before .before .before .before .k2 .given in
-    let w = headed-is 4 31 (length S) (t .result) (k .0 .0) (k .0 .1 .0) (t .ensures .1) (k .1) in
+    let w = headed-is 4 maxWithin (length S) (t .result) (k .0 .0) (k .0 .1 .0) (t .ensures .1) (k .1) in
     let p = c .before .before .before .before .before .before .operand-pool in
     let r = c .before .before .before .before .before .read-used in
     let u = c .before .before .before .used .given in
@@ -96,7 +96,7 @@ cast-t21 c =
     let s = c .before .before .before .before .before .before .before .before .before .before .before .before .before .before .before .before .args in
     let t = c .before .before .before .before .before .before .before .before .before .before .target-head in
     let k = c .before .before .before .before .before .before .before .before .k2 .given in
-    let w = headed-is 4 31 (length (s .book .now)) (t .result) (k .0 .0) (k .0 .1 .0) (t .ensures .1) (k .1) .0 in
+    let w = headed-is 4 maxWithin (length (s .book .now)) (t .result) (k .0 .0) (k .0 .1 .0) (t .ensures .1) (k .1) .0 in
     omega arith
 
 add-t22 : tie.Need-add-t22
@@ -130,7 +130,7 @@ returns-6 c =
     let z = sym (c .before .before .before .before .before .before .before .before .before .before .before .before .byte .ensures) ∙ c .before .before .before .before .before .before .before .before .before .before .before .if1 .left in
     let t = c .before .before .before .before .before .before .before .before .before .before .target-head in
     let k = c .before .before .before .before .before .before .before .before .k2 .given in
-    let w = headed-is 4 31 (length S) (t .result) (k .0 .0) (k .0 .1 .0) (t .ensures .1) (k .1) in
+    let w = headed-is 4 maxWithin (length S) (t .result) (k .0 .0) (k .0 .1 .0) (t .ensures .1) (k .1) in
     let p = c .before .before .before .before .before .before .operand-pool in
     let r = c .before .before .before .before .before .read-used in
     let u = c .before .before .before .used .given in

@@ -9,7 +9,7 @@ use Rattle.model.specs.Rules.{Rule, targetNode}
 use Rattle.model.specs.Books.{rule, shapes}
 use Rattle.model.specs.Limits.{maxRules}
 use Rattle.grammar.specs.Syntax.{used, target, ruleL, lineFamily}
-use Rattle.grammar.specs.Reading.{argAt, after, readersAt, lineRoom, begunAbove}
+use Rattle.grammar.specs.Reading.{maxWithin, argAt, after, readersAt, lineRoom, begunAbove}
 use Rattle.stores.specs.Lines.{lineNames, lineValues}
 use Rattle.model.specs.declared.Counts.{Counts}
 use Rattle.itemreader.specs.Answers.{same}
@@ -81,7 +81,7 @@ returns-2 c =
     let o = c .before .before .line-end in
     let k = c .enum-told3 .given in
     λ a vs h.
-    let R = readersAt S a 31 in
+    let R = readersAt S a maxWithin in
     let b = begunAbove a in
     let b₁ = after (used shapes) (u .0 .0) b in
     let e = number-got (argAt S a R (used shapes) b (s .at)) (r .result) (u .0 .0) (u .0 .1 .0) (r .ensures .0 a h R b) (u .1) in
@@ -135,7 +135,7 @@ returns-3 c =
     let r₂ = c .before .before .before .read-target in
     let k = c .before .k .given in
     λ a vs h.
-    let R = readersAt S a 31 in
+    let R = readersAt S a maxWithin in
     let b = begunAbove a in
     let b₁ = after (used shapes) (u .0 .0) b in
     let e = number-got (argAt S a R (used shapes) b (s .at)) (r .result) (u .0 .0) (u .0 .1 .0) (r .ensures .0 a h R b) (u .1) in
@@ -158,7 +158,7 @@ returns-4 c =
     let o = c .before .before .before .before .before .before .line-end in
     let k = c .before .before .before .before .enum-told2 .given in
     λ a vs h.
-    let R = readersAt S a 31 in
+    let R = readersAt S a maxWithin in
     let b = begunAbove a in
     let b₁ = after (used shapes) (u .0 .0) b in
     let e = number-got (argAt S a R (used shapes) b (s .at)) (r .result) (u .0 .0) (u .0 .1 .0) (r .ensures .0 a h R b) (u .1) in

@@ -3,7 +3,6 @@ use Prim.Native.Nat.{suc, _-_, _<_}
 use mathlib.Core.Path.{_≡_, sym, ap, _∙_}
 use native.Mathlib.Omega.{arith}
 use denote.Ref.{now}
-use lib.ListN.{getD}
 use mathlib.Core.Bool.{true}
 use Rattle.tables.specs.Layout.{nodeCount, factCount, ruleCount}
 use Rattle.tables.proofs.WellFormed as tables
@@ -61,7 +60,7 @@ put-rule-requires c κs =
     let k = c .before .before .before .before .before .before .before .before .before .args .k in
     let wf = tables.sound (now (c .before .before .before .before .before .before .before .before .before .args .cells)) (q .4) in
     let next : k ≡ suc (k - 1) = omega (arith, c .before .before .if1 .left) in
-    let low : k - 1 < getD (now (c .before .before .before .before .before .before .before .before .before .args .cells)) 9 0 = omega (arith, next, c .before .if2 .left, c .before .before .before .rule-count .ensures) in
+    let low : k - 1 < ruleCount (now (c .before .before .before .before .before .before .before .before .before .args .cells)) = omega (arith, next, c .before .if2 .left, c .before .before .before .rule-count .ensures) in
     let ok : rowOk (now (c .before .before .before .before .before .before .before .before .before .args .cells)) (now (c .before .before .before .before .before .before .before .before .before .args .lists)) (now (c .before .before .before .before .before .before .before .before .before .args .lengths)) (k - 1) ≡ true = sym (ok-rule (now (c .before .before .before .before .before .before .before .before .before .args .cells)) (now (c .before .before .before .before .before .before .before .before .before .args .lists)) (now (c .before .before .before .before .before .before .before .before .before .args .lengths)) k (k - 1) next low) ∙ q .5 in
     (q .0, q .1, q .2, q .3, omega (arith, low, wf .rules), row-short (now (c .before .before .before .before .before .before .before .before .before .args .cells)) (now (c .before .before .before .before .before .before .before .before .before .args .lists)) (now (c .before .before .before .before .before .before .before .before .before .args .lengths)) (k - 1) ok, row-below (now (c .before .before .before .before .before .before .before .before .before .args .cells)) (now (c .before .before .before .before .before .before .before .before .before .args .lists)) (now (c .before .before .before .before .before .before .before .before .before .args .lengths)) (k - 1) ok (wf .nodes))
 

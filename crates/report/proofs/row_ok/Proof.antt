@@ -3,10 +3,11 @@ use Prim.Native.Nat.{ℕ, _+_, _-_, _*_}
 use mathlib.Core.Path.{sym, ap, _∙_}
 use native.Mathlib.Omega.{arith}
 use denote.Ref.{now}
-use lib.ListN.{getD, take, drop}
+use lib.ListN.{take, drop}
 use lib.Dec.{ltb}
 use Rattle.base.specs.Lists.{allb}
 use Rattle.model.specs.Limits.{maxNodes}
+use Rattle.tables.specs.Layout.{nodeCount}
 use Rattle.report.proofs.Parts.{row-long, row-test, row-lent}
 use Rattle.report.proofs.row_ok.Statement.{statement}
 use Rattle.report.proofs.row_ok.Tie as tie
@@ -54,7 +55,7 @@ returns-2 c =
     let a = c .before .before .before .before .before .before .before .before .before .args in
     let n = c .before .before .before .before .wide in
     c .all-below .ensures ∙ ap (λ (k : ℕ). allb (λ v. ltb v k) (take (maxNodes * a .r + n .result - maxNodes * a .r) (drop (maxNodes * a .r) (now (a .lists))))) (c .before .node-count .ensures)
-    ∙ ap (allb (λ v. ltb v (getD (now (a .cells)) 0 0))) (row-lent (now (a .lists)) (now (a .lengths)) (a .r) (n .result) (n .ensures))
+    ∙ ap (allb (λ v. ltb v (nodeCount (now (a .cells))))) (row-lent (now (a .lists)) (now (a .lengths)) (a .r) (n .result) (n .ensures))
     ∙ row-test (now (a .cells)) (now (a .lists)) (now (a .lengths)) (a .r) (omega (arith, c .before .before .before .if1 .left, n .ensures))
 
 pub row-ok-spec : {M : Type 1} → statement M

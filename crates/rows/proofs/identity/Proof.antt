@@ -5,12 +5,13 @@ use native.Mathlib.Omega.{arith}
 use lib.ListN.{length}
 use borrow.Author.Needs.{needs}
 use Rattle.nodeset.specs.Words.{wordsOf}
+use Rattle.model.specs.Limits.{maxNodes}
 use Rattle.rows.proofs.Columns.{targets, targets-none, targets-more, targets-all}
 use Rattle.rows.proofs.identity.Statement.{statement}
 use Rattle.rows.proofs.identity.Tie as tie
 
 abbrev Inv-loop : tie.InvT-loop
-Inv-loop t₀ j k₀ t k = (k ≤ 64) × (length t ≡ length t₀) × (t ≡ wordsOf (targets j k) 1024)
+Inv-loop t₀ j k₀ t k = (k ≤ 64) × (length t ≡ length t₀) × (t ≡ wordsOf (targets j k) maxNodes)
 
 abbrev μ-loop : tie.MeasureT-loop
 μ-loop t₀ j k₀ t k = 64 - k

@@ -5,7 +5,8 @@ use native.Mathlib.Omega.{arith}
 use lib.ListN.{length, set}
 use borrow.Author.Needs.{needs}
 use Rattle.nodeset.specs.Words.{wordsOf}
-use Rattle.rows.proofs.Columns.{stored, stored-none, stored-more, stored-all}
+use Rattle.rows.specs.Rows.{stored}
+use Rattle.rows.proofs.Columns.{stored-none, stored-more, stored-all}
 use Rattle.rows.proofs.store_column.Statement.{statement}
 use Rattle.rows.proofs.store_column.Tie as tie
 

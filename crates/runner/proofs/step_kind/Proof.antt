@@ -1,13 +1,14 @@
 -- `step_kind` meets its contract, arm by arm.
+use Prim.Native.Nat.{zero-le}
 use mathlib.Core.Path.{refl}
 use denote.Ref.{now}
-use Rattle.plan.specs.Steps.{stepOf}
+use Rattle.plan.specs.Steps.{stepOf, stepUnknown}
+use Rattle.plan.proofs.Codes.{nots-past}
 use Rattle.paths.specs.declared.End.{End}
 use Rattle.stepsets.specs.declared.Condition.the-variants.{Is, IsNot, Equal, Unequal, Apart, Meet, Less, NotLess, LessEq, NotLessEq}
 use Rattle.stepsets.specs.declared.Target.the-variants.{From, Into, Typed}
 use Rattle.runner.specs.declared.Kind.the-variants.{Node, Ends, Facts}
 use Rattle.runner.specs.Kinds.{kindOf}
-use Rattle.runner.proofs.Codes.{nots-le}
 use Rattle.runner.proofs.Arms.{Read, arm, arm-unknown, by-node, by-link, by-second, by-ends}
 use borrow.Author.Needs.{needs}
 use Rattle.runner.proofs.step_kind.Statement.{statement}
@@ -85,106 +86,106 @@ step-code-requires c κs = search needs
 
 returns : tie.Need-returns
 unfolding stepOf kindOf
-returns c = arm (read (c .before)) 0 (c .match .keys1) refl
+returns c = arm (read (c .before)) (c .match .keys1) refl
 
 returns-2 : tie.Need-returns-2
 unfolding stepOf kindOf
-returns-2 c = arm (read (c .before)) 1 (c .match .keys2) refl
+returns-2 c = arm (read (c .before)) (c .match .keys2) refl
 
 returns-3 : tie.Need-returns-3
 unfolding stepOf kindOf
-returns-3 c = arm (read (c .before)) 2 (c .match .keys3) (by-node (read (c .before)) (λ x. Node (Is x)))
+returns-3 c = arm (read (c .before)) (c .match .keys3) (by-node (read (c .before)) (λ x. Node (Is x)))
 
 returns-4 : tie.Need-returns-4
 unfolding stepOf kindOf
-returns-4 c = arm (read (c .before)) 3 (c .match .keys4) (by-node (read (c .before)) (λ x. Node (IsNot x)))
+returns-4 c = arm (read (c .before)) (c .match .keys4) (by-node (read (c .before)) (λ x. Node (IsNot x)))
 
 returns-5 : tie.Need-returns-5
 unfolding stepOf kindOf
-returns-5 c = arm (read (c .before)) 4 (c .match .keys5) refl
+returns-5 c = arm (read (c .before)) (c .match .keys5) refl
 
 returns-6 : tie.Need-returns-6
 unfolding stepOf kindOf
-returns-6 c = arm (read (c .before)) 5 (c .match .keys6) refl
+returns-6 c = arm (read (c .before)) (c .match .keys6) refl
 
 returns-7 : tie.Need-returns-7
 unfolding stepOf kindOf
-returns-7 c = arm (read (c .before)) 6 (c .match .keys7) refl
+returns-7 c = arm (read (c .before)) (c .match .keys7) refl
 
 returns-8 : tie.Need-returns-8
 unfolding stepOf kindOf
-returns-8 c = arm (read (c .before)) 7 (c .match .keys8) refl
+returns-8 c = arm (read (c .before)) (c .match .keys8) refl
 
 returns-9 : tie.Need-returns-9
 unfolding stepOf kindOf
-returns-9 c = arm (read (c .before)) 8 (c .match .keys9) refl
+returns-9 c = arm (read (c .before)) (c .match .keys9) refl
 
 returns-10 : tie.Need-returns-10
 unfolding stepOf kindOf
-returns-10 c = arm (read (c .before)) 9 (c .match .keys10) refl
+returns-10 c = arm (read (c .before)) (c .match .keys10) refl
 
 returns-11 : tie.Need-returns-11
 unfolding stepOf kindOf
-returns-11 c = arm (read (c .before)) 10 (c .match .keys11) (by-ends (read (c .before)) (Ends Equal))
+returns-11 c = arm (read (c .before)) (c .match .keys11) (by-ends (read (c .before)) (Ends Equal))
 
 returns-12 : tie.Need-returns-12
 unfolding stepOf kindOf
-returns-12 c = arm (read (c .before)) 11 (c .match .keys12) (by-ends (read (c .before)) (Ends Unequal))
+returns-12 c = arm (read (c .before)) (c .match .keys12) (by-ends (read (c .before)) (Ends Unequal))
 
 returns-13 : tie.Need-returns-13
 unfolding stepOf kindOf
-returns-13 c = arm (read (c .before)) 12 (c .match .keys13) (by-ends (read (c .before)) (Ends Apart))
+returns-13 c = arm (read (c .before)) (c .match .keys13) (by-ends (read (c .before)) (Ends Apart))
 
 returns-14 : tie.Need-returns-14
 unfolding stepOf kindOf
-returns-14 c = arm (read (c .before)) 13 (c .match .keys14) (by-ends (read (c .before)) (Ends Meet))
+returns-14 c = arm (read (c .before)) (c .match .keys14) (by-ends (read (c .before)) (Ends Meet))
 
 returns-15 : tie.Need-returns-15
 unfolding stepOf kindOf
-returns-15 c = arm (read (c .before)) 14 (c .match .keys15) refl
+returns-15 c = arm (read (c .before)) (c .match .keys15) refl
 
 returns-16 : tie.Need-returns-16
 unfolding stepOf kindOf
-returns-16 c = arm (read (c .before)) 15 (c .match .keys16) refl
+returns-16 c = arm (read (c .before)) (c .match .keys16) refl
 
 returns-17 : tie.Need-returns-17
 unfolding stepOf kindOf
-returns-17 c = arm (read (c .before)) 16 (c .match .keys17) (by-second (read (c .before)) (λ x. Ends Less (End.Path (c .before .before .before .before .before .before .before .before .before .step-first .result)) x))
+returns-17 c = arm (read (c .before)) (c .match .keys17) (by-second (read (c .before)) (λ x. Ends Less (End.Path (c .before .before .before .before .before .before .before .before .before .step-first .result)) x))
 
 returns-18 : tie.Need-returns-18
 unfolding stepOf kindOf
-returns-18 c = arm (read (c .before)) 17 (c .match .keys18) (by-second (read (c .before)) (λ x. Ends NotLess (End.Path (c .before .before .before .before .before .before .before .before .before .step-first .result)) x))
+returns-18 c = arm (read (c .before)) (c .match .keys18) (by-second (read (c .before)) (λ x. Ends NotLess (End.Path (c .before .before .before .before .before .before .before .before .before .step-first .result)) x))
 
 returns-19 : tie.Need-returns-19
 unfolding stepOf kindOf
-returns-19 c = arm (read (c .before)) 18 (c .match .keys19) (by-second (read (c .before)) (λ x. Ends LessEq (End.Path (c .before .before .before .before .before .before .before .before .before .step-first .result)) x))
+returns-19 c = arm (read (c .before)) (c .match .keys19) (by-second (read (c .before)) (λ x. Ends LessEq (End.Path (c .before .before .before .before .before .before .before .before .before .step-first .result)) x))
 
 returns-20 : tie.Need-returns-20
 unfolding stepOf kindOf
-returns-20 c = arm (read (c .before)) 19 (c .match .keys20) (by-second (read (c .before)) (λ x. Ends NotLessEq (End.Path (c .before .before .before .before .before .before .before .before .before .step-first .result)) x))
+returns-20 c = arm (read (c .before)) (c .match .keys20) (by-second (read (c .before)) (λ x. Ends NotLessEq (End.Path (c .before .before .before .before .before .before .before .before .before .step-first .result)) x))
 
 returns-21 : tie.Need-returns-21
 unfolding stepOf kindOf
-returns-21 c = arm (read (c .before)) 20 (c .match .keys21) refl
+returns-21 c = arm (read (c .before)) (c .match .keys21) refl
 
 returns-22 : tie.Need-returns-22
 unfolding stepOf kindOf
-returns-22 c = arm (read (c .before)) 21 (c .match .keys22) refl
+returns-22 c = arm (read (c .before)) (c .match .keys22) refl
 
 returns-23 : tie.Need-returns-23
 unfolding stepOf kindOf
-returns-23 c = arm (read (c .before)) 22 (c .match .keys23) (by-link (read (c .before)) (λ x. Facts (From x)))
+returns-23 c = arm (read (c .before)) (c .match .keys23) (by-link (read (c .before)) (λ x. Facts (From x)))
 
 returns-24 : tie.Need-returns-24
 unfolding stepOf kindOf
-returns-24 c = arm (read (c .before)) 23 (c .match .keys24) (by-link (read (c .before)) (λ x. Facts (Into x)))
+returns-24 c = arm (read (c .before)) (c .match .keys24) (by-link (read (c .before)) (λ x. Facts (Into x)))
 
 returns-25 : tie.Need-returns-25
 unfolding stepOf kindOf
-returns-25 c = arm (read (c .before)) 24 (c .match .keys25) (by-node (read (c .before)) (λ x. Facts (Typed x)))
+returns-25 c = arm (read (c .before)) (c .match .keys25) (by-node (read (c .before)) (λ x. Facts (Typed x)))
 
 returns-26 : tie.Need-returns-26
-returns-26 c = arm-unknown (read (c .before)) (nots-le 25 (c .before .step-code .result) (c .match .rest))
+returns-26 c = arm-unknown (read (c .before)) (nots-past _ (c .before .step-code .result) 0 stepUnknown zero-le (c .match .rest))
 
 pub step-kind-spec : {M : Type 1} → statement M
 step-kind-spec =
