@@ -62,4 +62,3 @@ cells-start =
 
 pub values-start : encodeValues [] ≡ replicate valueCount (pos 0)
 values-start = ext-getD (pos 0) (encodeValues []) (replicate valueCount (pos 0)) (values-length [] ∙ sym (length-replicate valueCount (pos 0))) (λ i _. values-empty i ∙ sym (same-everywhere (pos 0) valueCount i))
-

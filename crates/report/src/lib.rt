@@ -5,6 +5,7 @@ use lists::LIST_PLACES;
 use model::MAX_NAME;
 use model::MAX_NODES;
 use model::NAME_BYTES;
+use model::NodeNo;
 use model::Refusal;
 use model::code;
 use model::line;
@@ -86,14 +87,15 @@ fn put_number(page: &mut [u8], at: usize, n: usize) -> usize
 }
 
 // How many bytes the stored name of node v has.
-fn name_length(names: &[u8], v: usize) -> usize
-    requires { ⌜ (v < maxNodes) × (nameCount ≤ length (now names)) ⌝ }
-    ensures { λ r. ⌜ take r (drop (nameBytes * v) (now (names .entry))) ≡ nameIn (now (names .entry)) v ⌝ }
+fn name_length(names: &[u8], v: NodeNo) -> usize
+    requires { ⌜ (v .0 < maxNodes) × (nameCount ≤ length (now names)) ⌝ }
+    ensures { λ r. ⌜ take r (drop (nameBytes * (v .0)) (now (names .entry))) ≡ nameIn (now (names .entry)) (v .0) ⌝ }
     ensures { λ r. ⌜ r ≤ maxName ⌝ }
 {
+    let first = NAME_BYTES * (v.0 as usize);
     let mut j = 0;
     while j < MAX_NAME {
-        if names[NAME_BYTES * v + j] == 0 {
+        if names[first + j] == 0 {
             return j;
         }
         j += 1;
@@ -102,22 +104,22 @@ fn name_length(names: &[u8], v: usize) -> usize
 }
 
 // A space and the name of node v.
-fn put_name(page: &mut [u8], at: usize, names: &[u8], v: usize) -> usize
-    requires { ⌜ (at + (maxName + 1) ≤ length (now page)) × (v < maxNodes) × (nameCount ≤ length (now names)) ⌝ }
-    ensures { λ r. ⌜ Put (now (page .entry)) (now (page .exit)) at (32 ∷ nameIn (now (names .entry)) v) r ⌝ }
+fn put_name(page: &mut [u8], at: usize, names: &[u8], v: NodeNo) -> usize
+    requires { ⌜ (at + (maxName + 1) ≤ length (now page)) × (v .0 < maxNodes) × (nameCount ≤ length (now names)) ⌝ }
+    ensures { λ r. ⌜ Put (now (page .entry)) (now (page .exit)) at (32 ∷ nameIn (now (names .entry)) (v .0)) r ⌝ }
     ensures { λ r. ⌜ r ≤ at + (maxName + 1) ⌝ }
 {
     let start = put_bytes(page, at, b" ");
     let n = name_length(names, v);
-    let first = NAME_BYTES * v;
+    let first = NAME_BYTES * (v.0 as usize);
     let last = first + n;
     put_bytes(page, start, &names[first..last])
 }
 
 // The line of node v under rule r.
-fn put_break(page: &mut [u8], at: usize, r: usize, names: &[u8], v: usize) -> usize
-    requires { ⌜ (at + breakBytes ≤ length (now page)) × (r < maxRules) × (v < maxNodes) × (nameCount ≤ length (now names)) ⌝ }
-    ensures { λ end. ⌜ Put (now (page .entry)) (now (page .exit)) at (breakLine r (nameIn (now (names .entry)) v)) end ⌝ }
+fn put_break(page: &mut [u8], at: usize, r: usize, names: &[u8], v: NodeNo) -> usize
+    requires { ⌜ (at + breakBytes ≤ length (now page)) × (r < maxRules) × (v .0 < maxNodes) × (nameCount ≤ length (now names)) ⌝ }
+    ensures { λ end. ⌜ Put (now (page .entry)) (now (page .exit)) at (breakLine r (nameIn (now (names .entry)) (v .0))) end ⌝ }
     ensures { λ end. ⌜ end ≤ at + breakBytes ⌝ }
 {
     let word = put_bytes(page, at, b"(breaks");
@@ -134,7 +136,7 @@ fn put_breaks(page: &mut [u8], names: &[u8], list: &[u16], r: usize) -> usize
     let mut at = 0;
     let mut i = 0;
     while i < list.len() {
-        at = put_break(page, at, r, names, wide(list[i]));
+        at = put_break(page, at, r, names, NodeNo(list[i]));
         i += 1;
     }
     at

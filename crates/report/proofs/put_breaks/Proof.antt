@@ -26,22 +26,19 @@ abbrev μ-loop : tie.MeasureT-loop
 loop-holds : tie.Need-loop-holds Inv-loop μ-loop
 loop-holds c = let a = c .before .before .before .args in (omega arith, omega arith, refl, put-as (lines-none (a .r)) (put-none (now (a .page)) 0 (omega arith)))
 
-mul-wide : tie.Need-mul-wide Inv-loop μ-loop
-mul-wide c = search needs
+mul-t7 : tie.Need-mul-t7 Inv-loop μ-loop
+mul-t7 c = search needs
 
-shared-slice-read-wide : tie.Need-shared-slice-read-wide Inv-loop μ-loop
-shared-slice-read-wide c = search needs
-
-wide-requires : tie.Need-wide-requires Inv-loop μ-loop
-wide-requires c κs = search needs
+shared-slice-read-t12 : tie.Need-shared-slice-read-t12 Inv-loop μ-loop
+shared-slice-read-t12 c = search needs
 
 put-break-requires : tie.Need-put-break-requires Inv-loop μ-loop
 put-break-requires c κs =
-    let a = c .before .before .before .before .before .before .before .before .args in
-    let q = c .before .before .before .before .before .before .before .before .pre in
-    let l = c .before .before .before .before .loop in
-    let low = ltb-true (getD (now (a .list)) (l .i) 0) maxNodes (allb-at (λ v. ltb v maxNodes) (now (a .list)) 0 (q .3) (l .i) (c .before .before .before .loop-test .taken)) in
-    (omega (arith, l .inv .0, l .inv .1, l .inv .2, q .0, q .2, c .before .before .before .loop-test .taken), q .4, omega (arith, low, c .wide .ensures), q .1)
+    let a = c .before .before .before .before .before .before .before .args in
+    let q = c .before .before .before .before .before .before .before .pre in
+    let l = c .before .before .before .loop in
+    let low = ltb-true (getD (now (a .list)) (l .i) 0) maxNodes (allb-at (λ v. ltb v maxNodes) (now (a .list)) 0 (q .3) (l .i) (c .before .before .loop-test .taken)) in
+    (omega (arith, l .inv .0, l .inv .1, l .inv .2, q .0, q .2, c .before .before .loop-test .taken), q .4, low, q .1)
 
 add-i : tie.Need-add-i Inv-loop μ-loop
 add-i c = search needs
@@ -51,12 +48,10 @@ loop-less c = search needs
 
 loop-again : tie.Need-loop-again Inv-loop μ-loop
 loop-again c =
-    let a = c .before .before .before .before .before .before .before .before .before .before .before .args in
-    let l = c .before .before .before .before .before .before .before .loop in
+    let a = c .before .before .before .before .before .before .before .before .before .before .args in
+    let l = c .before .before .before .before .before .before .loop in
     let p = c .before .before .put-break .ensures in
-    let v = c .before .before .before .wide in
-    let line : breakLine (a .r) (nameIn (now (a .names)) (v .result)) ≡ breakLine (a .r) (nameIn (now (a .names)) (getD (now (a .list)) (l .i) 0)) = ap (λ (x : ℕ). breakLine (a .r) (nameIn (now (a .names)) x)) (v .ensures) in
-    (omega (arith, c .before .before .before .before .before .before .loop-test .taken), omega (arith, l .inv .1, p .1), put-length (p .0) ∙ l .inv .2, put-as (lines-more (a .r) (nameIn (now (a .names))) (now (a .list)) (l .i) (c .before .before .before .before .before .before .loop-test .taken)) (put-then (l .inv .3) (put-as line (p .0))))
+    (omega (arith, c .before .before .before .before .before .loop-test .taken), omega (arith, l .inv .1, p .1), put-length (p .0) ∙ l .inv .2, put-as (lines-more (a .r) (nameIn (now (a .names))) (now (a .list)) (l .i) (c .before .before .before .before .before .loop-test .taken)) (put-then (l .inv .3) (p .0)))
 
 same-length : tie.Need-same-length Inv-loop μ-loop
 same-length c = search needs
@@ -74,9 +69,8 @@ put-breaks-spec =
     Inv-loop
     μ-loop
     loop-holds
-    mul-wide
-    shared-slice-read-wide
-    wide-requires
+    mul-t7
+    shared-slice-read-t12
     put-break-requires
     add-i
     loop-less

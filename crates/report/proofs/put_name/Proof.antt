@@ -19,6 +19,9 @@ put-bytes-requires c κs = search needs
 name-length-requires : tie.Need-name-length-requires
 name-length-requires c κs = search needs
 
+cast-first : tie.Need-cast-first
+cast-first c = search needs
+
 mul-first : tie.Need-mul-first
 mul-first c = search needs
 
@@ -42,13 +45,13 @@ same-length c = search needs
 
 returns : tie.Need-returns
 returns c =
-    let a = c .before .before .before .before .before .before .before .before .before .before .before .before .before .args in
-    let n = c .before .before .before .before .before .name-length in
-    let first = c .before .before .before .before .before .before .before .before .put-bytes .ensures in
+    let a = c .before .before .before .before .before .before .before .before .before .before .before .before .before .before .args in
+    let n = c .before .before .before .before .before .before .name-length in
+    let first = c .before .before .before .before .before .before .before .before .before .put-bytes .ensures in
     let last = c .before .before .put-bytes2 .ensures in
-    let same : nameBytes * a .v + n .result - nameBytes * a .v ≡ n .result = omega arith in
-    let name : take (nameBytes * a .v + n .result - nameBytes * a .v) (drop (nameBytes * a .v) (now (a .names))) ≡ nameIn (now (a .names)) (a .v) = ap (λ (k : ℕ). take k (drop (nameBytes * a .v) (now (a .names)))) same ∙ n .ensures .0 in
-    (put-then first (put-as name last), omega (arith, first .ends, last .ends, same, n .ensures .1, length-take (nameBytes * a .v + n .result - nameBytes * a .v) (drop (nameBytes * a .v) (now (a .names)))))
+    let same : nameBytes * a .v .0 + n .result - nameBytes * a .v .0 ≡ n .result = omega arith in
+    let name : take (nameBytes * a .v .0 + n .result - nameBytes * a .v .0) (drop (nameBytes * a .v .0) (now (a .names))) ≡ nameIn (now (a .names)) (a .v .0) = ap (λ (k : ℕ). take k (drop (nameBytes * a .v .0) (now (a .names)))) same ∙ n .ensures .0 in
+    (put-then first (put-as name last), omega (arith, first .ends, last .ends, same, n .ensures .1, length-take (nameBytes * a .v .0 + n .result - nameBytes * a .v .0) (drop (nameBytes * a .v .0) (now (a .names)))))
 
 pub put-name-spec : {M : Type 1} → statement M
 put-name-spec =
@@ -57,6 +60,7 @@ put-name-spec =
     slice-aggregate-put-bytes
     put-bytes-requires
     name-length-requires
+    cast-first
     mul-first
     add-last
     sub-put-bytes
