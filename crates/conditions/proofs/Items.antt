@@ -28,7 +28,7 @@ use Rattle.plan.proofs.Complements.{not-closed}
 use Rattle.model.specs.Limits.{maxNodes, maxLinks}
 use Rattle.model.specs.Shapes.{onlyListed}
 use Rattle.conditions.specs.Pairs.{linkWords, unlisted}
-use Rattle.conditions.specs.Searches.{first, found, nothing}
+use Rattle.conditions.specs.Searches.{first, before, found, nothing}
 use Rattle.conditions.proofs.Searches.{kept, first-found}
 
 pub some-miss : (p : ℕ → Bool) (i : ℕ) → some p i ≡ false → p i ≡ false → some p (i + 1) ≡ false
@@ -134,7 +134,8 @@ module _ (cs index : List ℕ) (t : Tables cs index) (listed : ℕ → Bool) (v 
   unfolding unlisted
   up-to n e = ap (first (unlisted cs listed v)) e ∙ sym (first-last (subjectAt cs) v (unlisted cs listed v) n (λ i l h. eqb-true (subjectAt cs i) v (and-left (eqb (subjectAt cs i) v) (not (listed (predicateAt cs i))) h)))
 
-  pub sought-first : {next : ℕ} → next ≡ chainOf index v → Sought cs listed v next Option.none
+  pub sought-first : {next : ℕ} → next ≡ chainOf index v → Sought cs listed v next (before 0)
+  unfolding before
   sought-first {next} e = record {
     low = subst (λ (k : ℕ). k ≤ factCount cs) (sym last) (last-le (subjectAt cs) v (factCount cs));
     own = λ i q. last-key (subjectAt cs) v (factCount cs) i (sym last ∙ q);
@@ -144,7 +145,7 @@ module _ (cs index : List ℕ) (t : Tables cs index) (listed : ℕ → Bool) (v 
       last : next ≡ lastWith (subjectAt cs) v (factCount cs)
       last = walk-begins (subjectAt cs) (factCount cs) maxNodes subjectHeads subjectNexts (t .subjects) (λ i l. omega (arith, sound cs (t .ok) .subject i l, sound cs (t .ok) .nodes)) v refl e
 
-  module _ {next after : ℕ} (i : ℕ) {yes : Bool} {answer new : Option ℕ} (s : Sought cs listed v next answer) (q : next ≡ suc i) (ey : yes ≡ not (listed (predicateAt cs i))) (en : new ≡ cond yes (Option.some i) answer) (ea : after ≡ getD index (subjectNexts + i) 0) where
+  module _ {next after new : ℕ} (lowest i : ℕ) {yes : Bool} (s : Sought cs listed v next (before lowest)) (q : next ≡ suc i) (ey : yes ≡ listed (predicateAt cs i)) (en : new ≡ cond yes lowest next) (ea : after ≡ getD index (subjectNexts + i) 0) where
     here : i < factCount cs
     here = omega (arith, s .low)
 
@@ -155,17 +156,25 @@ module _ (cs index : List ℕ) (t : Tables cs index) (listed : ℕ → Bool) (v 
     last = walk-next (subjectAt cs) (factCount cs) maxNodes subjectHeads subjectNexts (t .subjects) v i here (s .own i q) ea
 
     -- what fact i adds
-    pub sought-more : Sought cs listed v after new
+    found-here : before new ≡ cond (not yes) (Option.some i) (before lowest)
+    unfolding before
+    found-here = ap before (en ∙ ap (cond yes lowest) q) ∙ which yes
+      where
+        which : (b : Bool) → before (cond b lowest (suc i)) ≡ cond (not b) (Option.some i) (before lowest)
+        which true = refl
+        which false = refl
+
+    pub sought-more : Sought cs listed v after (before new)
     unfolding first unlisted
     sought-more = record {
       low = omega (arith, here, sought-falls);
       own = λ j r. last-key (subjectAt cs) v i j (sym last ∙ r);
-      rest = ap₂ orElse (up-to i last) en ∙ step yes ∙ ap (λ (b : Bool). orElse (orElse (first (unlisted cs listed v) i) (cond b (Option.some i) Option.none)) answer) (ey ∙ ap (λ (b : Bool). b && not (listed (predicateAt cs i))) (sym (eq-eqb (subjectAt cs i) v (s .own i q)))) ∙ ap (λ (k : ℕ). orElse (first (unlisted cs listed v) k) answer) (sym q) ∙ s .rest;
+      rest = ap₂ orElse (up-to i last) found-here ∙ step (not yes) ∙ ap (λ (b : Bool). orElse (orElse (first (unlisted cs listed v) i) (cond b (Option.some i) Option.none)) (before lowest)) (ap not ey ∙ ap (λ (b : Bool). b && not (listed (predicateAt cs i))) (sym (eq-eqb (subjectAt cs i) v (s .own i q)))) ∙ ap (λ (k : ℕ). orElse (first (unlisted cs listed v) k) (before lowest)) (sym q) ∙ s .rest;
     }
       where
-        step : (b : Bool) → orElse (first (unlisted cs listed v) i) (cond b (Option.some i) answer) ≡ orElse (orElse (first (unlisted cs listed v) i) (cond b (Option.some i) Option.none)) answer
-        step true = sym (some-kept (first (unlisted cs listed v) i) i answer)
-        step false = ap (λ (o : Option ℕ). orElse o answer) (sym (or-none (first (unlisted cs listed v) i)))
+        step : (b : Bool) → orElse (first (unlisted cs listed v) i) (cond b (Option.some i) (before lowest)) ≡ orElse (orElse (first (unlisted cs listed v) i) (cond b (Option.some i) Option.none)) (before lowest)
+        step true = sym (some-kept (first (unlisted cs listed v) i) i (before lowest))
+        step false = ap (λ (o : Option ℕ). orElse o (before lowest)) (sym (or-none (first (unlisted cs listed v) i)))
 
   pub sought-done : {next : ℕ} {answer : Option ℕ} → next ≡ 0 → Sought cs listed v next answer → answer ≡ first (unlisted cs listed v) (factCount cs)
   unfolding first orElse

@@ -40,6 +40,11 @@ inOne a b x = (a x && not (b x)) || (b x && not (a x))
 unfoldable pub firstInOne : ℕ → (ℕ → Bool) → (ℕ → Bool) → Option (ℕ × Bool)
 firstInOne n a b = Option·map (λ x. (x, a x)) (first (inOne a b) n)
 
+-- the number before n, which 0 has not
+unfoldable pub before : ℕ → Option ℕ
+before zero = Option.none
+before (suc i) = Option.some i
+
 -- something was found; nothing was
 abbrev pub found : {A : Type 0} → Option A → Bool
 found Option.none = false

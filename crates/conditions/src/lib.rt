@@ -19,6 +19,7 @@
 //                                      two sets with the same members, with none in common
 //   languages                          the nodes that have a language
 //   insert_if                          a number joins a set, or not
+use base::pick;
 use model::MAX_LINKS;
 use model::MAX_NODES;
 use model::NodeNo;
@@ -64,7 +65,7 @@ ghost use Rattle.paths.specs.Facts.{Tables};
 ghost use Rattle.plan.specs.Sets.{testOf};
 ghost use Rattle.plan.specs.Conditions.{failsTest, notLess, notLessEq, someInOne, someShared, somePair, clash, someUnlisted};
 ghost use Rattle.conditions.specs.Pairs.{linkWords, unlisted, unordered, comesBack};
-ghost use Rattle.conditions.specs.Searches.{first, firstPair, among, firstInOne, found, nothing, nodeFound, pairFound, sideFound, factFound, Listed};
+ghost use Rattle.conditions.specs.Searches.{first, firstPair, before, among, firstInOne, found, nothing, nodeFound, pairFound, sideFound, factFound, Listed};
 
 // A set of links, a bit for each: link l is at bit l mod 64 of word l div 64.
 pub struct LinkSet {
@@ -205,11 +206,14 @@ pub fn listed_links(cells: &[u16], e: usize) -> LinkSet
     LinkSet { words }
 }
 
-// Fact i, where yes; else what was found before.
-fn fact_if(yes: bool, i: usize, answer: FoundFact) -> FoundFact
-    ensures { λ r. ⌜ factFound r ≡ cond yes (Option.some i) (factFound answer) ⌝ }
+// The fact whose number and one this is; 0 is none.
+fn fact_before(n: usize) -> FoundFact
+    ensures { λ r. ⌜ factFound r ≡ before n ⌝ }
 {
-    if yes { FoundFact::Fact(i) } else { answer }
+    if n == 0 {
+        return FoundFact::NoFact;
+    }
+    FoundFact::Fact(n - 1)
 }
 
 // The first fact out of v that has a link that is not listed. The chain of v goes downward, so the last on it that has
@@ -218,15 +222,15 @@ pub fn first_unlisted(cells: &[u16], index: &[u16], links: &[u64], v: NodeNo) ->
     requires { ⌜ Tables (now cells) (now index) ⌝ }
     ensures { λ r. ⌜ factFound r ≡ first (unlisted (now (cells .entry)) (has (now (links .entry))) (v .0)) (factCount (now (cells .entry))) ⌝ }
 {
-    let mut answer = FoundFact::NoFact;
+    let mut lowest = 0;
     let mut next = last_out(index, v);
     while 0 < next {
         let i = next - 1;
         let listed = test(links, predicate(cells, i).0 as usize);
-        answer = fact_if(!listed, i, answer);
+        lowest = pick(listed, lowest, next);
         next = next_out(index, i);
     }
-    answer
+    fact_before(lowest)
 }
 
 // Every fact out of v has a listed link; some has not.

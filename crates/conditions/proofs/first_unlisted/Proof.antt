@@ -1,23 +1,22 @@
 -- `first_unlisted` meets its contract. The invariant: what was found is the first after the facts that are left on the chain, of
 -- whichever node the chain is.
 use Prim.Native.Nat.{ℕ, suc, _-_}
-use mathlib.Core.Bool.{not}
 use mathlib.Core.Path.{_≡_, ap, _∙_}
 use native.Mathlib.Omega.{arith}
 use borrow.Author.Needs.{needs}
 use Rattle.nodeset.specs.Words.{has}
 use Rattle.tables.specs.Layout.{predicateAt}
 use Rattle.tables.proofs.WellFormed.{sound}
-use Rattle.conditions.specs.Searches.{factFound}
+use Rattle.conditions.specs.Searches.{before}
 use Rattle.conditions.proofs.Items.{chainOf, Sought, sought-first, sought-falls, sought-more, sought-done}
 use Rattle.conditions.proofs.first_unlisted.Statement.{statement}
 use Rattle.conditions.proofs.first_unlisted.Tie as tie
 
 abbrev Inv-loop : tie.InvT-loop
-Inv-loop cells index links answer₀ next₀ answer next = (v : ℕ) → next₀ ≡ chainOf index v → Sought cells (has links) v next (factFound answer)
+Inv-loop cells index links lowest₀ next₀ lowest next = (v : ℕ) → next₀ ≡ chainOf index v → Sought cells (has links) v next (before lowest)
 
 abbrev μ-loop : tie.MeasureT-loop
-μ-loop cells index links answer₀ next₀ answer next = next
+μ-loop cells index links lowest₀ next₀ lowest next = next
 
 last-out-requires : tie.Need-last-out-requires Inv-loop μ-loop
 last-out-requires c κs = search needs
@@ -37,8 +36,8 @@ cast-test c = search needs
 test-requires : tie.Need-test-requires Inv-loop μ-loop
 test-requires c κs = search needs
 
-fact-if-requires : tie.Need-fact-if-requires Inv-loop μ-loop
-fact-if-requires c κs = search needs
+pick-requires : tie.Need-pick-requires Inv-loop μ-loop
+pick-requires c κs = search needs
 
 next-out-requires : tie.Need-next-out-requires Inv-loop μ-loop
 next-out-requires c κs =
@@ -47,8 +46,8 @@ next-out-requires c κs =
     omega (arith, c .before .before .before .before .loop-test, l .inv (a .v .0) (c .before .before .before .before .before .before .last-out .ensures) .low, sound (a .cells .now) (c .before .before .before .before .before .before .before .before .before .before .pre .ok) .facts)
 
 -- whether the fact that is looked at is listed
-unlisted-by : (c : tie.After-test Inv-loop μ-loop) → let a = c .before .before .before .before .before .before .before .before .before .args in not (c .test .result) ≡ not (has (a .links .now) (predicateAt (a .cells .now) (c .before .before .before .before .loop .next - 1)))
-unlisted-by c = let a = c .before .before .before .before .before .before .before .before .before .args in ap not (c .test .ensures ∙ ap (has (a .links .now)) (c .before .before .predicate .ensures))
+listed-by : (c : tie.After-test Inv-loop μ-loop) → let a = c .before .before .before .before .before .before .before .before .before .args in c .test .result ≡ has (a .links .now) (predicateAt (a .cells .now) (c .before .before .before .before .loop .next - 1))
+listed-by c = let a = c .before .before .before .before .before .before .before .before .before .args in c .test .ensures ∙ ap (has (a .links .now)) (c .before .before .predicate .ensures)
 
 loop-less : tie.Need-loop-less Inv-loop μ-loop
 loop-less c =
@@ -56,7 +55,7 @@ loop-less c =
     let l = c .before .before .before .before .before .before .loop in
     let i : ℕ = l .next - 1 in
     let q : l .next ≡ suc i = omega (arith, c .before .before .before .before .before .loop-test) in
-    omega (arith, q, sought-falls (a .cells .now) (a .index .now) (c .before .before .before .before .before .before .before .before .before .before .before .pre) (has (a .links .now)) (a .v .0) i (l .inv (a .v .0) (c .before .before .before .before .before .before .before .last-out .ensures)) q (unlisted-by (c .before .before)) (c .before .fact-if .ensures) (c .next-out .ensures))
+    omega (arith, q, sought-falls (a .cells .now) (a .index .now) (c .before .before .before .before .before .before .before .before .before .before .before .pre) (has (a .links .now)) (a .v .0) (l .lowest) i (l .inv (a .v .0) (c .before .before .before .before .before .before .before .last-out .ensures)) q (listed-by (c .before .before)) (c .before .pick .ensures) (c .next-out .ensures))
 
 loop-again : tie.Need-loop-again Inv-loop μ-loop
 loop-again c =
@@ -64,13 +63,16 @@ loop-again c =
     let l = c .before .before .before .before .before .before .loop in
     let i : ℕ = l .next - 1 in
     let q : l .next ≡ suc i = omega (arith, c .before .before .before .before .before .loop-test) in
-    λ v e. sought-more (a .cells .now) (a .index .now) (c .before .before .before .before .before .before .before .before .before .before .before .pre) (has (a .links .now)) v i (l .inv v e) q (unlisted-by (c .before .before)) (c .before .fact-if .ensures) (c .next-out .ensures)
+    λ v e. sought-more (a .cells .now) (a .index .now) (c .before .before .before .before .before .before .before .before .before .before .before .pre) (has (a .links .now)) v (l .lowest) i (l .inv v e) q (listed-by (c .before .before)) (c .before .pick .ensures) (c .next-out .ensures)
+
+fact-before-requires : tie.Need-fact-before-requires Inv-loop μ-loop
+fact-before-requires c κs = search needs
 
 returns : tie.Need-returns Inv-loop μ-loop
 returns c =
-    let a = c .before .before .before .before .before .before .args in
-    let l = c .before .loop in
-    sought-done (a .cells .now) (a .index .now) (c .before .before .before .before .before .before .pre) (has (a .links .now)) (a .v .0) (let e : l .next ≡ 0 = omega (arith, c .loop-test) in e) (l .inv (a .v .0) (c .before .before .last-out .ensures))
+    let a = c .before .before .before .before .before .before .before .args in
+    let l = c .before .before .loop in
+    c .fact-before .ensures ∙ sought-done (a .cells .now) (a .index .now) (c .before .before .before .before .before .before .before .pre) (has (a .links .now)) (a .v .0) (let e : l .next ≡ 0 = omega (arith, c .before .loop-test) in e) (l .inv (a .v .0) (c .before .before .before .last-out .ensures))
 
 pub first-unlisted-spec : {M : Type 1} → statement M
 first-unlisted-spec =
@@ -84,8 +86,9 @@ first-unlisted-spec =
     predicate-requires
     cast-test
     test-requires
-    fact-if-requires
+    pick-requires
     next-out-requires
     loop-less
     loop-again
+    fact-before-requires
     returns)
