@@ -485,11 +485,11 @@ fn with_language(cells: &[u16], a: &[u64]) -> NodeSet
 {
     let n = node_count(cells);
     let mut words = [0u64; 16];
-    let mut x = next_member(a, 0, n);
-    while x < n {
-        let v = NodeNo(x as u16);
+    let mut at = next_member(a, 0, n);
+    while at < n {
+        let v = NodeNo(at as u16);
         insert_if(&mut words, v, has_language(cells, v));
-        x = next_member(a, x + 1, n);
+        at = next_member(a, at + 1, n);
     }
     NodeSet { words }
 }

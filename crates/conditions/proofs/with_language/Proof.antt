@@ -1,4 +1,4 @@
--- `with_language` meets its contract. The invariant: the set has the members before x that have a language.
+-- `with_language` meets its contract. The invariant: the set has the members before at that have a language.
 use mathlib.Core.Path.{_≡_, ap, _∙_}
 use mathlib.Core.Bool.{_&&_}
 use Prim.Native.Nat.{ℕ, _-_}
@@ -13,10 +13,10 @@ use Rattle.conditions.proofs.with_language.Statement.{statement}
 use Rattle.conditions.proofs.with_language.Tie as tie
 
 abbrev Inv-loop : tie.InvT-loop
-Inv-loop cells a n words₀ x₀ words x = (n ≡ nodeCount cells) × Gathered (has a) (λ m. eqb (kindAt cells m) codes.nodeWords) n words x
+Inv-loop cells a n words₀ at₀ words at = (n ≡ nodeCount cells) × Gathered (has a) (λ m. eqb (kindAt cells m) codes.nodeWords) n words at
 
 abbrev μ-loop : tie.MeasureT-loop
-μ-loop cells a n words₀ x₀ words x = n - x
+μ-loop cells a n words₀ at₀ words at = n - at
 
 node-count-requires : tie.Need-node-count-requires Inv-loop μ-loop
 node-count-requires c κs = search needs
@@ -46,7 +46,7 @@ next-member-requires-2 : tie.Need-next-member-requires-2 Inv-loop μ-loop
 next-member-requires-2 c κs = search needs
 
 loop-less : tie.Need-loop-less Inv-loop μ-loop
-loop-less c = let a = c .before .before .before .before .before .before .before .before .before .before .before .args in omega (arith, next-after (has (a .a .now)) {x = c .before .before .before .before .before .before .loop .x} (omega (arith, c .before .before .before .before .before .loop-test)) (c .next-member2 .ensures), c .before .before .before .before .before .loop-test)
+loop-less c = let a = c .before .before .before .before .before .before .before .before .before .before .before .args in omega (arith, next-after (has (a .a .now)) {x = c .before .before .before .before .before .before .loop .at} (omega (arith, c .before .before .before .before .before .loop-test)) (c .next-member2 .ensures), c .before .before .before .before .before .loop-test)
 
 loop-again : tie.Need-loop-again Inv-loop μ-loop
 loop-again c =
