@@ -33,6 +33,7 @@ pub fn all() -> Vec<(&'static str, String)> {
         ("nested", nested()),
         ("chains", chains()),
         ("pairs", pairs()),
+        ("equals", equals()),
     ]
 }
 
@@ -313,4 +314,13 @@ fn pairs() -> String {
         }
     }
     book + &shapes_and_rules(41, |_| "(lesseq (seq p q) r)".to_string())
+}
+
+/// 42 `lesseq`: from each of three nodes 800 numbers by the hub, all equal, against the same 800: no pair ends the search.
+fn equals() -> String {
+    let mut book = star(3, |k| format!("(number {} i 7)\n", name(k)), 3..803);
+    for k in 0..3 {
+        (3..803).for_each(|end| book += &format!("(fact {} r {})\n", name(k), name(end)));
+    }
+    book + &shapes_and_rules(42, |_| "(lesseq (seq p q) r)".to_string())
 }
