@@ -4,3 +4,4 @@ pub mod Bounded
 pub mod Numbered
 pub mod Bytes
 pub mod Columns
+pub mod Codes

@@ -1,14 +1,13 @@
 -- A line by its word.
-use Prim.Native.Nat.{ℕ, zero, suc, _≤_, zero-le}
+use Prim.Native.Nat.{ℕ}
 use mathlib.Core.Path.{_≡_, sym, ap, subst}
 use mathlib.Core.List.{List}
 use mathlib.Core.Bool.{false}
-use lib.Arith.{lt-of-le-ne}
 use lib.ListN.{getD}
 use lib.IntN.{ℤ}
 use Rattle.model.specs.Books.{Line, Book}
 use Rattle.grammar.specs.Syntax.{linkL, lineFamily}
-use Rattle.grammar.specs.Reading.{Read, refused, andThen, readersAt, lineRoom, begunAbove, lineAt}
+use Rattle.grammar.specs.Reading.{maxWithin, Read, refused, andThen, readersAt, lineRoom, begunAbove, lineAt}
 use Rattle.model.specs.declared.Counts.{Counts}
 use Rattle.itemreader.specs.declared.Head.{Head}
 use Rattle.itemreader.specs.Answers.{headAt, wordsOf}
@@ -20,25 +19,16 @@ use Rattle.linereader.specs.Storing.{endLine, lineBody, Done}
 module _ (s : List ℕ) (a : Book) (at : ℕ) where
   pub line-bare : headAt s (wordsOf lineFamily) false false at ≡ Head.Bare → lineAt s a at ≡ refused 2
   unfolding lineAt
-  line-bare e = ap (λ (r : Read Line). andThen r (endLine s)) (bracket-bare s a lineFamily (readersAt s a 31) false false (lineRoom s a) (refused 2) (begunAbove a) at e)
+  line-bare e = ap (λ (r : Read Line). andThen r (endLine s)) (bracket-bare s a lineFamily (readersAt s a maxWithin) false false (lineRoom s a) (refused 2) (begunAbove a) at e)
 
   pub line-unknown : (k : ℕ) → headAt s (wordsOf lineFamily) false false at ≡ Head.No k → lineAt s a at ≡ refused k
   unfolding lineAt
-  line-unknown k e = ap (λ (r : Read Line). andThen r (endLine s)) (bracket-refused s a lineFamily (readersAt s a 31) false false (lineRoom s a) (refused 2) (begunAbove a) at k e)
+  line-unknown k e = ap (λ (r : Read Line). andThen r (endLine s)) (bracket-refused s a lineFamily (readersAt s a maxWithin) false false (lineRoom s a) (refused 2) (begunAbove a) at k e)
 
   pub line-word : (k end : ℕ) → headAt s (wordsOf lineFamily) false false at ≡ Head.Word k end → lineAt s a at ≡ lineBody s a (getD (lineFamily .codes) k linkL) end
   unfolding lineAt lineBody
-  line-word k end e = ap (λ (r : Read Line). andThen r (endLine s)) (bracket-word s a lineFamily (readersAt s a 31) false false (lineRoom s a) (refused 2) (begunAbove a) at k end e .1)
+  line-word k end e = ap (λ (r : Read Line). andThen r (endLine s)) (bracket-word s a lineFamily (readersAt s a maxWithin) false false (lineRoom s a) (refused 2) (begunAbove a) at k end e .1)
 
 -- the line of a word by its number
 pub done-coded : (s : List ℕ) (a : Book) (c : Counts) (k j : ℕ) (at : ℕ) (r : LineAnswer) (ns ns′ cs cs′ : List ℕ) (vs vs′ : List ℤ) → k ≡ j → Done a c (lineBody s a (getD (lineFamily .codes) j linkL) at) r ns ns′ cs cs′ vs vs′ → Done a c (lineBody s a (getD (lineFamily .codes) k linkL) at) r ns ns′ cs cs′ vs vs′
 done-coded s a c k j at r ns ns′ cs cs′ vs vs′ e d = subst (λ (i : ℕ). Done a c (lineBody s a (getD (lineFamily .codes) i linkL) at) r ns ns′ cs cs′ vs vs′) (sym e) d
-
--- a number that is none of those below n is at least n: what the last arm of a match on numbers knows
-abbrev pub Nots : ℕ → ℕ → Type 0
-Nots k zero = Unit {0}
-Nots k (suc n) = Nots k n × (k ≡ n → ⊥)
-
-pub nots-le : (n k : ℕ) → Nots k n → n ≤ k
-nots-le zero k r = zero-le
-nots-le (suc n) k r = lt-of-le-ne (nots-le n k (r .0)) (λ e. r .1 (sym e))

@@ -1,4 +1,3 @@
-pub mod Codes
 pub mod Complements
 pub mod Contraries
 pub mod Stores

@@ -8,7 +8,7 @@ use lib.ListN.{length}
 use lib.Seq.{slice}
 use Rattle.model.specs.Books.{Name, Book, shape, shapes}
 use Rattle.grammar.specs.Syntax.{new, form, shapeL, lineFamily}
-use Rattle.grammar.specs.Reading.{Begun, argAt, after, readersAt, lineRoom, begunAbove}
+use Rattle.grammar.specs.Reading.{maxWithin, Begun, argAt, after, readersAt, lineRoom, begunAbove}
 use Rattle.itemreader.specs.Held.{Held}
 use Rattle.itemreader.proofs.Items.{below-is}
 use Rattle.leafreader.specs.Forms.{begunOf, FormRead}
@@ -21,7 +21,7 @@ use Rattle.bodyreader.proofs.shape_line.Statement.{statement}
 use Rattle.bodyreader.proofs.shape_line.Tie as tie
 
 -- the form after the name, as it was read
-read : (c : tie.After-read-form) (a : Book) → Held (c .before .before .before .before .before .before .before .before .before .before .before .before .before .args .names .now) (c .before .before .before .before .before .before .before .before .before .before .before .before .before .args .counts) a → (w : Name) → FormRead (argAt (c .before .before .before .before .before .before .before .before .before .before .before .before .before .args .book .now) a (readersAt (c .before .before .before .before .before .before .before .before .before .before .before .before .before .args .book .now) a 31) form (after (new shapes) w (begunAbove a)) (c .before .before .before .before .before .new .given .0 .1 .0)) (begunOf (endedNow (c .before .before .before .before .before .before .before .before .before .before .before .before .before .args .counts))) (c .before .before .before .before .before .before .before .before .before .before .before .before .before .args .cells .now) (c .read-form .last .0) (c .before .before .before .before .before .before .before .before .before .before .before .before .before .args .values .now) (c .read-form .last .1 .0) (c .read-form .result)
+read : (c : tie.After-read-form) (a : Book) → Held (c .before .before .before .before .before .before .before .before .before .before .before .before .before .args .names .now) (c .before .before .before .before .before .before .before .before .before .before .before .before .before .args .counts) a → (w : Name) → FormRead (argAt (c .before .before .before .before .before .before .before .before .before .before .before .before .before .args .book .now) a (readersAt (c .before .before .before .before .before .before .before .before .before .before .before .before .before .args .book .now) a maxWithin) form (after (new shapes) w (begunAbove a)) (c .before .before .before .before .before .new .given .0 .1 .0)) (begunOf (endedNow (c .before .before .before .before .before .before .before .before .before .before .before .before .before .args .counts))) (c .before .before .before .before .before .before .before .before .before .before .before .before .before .args .cells .now) (c .read-form .last .0) (c .before .before .before .before .before .before .before .before .before .before .before .before .before .args .values .now) (c .read-form .last .1 .0) (c .read-form .result)
 read c a h w =
     let s = c .before .before .before .before .before .before .before .before .before .before .before .before .before .args in
     let e = begun-after (s .names .now) (s .counts) a h w in

@@ -4,7 +4,7 @@ use mathlib.Core.Path.{refl}
 use denote.Ref.{now}
 use Rattle.tables.specs.Codes as codes
 use Rattle.plan.specs.Steps.{numbersOf}
-use Rattle.plan.proofs.Codes.{nots-past}
+use Rattle.base.proofs.Codes.{nots-past}
 use Rattle.compiler.proofs.Arms.{Read, arm-top, arm-is, arm-shape, arm-conj, arm-disj, arm-neg, arm-test, arm-count, arm-all, arm-equal, arm-apart, arm-closed, arm-less, arm-lesseq, arm-onelang, arm-unknown}
 use borrow.Author.Needs.{needs}
 use Rattle.compiler.proofs.compile_entry.Statement.{statement}

@@ -2,7 +2,7 @@ use Prim.Native.Nat.{zero-le}
 use denote.Ref.{now}
 use Rattle.tables.specs.Codes as codes
 use Rattle.plan.specs.Steps.{numbersOf}
-use Rattle.plan.proofs.Codes.{nots-past}
+use Rattle.base.proofs.Codes.{nots-past}
 use Rattle.compiler.proofs.Loops.{target-node, target-subjects, target-objects, target-class}
 use borrow.Author.Needs.{needs}
 use Rattle.compiler.proofs.target_step.Statement.{statement}

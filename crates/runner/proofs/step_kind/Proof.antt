@@ -3,7 +3,7 @@ use Prim.Native.Nat.{zero-le}
 use mathlib.Core.Path.{refl}
 use denote.Ref.{now}
 use Rattle.plan.specs.Steps.{stepOf, stepUnknown}
-use Rattle.plan.proofs.Codes.{nots-past}
+use Rattle.base.proofs.Codes.{nots-past}
 use Rattle.paths.specs.declared.End.{End}
 use Rattle.stepsets.specs.declared.Condition.the-variants.{Is, IsNot, Equal, Unequal, Apart, Meet, Less, NotLess, LessEq, NotLessEq}
 use Rattle.stepsets.specs.declared.Target.the-variants.{From, Into, Typed}
