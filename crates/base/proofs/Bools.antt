@@ -51,6 +51,15 @@ pub not-or : (a b : Bool) → not (a || b) ≡ (not a && not b)
 not-or true b = refl
 not-or false b = refl
 
+pub not-implies : (a b : Bool) → not (not a || b) ≡ (a && not b)
+not-implies true b = refl
+not-implies false b = refl
+
+pub and-swap : (a b c : Bool) → (a && (b && c)) ≡ (b && (a && c))
+and-swap true b c = refl
+and-swap false true c = refl
+and-swap false false c = refl
+
 pub or-swap : (a b c d : Bool) → ((a || b) || (c || d)) ≡ ((a || c) || (b || d))
 or-swap true b c d = refl
 or-swap false true true d = refl

@@ -161,6 +161,7 @@ fn read_body(
         words::LINE_WORDS => words_line(names, cells, values, index, counts, book, at),
         words::LINE_FACT => fact_line(cells, names, index, counts, book, at),
         words::LINE_SHAPE => shape_line(names, cells, values, index, counts, book, at),
+        // rule
         _ => rule_line(cells, names, index, counts, book, at),
     }
 }

@@ -11,7 +11,7 @@ use lib.ListN.{getD, length, set, replicate, drop, length-append, List·getD-eq-
 use lib.Seq.{getD-set-same, getD-set-other}
 use borrow.Author.Tests.{eqb-true, eqb-false}
 use Rattle.base.specs.Lists.{values}
-use Rattle.base.proofs.Lists.{length-valuesFrom, valuesFrom-snoc}
+use Rattle.base.proofs.Lists.{length-valuesFrom, valuesFrom-snoc, zeros-at}
 use Rattle.model.specs.Limits.{maxRules, maxForms, maxSteps}
 use Rattle.tables.specs.Codes as codes
 use Rattle.tables.specs.Layout.{formCount, ruleCount, rootAt, ruleShapeAt, ruleTargetAt, ruleOperandAt}
@@ -23,12 +23,6 @@ use Rattle.plan.proofs.Stores.{store-rule, store-count, store-steps, laid-none}
 use Rattle.translation.specs.Compile.{Part, entryPart, putAt, more, made, targetStep, stepsOfRule, stepsTo, stepsOf, ruleStep, planOf}
 use Rattle.compiler.specs.Stores.{numberIn, Added, FormsAdded, ruleStored}
 use Rattle.translation.proofs.Whole.{length-to}
-
--- ---- zeros
-pub zeros : (n j : ℕ) → _≡_ {A = ℕ} (getD (replicate n 0) j 0) 0
-zeros zero j = refl
-zeros (suc n) zero = refl
-zeros (suc n) (suc j) = zeros n j
 
 pub cleared-laid : (ps : List ℕ) → cleared planCount 0 ps ≡ laid (drop planCount ps) [] [] []
 unfolding cleared
@@ -79,7 +73,7 @@ forms-none cs ps bs h = record { stored = refl; after = refl; breaks = h }
 
 pub keeps-none : (cs : List ℕ) (j : ℕ) → getD (replicate maxForms 0) j 0 ≡ made cs 0 .keep j
 unfolding made
-keeps-none cs j = zeros maxForms j
+keeps-none cs j = zeros-at maxForms j
 
 -- ---- targets by their codes
 module _ (cs ps qs : List ℕ) (r n code a : ℕ) (ec : code ≡ ruleTargetAt cs r) (ea : a ≡ ruleOperandAt cs r) where

@@ -123,7 +123,7 @@ fn link_steps(
 }
 
 // `and`, `or`: one step of the keeps, one of the breaks.
-fn joined(
+fn parts_steps(
     plan: &mut [u16],
     cells: &[u16],
     keeps: &[u16],
@@ -267,8 +267,17 @@ fn compile_entry(
         codes::FORM_TRUE => two(plan, n, steps::ALL, 0, 0, steps::NONE, 0, 0),
         codes::FORM_IS => is_steps(plan, cells, e, n),
         codes::FORM_SHAPE => same_steps(cells, keeps, breaks, e, n),
-        codes::FORM_AND => joined(plan, cells, keeps, breaks, e, n, steps::BOTH, steps::EITHER),
-        codes::FORM_OR => joined(plan, cells, keeps, breaks, e, n, steps::EITHER, steps::BOTH),
+        codes::FORM_AND => parts_steps(
+            plan,
+            cells,
+            keeps,
+            breaks,
+            e,
+            n,
+            steps::BOTH,
+            steps::EITHER,
+        ),
+        codes::FORM_OR => parts_steps(plan, cells, keeps, breaks, e, n, steps::EITHER, steps::BOTH),
         codes::FORM_NOT => swapped(cells, keeps, breaks, e, n),
         codes::FORM_KIND..=codes::FORM_BELOW => own_steps(plan, e, n, steps::TEST, steps::UNTEST),
         codes::FORM_COUNT => count_entry(plan, cells, keeps, e, n),

@@ -72,8 +72,8 @@ module _ (p t : ℕ → Bool) (n : ℕ) where
   })
 
   -- x with those before it are those before the next member
-  joined : (x r m : ℕ) → p x ≡ true → x < r → ((j : ℕ) → x + 1 ≤ j → j < r → p j ≡ false) → (upTo x m || (t x && eqb m x)) ≡ upTo r m
-  joined x r m h l gap = bool-cases (λ b. eqb m x ≡ b → (upTo x m || (t x && b)) ≡ upTo r m) (eqb m x)
+  with-next : (x r m : ℕ) → p x ≡ true → x < r → ((j : ℕ) → x + 1 ≤ j → j < r → p j ≡ false) → (upTo x m || (t x && eqb m x)) ≡ upTo r m
+  with-next x r m h l gap = bool-cases (λ b. eqb m x ≡ b → (upTo x m || (t x && b)) ≡ upTo r m) (eqb m x)
       (λ _ q. let e : m ≡ x = eqb-true m x q in
       ap (λ (b : Bool). (b && (p m && t m)) || (t x && true)) (le-ltb m x (omega arith)) ∙ and-true (t x)
       ∙ sym (ap₂ (λ (a b : Bool). a && b) (lt-ltb m r (omega arith)) (ap₂ (λ (a b : Bool). a && b) (ap p e ∙ h) (ap t e))))
@@ -90,7 +90,7 @@ module _ (p t : ℕ → Bool) (n : ℕ) where
         within = z .within;
         words = e ∙ ap (wordsOf (λ m. has ws m || (b && eqb m x))) (length-of (upTo x) 16 (s .words))
             ∙ wordsOf-ext (λ m. has ws m || (b && eqb m x)) (upTo (nextFrom p (x + 1) n)) 16 (λ m k.
-            ap₂ (λ (a c : Bool). a || (c && eqb m x)) (has-of (upTo x) 16 (s .words) m k) eb ∙ joined x (nextFrom p (x + 1) n) m (s .hit l) (omega (arith, z .onward)) (z .none));
+            ap₂ (λ (a c : Bool). a || (c && eqb m x)) (has-of (upTo x) 16 (s .words) m k) eb ∙ with-next x (nextFrom p (x + 1) n) m (s .hit l) (omega (arith, z .onward)) (z .none));
         hit = z .hit;
       })
 

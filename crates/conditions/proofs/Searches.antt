@@ -10,14 +10,14 @@ use native.Mathlib.Omega.{arith}
 use lib.Dec.{ltb}
 use borrow.Author.Tests.{ltb-true, ltb-false}
 use Rattle.base.specs.Bounded.{_⇒_, some}
-use Rattle.base.proofs.Bools.{bool-cases, never-both}
+use Rattle.base.proofs.Bools.{bool-cases, never-both, not-implies}
 use Rattle.base.proofs.Bounded.{some-at, some-witness, some-ext, some-none, some-and, not-every}
 use Rattle.nodeset.specs.Members.{nextFrom}
 use Rattle.nodeset.proofs.Members.{Next, next-found}
 use Rattle.model.specs.Shapes.{subset, noneShared, allPairs}
-use Rattle.plan.specs.Conditions.{someInOne, someShared, somePair}
+use Rattle.plan.specs.Conditions.{inOne, someInOne, someShared, somePair}
 use Rattle.plan.proofs.Complements.{not-equal, not-apart, not-pairs}
-use Rattle.conditions.specs.Searches.{first, firstRow, firstPair, among, inOne, firstInOne, found, nothing}
+use Rattle.conditions.specs.Searches.{first, firstRow, firstPair, among, firstInOne, found, nothing}
 
 pub nothing-not : {A : Type 0} (o : Option A) → nothing o ≡ not (found o)
 nothing-not Option.none = refl
@@ -153,14 +153,10 @@ pair-ext r s n h = ⊎-elim
 
 -- ---- kept and broken conditions on two sets
 module _ (n : ℕ) (a b : ℕ → Bool) where
-  not-out : (a b : Bool) → not (a ⇒ b) ≡ (a && not b)
-  not-out true b = refl
-  not-out false b = refl
-
   -- one set in the other: nothing of it is outside
   pub outside-keeps : nothing (first (λ x. a x && not (b x)) n) ≡ subset n a b
   unfolding subset
-  outside-keeps = kept (first (λ x. a x && not (b x)) n) (subset n a b) (first-found (λ x. a x && not (b x)) n ∙ sym (not-every (λ x. a x ⇒ b x) (λ x. a x && not (b x)) n (λ x l. not-out (a x) (b x))))
+  outside-keeps = kept (first (λ x. a x && not (b x)) n) (subset n a b) (first-found (λ x. a x && not (b x)) n ∙ sym (not-every (λ x. a x ⇒ b x) (λ x. a x && not (b x)) n (λ x l. not-implies (a x) (b x))))
 
   -- no common member
   pub shared-breaks : found (first (λ x. a x && b x) n) ≡ someShared n a b

@@ -9,7 +9,8 @@ use borrow.Author.Tests.{ltb-true, ltb-false, not-true}
 use Rattle.base.proofs.Bools.{bool-cases, never-both, and-left, and-right}
 use Rattle.nodeset.specs.Members.{nextFrom}
 use Rattle.nodeset.proofs.Members.{Next, next-found}
-use Rattle.conditions.specs.Searches.{inOne, firstInOne}
+use Rattle.plan.specs.Conditions.{inOne}
+use Rattle.conditions.specs.Searches.{firstInOne}
 use Rattle.conditions.proofs.Searches.{first-none, first-at}
 
 module _ (a b : ℕ → Bool) (n x y : ℕ) (ex : x ≡ nextFrom (λ m. a m && not (b m)) 0 n) (ey : y ≡ nextFrom (λ m. b m && not (a m)) 0 n) where

@@ -5,6 +5,7 @@ use mathlib.Core.List.{List}
 use mathlib.Core.Option.{Option, Option·map, orElse}
 use mathlib.Core.Path.{_≡_}
 use lib.ListN.{getD}
+use Rattle.plan.specs.Conditions.{inOne}
 use Rattle.conditions.specs.declared.Found.{Found}
 use Rattle.conditions.specs.declared.Found.the-variants.{Node, NoNode}
 use Rattle.conditions.specs.declared.FoundPair.{FoundPair}
@@ -31,10 +32,6 @@ firstPair r n = firstRow r n n
 -- a pair of a member of a and one of b, in r
 abbrev pub among : (ℕ → Bool) → (ℕ → Bool) → (ℕ → ℕ → Bool) → ℕ → ℕ → Bool
 among a b r x y = a x && (b y && r x y)
-
--- x is in exactly one of two sets
-abbrev pub inOne : (ℕ → Bool) → (ℕ → Bool) → ℕ → Bool
-inOne a b x = (a x && not (b x)) || (b x && not (a x))
 
 -- the first number below n in exactly one of two sets, and whether the first set has it
 unfoldable pub firstInOne : ℕ → (ℕ → Bool) → (ℕ → Bool) → Option (ℕ × Bool)

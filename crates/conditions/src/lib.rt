@@ -23,6 +23,7 @@ use base::pick;
 use model::MAX_LINKS;
 use model::MAX_NODES;
 use model::NodeNo;
+use model::TYPE_LANGSTRING;
 use nodeset::NodeSet;
 use nodeset::insert;
 use nodeset::next_member;
@@ -56,10 +57,10 @@ ghost use lib.IntN.{ℤ};
 ghost use Rattle.base.specs.Lists.{member};
 ghost use Rattle.nodeset.specs.Words.{has, wordsOf};
 ghost use Rattle.model.specs.Graph.{holds};
-ghost use Rattle.model.specs.Shapes.{nodeKind, datatype, satisfies, conforms, subset, noneShared, allPairs, less, lessEq, onlyListed, unlikeLangs};
+ghost use Rattle.model.specs.Shapes.{nodeKind, datatype, satisfies, conforms, subset, noneShared, sameMembers, allLess, allLessEq, onlyListed, unlikeLangs};
 ghost use Rattle.model.specs.Limits.{maxNodes};
 ghost use Rattle.tables.specs.Codes as codes;
-ghost use Rattle.tables.specs.Layout.{nodeCount, factCount, kindAt, langAt, numberAt, predicateAt, formCodeAt, formFirstAt, formSecondAt};
+ghost use Rattle.tables.specs.Layout.{nodeCount, factCount, kindAt, langAt, numberAt, formCodeAt, formFirstAt, formSecondAt};
 ghost use Rattle.tables.specs.Decode.{termAt, triplesAt, graphAt, kindOf, itemsAt, entryAt, shapeAt};
 ghost use Rattle.paths.specs.Facts.{Tables};
 ghost use Rattle.plan.specs.Sets.{testOf};
@@ -270,7 +271,7 @@ fn datatype_holds(cells: &[u16], t: u16, v: NodeNo) -> bool
 {
     let kind = node_kind(cells, v);
     (((kind == codes::NODE_NUMBER) | (kind == codes::NODE_TEXT)) & (t == node_type(cells, v)))
-        | ((kind == codes::NODE_WORDS) & (t == 0))
+        | ((kind == codes::NODE_WORDS) & (t == TYPE_LANGSTRING))
 }
 
 // Node v is of another kind than k.
@@ -295,7 +296,7 @@ fn datatype_fails(cells: &[u16], t: u16, v: NodeNo) -> bool
 {
     let kind = node_kind(cells, v);
     (((kind != codes::NODE_NUMBER) & (kind != codes::NODE_TEXT)) | (t != node_type(cells, v)))
-        & ((kind != codes::NODE_WORDS) | (t != 0))
+        & ((kind != codes::NODE_WORDS) | (t != TYPE_LANGSTRING))
 }
 
 // Node v has a language; a number.
@@ -325,6 +326,7 @@ pub fn test_holds(cells: &[u16], values: &[i64], e: usize, v: NodeNo) -> bool
         codes::FORM_FROM => has_number(cells, v) & (limit(values, e) <= number(values, v)),
         codes::FORM_ABOVE => has_number(cells, v) & (limit(values, e) < number(values, v)),
         codes::FORM_TO => has_number(cells, v) & (number(values, v) <= limit(values, e)),
+        // below
         _ => has_number(cells, v) & (number(values, v) < limit(values, e)),
     }
 }
@@ -343,6 +345,7 @@ pub fn test_fails(cells: &[u16], values: &[i64], e: usize, v: NodeNo) -> bool
         codes::FORM_FROM => !has_number(cells, v) | (number(values, v) < limit(values, e)),
         codes::FORM_ABOVE => !has_number(cells, v) | (number(values, v) <= limit(values, e)),
         codes::FORM_TO => !has_number(cells, v) | (limit(values, e) < number(values, v)),
+        // below
         _ => !has_number(cells, v) | (limit(values, e) <= number(values, v)),
     }
 }
@@ -363,7 +366,7 @@ fn breaks_order(
     values: &[i64],
     y: NodeNo,
 ) -> bool
-    ensures { λ r. ⌜ r ≡ (not known || (not (eqb (kindAt (now (cells .entry)) (y .0)) 2) || comesBack order value (numberAt (now (values .entry)) (y .0)))) ⌝ }
+    ensures { λ r. ⌜ r ≡ (not known || (not (eqb (kindAt (now (cells .entry)) (y .0)) codes.nodeNumber) || comesBack order value (numberAt (now (values .entry)) (y .0)))) ⌝ }
 {
     if !known {
         return true;
@@ -443,7 +446,7 @@ pub fn first_not_lesseq(cells: &[u16], values: &[i64], a: &[u64], b: &[u64]) -> 
 // Each member of a has a number, and each of b, and the first is less than the second; some pair is not so.
 pub fn less_holds(cells: &[u16], values: &[i64], a: &[u64], b: &[u64]) -> bool
     requires { ⌜ nodeCount (now cells) ≤ maxNodes ⌝ }
-    ensures { λ r. ⌜ r ≡ allPairs (nodeCount (now (cells .entry))) (has (now (a .entry))) (has (now (b .entry))) (λ x y. less (termAt (now (cells .entry)) (now (values .entry)) x) (termAt (now (cells .entry)) (now (values .entry)) y)) ⌝ }
+    ensures { λ r. ⌜ r ≡ allLess (termAt (now (cells .entry)) (now (values .entry))) (nodeCount (now (cells .entry))) (has (now (a .entry))) (has (now (b .entry))) ⌝ }
 {
     no_pair(first_not_less(cells, values, a, b))
 }
@@ -458,7 +461,7 @@ pub fn less_fails(cells: &[u16], values: &[i64], a: &[u64], b: &[u64]) -> bool
 // The same with at most.
 pub fn lesseq_holds(cells: &[u16], values: &[i64], a: &[u64], b: &[u64]) -> bool
     requires { ⌜ nodeCount (now cells) ≤ maxNodes ⌝ }
-    ensures { λ r. ⌜ r ≡ allPairs (nodeCount (now (cells .entry))) (has (now (a .entry))) (has (now (b .entry))) (λ x y. lessEq (termAt (now (cells .entry)) (now (values .entry)) x) (termAt (now (cells .entry)) (now (values .entry)) y)) ⌝ }
+    ensures { λ r. ⌜ r ≡ allLessEq (termAt (now (cells .entry)) (now (values .entry))) (nodeCount (now (cells .entry))) (has (now (a .entry))) (has (now (b .entry))) ⌝ }
 {
     no_pair(first_not_lesseq(cells, values, a, b))
 }
@@ -505,7 +508,7 @@ pub fn languages(cells: &[u16]) -> NodeSet
 
 // Node y has a language, and it is the first's, which is lang where the first is tagged.
 fn same_language(tagged: bool, lang: u16, cells: &[u16], y: NodeNo) -> bool
-    ensures { λ r. ⌜ r ≡ (tagged && (eqb (kindAt (now (cells .entry)) (y .0)) 4 && eqb lang (langAt (now (cells .entry)) (y .0)))) ⌝ }
+    ensures { λ r. ⌜ r ≡ (tagged && (eqb (kindAt (now (cells .entry)) (y .0)) codes.nodeWords && eqb lang (langAt (now (cells .entry)) (y .0)))) ⌝ }
 {
     if !tagged {
         return false;
@@ -614,7 +617,7 @@ pub fn subset_holds(a: &[u64], b: &[u64], n: usize) -> bool
 // The two sets have the same numbers below n; they have not.
 pub fn equal_holds(a: &[u64], b: &[u64], n: usize) -> bool
     requires { ⌜ n ≤ maxNodes ⌝ }
-    ensures { λ r. ⌜ r ≡ (subset n (has (now (a .entry))) (has (now (b .entry))) && subset n (has (now (b .entry))) (has (now (a .entry)))) ⌝ }
+    ensures { λ r. ⌜ r ≡ sameMembers n (has (now (a .entry))) (has (now (b .entry))) ⌝ }
 {
     no_side(first_in_one(a, b, n))
 }

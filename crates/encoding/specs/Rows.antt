@@ -30,7 +30,7 @@ pathRow (link p) = record { code = codes.pathLink; first = p; second = 0 }
 pathRow (inv a) = record { code = codes.pathInv; first = a; second = 0 }
 pathRow (seq a b) = record { code = codes.pathSeq; first = a; second = b }
 pathRow (alt a b) = record { code = codes.pathAlt; first = a; second = b }
-pathRow PathEntry.bad = record { code = 4; first = 0; second = 0 }
+pathRow PathEntry.bad = record { code = codes.pathUnknown; first = 0; second = 0 }
 
 pub record FormRow : Type 0 where
   pub code : ℕ
@@ -69,7 +69,7 @@ formRow (Entry.closed i n) = plainRow codes.formClosed i n
 formRow (Entry.less e p) = plainRow codes.formLess e p
 formRow (Entry.lesseq e p) = plainRow codes.formLesseq e p
 formRow (Entry.onelang e) = plainRow codes.formOnelang e 0
-formRow Entry.bad = plainRow 21 0 0
+formRow Entry.bad = plainRow codes.formUnknown 0 0
 
 -- node, subjects, objects, class
 unfoldable pub targetCode : Target → ℕ

@@ -131,6 +131,7 @@ pub fn sets_hold(cells: &[u16], index: &[u16], values: &[i64], e: usize, v: Node
         codes::FORM_EQUAL => equal_holds(&a, &b, node_count(cells)),
         codes::FORM_APART => apart_holds(&a, &b, node_count(cells)),
         codes::FORM_LESS => less_holds(cells, values, &a, &b),
+        // lesseq
         _ => lesseq_holds(cells, values, &a, &b),
     }
 }

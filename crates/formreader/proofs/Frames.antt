@@ -25,7 +25,7 @@ use Rattle.itemreader.specs.Answers.{headAt, wordsOf, restAt}
 use Rattle.itemreader.proofs.Heads.{bracket-bare, bracket-refused, bracket-word, rest-got, rest-refused}
 use Rattle.pathreader.proofs.Paths.{Got}
 use Rattle.leafreader.specs.declared.Ended.{Ended}
-use Rattle.leafreader.specs.Forms.{FormRead, Within, childrenOf, formBody}
+use Rattle.leafreader.specs.Forms.{FormRead, FormsWithin, childrenOf, formBody}
 use Rattle.leafreader.specs.declared.Form.{Form}
 use Rattle.formreader.specs.declared.Front.{Front}
 use Rattle.formreader.specs.declared.Opening.{Opening}
@@ -40,7 +40,7 @@ module _ (s : List ℕ) (a : Book) (R : Readers) (b : Begun) (x : Read Shape) (n
   part-read front e = rw e at p
 
 module _ (left up len : ℕ) (n : Ended) (r : Opening) (p : Opened left up len n r) where
-  pub whole-within : (f : Form) → r ≡ Opening.Whole f → Within (n .forms) up len f
+  pub whole-within : (f : Form) → r ≡ Opening.Whole f → FormsWithin (n .forms) up len f
   whole-within f e = rw e at p
 
   pub part-within : (front : Front) → r ≡ Opening.Part front → (0 < left) × (n .forms + up < maxForms) × (front .paths ≤ maxPaths) × (front .next ≤ len)

@@ -17,7 +17,7 @@ use Rattle.grammar.specs.Reading.{Read, Readers, Begun, after}
 use Rattle.stores.specs.Entries.{putForm, pathCells}
 use Rattle.itemreader.specs.Answers.{restAt}
 use Rattle.leafreader.specs.declared.Ended.{Ended}
-use Rattle.leafreader.specs.Forms.{FormRead, Within}
+use Rattle.leafreader.specs.Forms.{FormRead, FormsWithin}
 use Rattle.formreader.specs.declared.Front.{Front}
 use Rattle.formreader.specs.declared.Opening.{Opening}
 
@@ -97,7 +97,7 @@ OpenRead s a R b x n cs cs' vs vs' (Opening.Part front) = Fronted s a R b x (n .
 
 -- a form within its limits; or, where one is open, a bracket to open, room for its entry, and a position in a text of a length
 abbrev pub Opened : ℕ → ℕ → ℕ → Ended → Opening → Type 0
-Opened left up len n (Opening.Whole r) = Within (n .forms) up len r
+Opened left up len n (Opening.Whole r) = FormsWithin (n .forms) up len r
 Opened left up len n (Opening.Part front) = (0 < left) × (n .forms + up < maxForms) × (front .paths ≤ maxPaths) × (front .next ≤ len)
 
 -- the entry of a form with one FORM within, which ended right before it

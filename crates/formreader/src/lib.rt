@@ -31,7 +31,7 @@ ghost use Rattle.grammar.specs.Reading.{Begun, formBegun, argAt, readersAt};
 ghost use Rattle.tables.specs.Layout.{cellCount, valueCount, nameCount};
 ghost use Rattle.itemreader.specs.Answers.{restAt};
 ghost use Rattle.itemreader.specs.Held.{Limits, Held, Indexed};
-ghost use Rattle.leafreader.specs.Forms.{begunOf, FormRead, closedForm, Within, formBody};
+ghost use Rattle.leafreader.specs.Forms.{begunOf, FormRead, closedForm, FormsWithin, formBody};
 ghost use Rattle.formreader.specs.Frames.{Quantifier, quantify, codeOf, lowOf, highOf, OpenRead, Opened, putChild};
 
 // What stands before the FORMs within a bracket: the code of the form's entry, LO, HI and the last path entry, zero where
@@ -168,6 +168,7 @@ fn open_word(
             0,
             0,
         ),
+        // the forms without a form inside
         _ => Opening::Whole(read_leaf(
             cells,
             values,
@@ -266,7 +267,7 @@ pub fn read_form(
 ) -> Form
     requires { ⌜ (at ≤ length (now book)) × (nameCount ≤ length (now names)) × (cellCount ≤ length (now cells)) × (valueCount ≤ length (now values)) × (n .forms + up ≤ maxForms) × (n .paths ≤ maxPaths) × (n .items ≤ maxItems) × Limits counts × Indexed (now names) counts (now index) ⌝ }
     ensures { λ r. ⌜ ((a : Book) → Held (now (names .entry)) counts a → (b : Begun) → b .forms ≡ n .forms + up → b .paths ≡ n .paths → b .items ≡ n .items → FormRead (argAt (now (book .entry)) a (readersAt (now (book .entry)) a left) form b at) (begunOf n) (now (cells .entry)) (now (cells .exit)) (now (values .entry)) (now (values .exit)) r) ⌝ }
-    ensures { λ r. ⌜ Within (n .forms) up (length (now (book .entry))) r ⌝ }
+    ensures { λ r. ⌜ FormsWithin (n .forms) up (length (now (book .entry))) r ⌝ }
     ensures { λ _. ⌜ drop cellCount (now (cells .exit)) ≡ drop cellCount (now (cells .entry)) ⌝ }
     ensures { λ _. ⌜ drop valueCount (now (values .exit)) ≡ drop valueCount (now (values .entry)) ⌝ }
 {

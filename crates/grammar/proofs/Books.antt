@@ -52,9 +52,9 @@ pool-snoc p ws n P w f =
     place k l = eq-or-lt-of-le (let e = length-append ws (n ∷ []) in omega arith)
 
 module _ (a : Book) (p : Pool) (P : PoolOk p (names p a)) where
-  joined : (q : Pool) (n : Name) → newName a q n ≡ true → PoolOk p (names p a ++ joins p q n)
+  pool-joined : (q : Pool) (n : Name) → newName a q n ≡ true → PoolOk p (names p a ++ joins p q n)
   unfolding joins newName
-  joined q n e = bool-cases (λ t. eqb (poolNumber p) (poolNumber q) ≡ t → PoolOk p (names p a ++ cond t (n ∷ []) [])) (eqb (poolNumber p) (poolNumber q))
+  pool-joined q n e = bool-cases (λ t. eqb (poolNumber p) (poolNumber q) ≡ t → PoolOk p (names p a ++ cond t (n ∷ []) [])) (eqb (poolNumber p) (poolNumber q))
       (λ _ s.
       let i : q ≡ p = sym (same-pool p q (eqb-true (poolNumber p) (poolNumber q) s)) in
       let e′ = subst (λ (r : Pool). newName a r n ≡ true) i e in
@@ -63,12 +63,12 @@ module _ (a : Book) (p : Pool) (P : PoolOk p (names p a)) where
 
   line-pool : (l : Line) → namesOk a l ≡ true → PoolOk p (names p a ++ newNames p l)
   unfolding newNames namesOk
-  line-pool (link n) e = joined links n e
-  line-pool (type n) e = joined types n e
-  line-pool (lang n) e = joined langs n e
-  line-pool (node n t) e = joined nodes n e
+  line-pool (link n) e = pool-joined links n e
+  line-pool (type n) e = pool-joined types n e
+  line-pool (lang n) e = pool-joined langs n e
+  line-pool (node n t) e = pool-joined nodes n e
   line-pool (fact t) e = subst (PoolOk p) (sym (append-nil (names p a))) P
-  line-pool (shape n φ) e = joined shapes n e
+  line-pool (shape n φ) e = pool-joined shapes n e
   line-pool (rule r) e = subst (PoolOk p) (sym (append-nil (names p a))) P
 
 -- one name, or none

@@ -9,7 +9,7 @@ use lib.Dec.{eqb, ltb, leb}
 use lib.ListN.{length, getD}
 use borrow.Author.Tests.{eqb-true, eq-eqb, leb-true, le-leb}
 use Rattle.base.specs.Range.{inRange}
-use Rattle.base.proofs.Bools.{and-left, and-right, and-both}
+use Rattle.base.proofs.Bools.{and-left, and-right, and-both, and-swap}
 use Rattle.text.specs.Spans.{Span}
 use Rattle.text.proofs.Spans.{span-join, span-byte, span-split, span-one}
 use Rattle.model.specs.Graph.{iri, blankNode, numeric, plain, tagged, langString}
@@ -27,11 +27,6 @@ use Rattle.grammar.proofs.Args.{argsDepth, afterAll, Fit, writeArgs, ar
 use Rattle.grammar.proofs.Families.{Opened, bracket-sound, bracket-complete}
 use Rattle.grammar.proofs.Rows.{line-placed}
 use Rattle.grammar.proofs.Nesting.{readers-exact}
-
-and-swap : (a b c : Bool) → (a && (b && c)) ≡ (b && (a && c))
-and-swap true b c = refl
-and-swap false true c = refl
-and-swap false false c = refl
 
 -- the tests of a line's places, its room and its entries, in the order of the reading
 number-tests : (a b c d e : Bool) → ((a && (b && (c && d))) && e) ≡ (((e && a) && ((b && c) && (d && true))) && (true && true))

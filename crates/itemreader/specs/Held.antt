@@ -12,6 +12,7 @@ use Rattle.model.specs.Books.{Name, Book, Pool, nodes, links, types, langs, sha
 use Rattle.model.specs.Sizes.{formsIn, pathsIn, itemsIn}
 use Rattle.model.specs.Valid.{capacity, isResource}
 use Rattle.model.specs.Limits.{maxNodes, maxLinks, maxTypes, maxLangs, maxShapes, nameBytes}
+use Rattle.tables.specs.Codes as codes
 use Rattle.tables.specs.Layout.{nodeKinds}
 use Rattle.grammar.specs.Valid.{wellNamed}
 use Rattle.encoding.specs.Encode.{poolBase}
@@ -42,9 +43,9 @@ pub record Held (ns : List ℕ) (n : Counts) (above : Book) : Type 0 where
   pub path-count : n .paths ≡ pathsIn above
   pub item-count : n .items ≡ itemsIn above
 
--- the kinds of the nodes among the cells: 0 and 1 are things and blank nodes
+-- the kinds of the nodes among the cells: things and blank nodes come first
 abbrev pub Kinds : List ℕ → Book → Type 0
-Kinds cs above = (v : ℕ) → v < length (names nodes above) → leb (getD cs (nodeKinds + v) 0) 1 ≡ isResource (getD (collect newTerms above) v iri)
+Kinds cs above = (v : ℕ) → v < length (names nodes above) → leb (getD cs (nodeKinds + v) 0) codes.nodeBlank ≡ isResource (getD (collect newTerms above) v iri)
 
 -- how many names there may be in all pools, and how long their index is: where each chain begins and what follows each name
 abbrev pub namePlaces : ℕ

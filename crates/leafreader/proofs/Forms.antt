@@ -27,7 +27,7 @@ use Rattle.itemreader.specs.Answers.{restAt}
 use Rattle.itemreader.proofs.Heads.{rest-none, rest-got}
 use Rattle.leafreader.specs.declared.Ended.{Ended}
 use Rattle.leafreader.specs.declared.Form.{Form}
-use Rattle.leafreader.specs.Forms.{begunOf, endedOf, formEnded, FormRead, Closes, closedForm, Within, childrenOf, formBody, putItem, ListShape, EndShape, PathShape, endNumber}
+use Rattle.leafreader.specs.Forms.{begunOf, endedOf, formEnded, FormRead, Closes, closedForm, FormsWithin, childrenOf, formBody, putItem, ListShape, EndShape, PathShape, endNumber}
 
 -- ---- answers
 module _ {n : Begun} {cs cs' : List ℕ} {vs vs' : List ℤ} {r : Form} where
@@ -65,10 +65,10 @@ module _ (s : List ℕ) (at : ℕ) (l : Ended) where
       go true q w = record { answer = q ∙ ap (λ (m : Ended). Form.Is m (at + 1)) (sym (c .ended)); stored = (w ∙ c .cells, c .values) }
       go false q w = record { answer = q; stored = tt }
 
-  pub closed-within : (e up : ℕ) → e ≤ l .forms → l .forms + up < maxForms → l .paths ≤ maxPaths → l .items ≤ maxItems → Within e up (length s) (closedForm s at l)
+  pub closed-within : (e up : ℕ) → e ≤ l .forms → l .forms + up < maxForms → l .paths ≤ maxPaths → l .items ≤ maxItems → FormsWithin e up (length s) (closedForm s at l)
   unfolding closedForm
   closed-within e up h k p i =
-      bool-cases (λ t. Within e up (length s) (cond t (Form.Is (formEnded l) (at + 1)) (Form.No 2))) (eqb (getD s at 0) 41)
+      bool-cases (λ t. FormsWithin e up (length s) (cond t (Form.Is (formEnded l) (at + 1)) (Form.No 2))) (eqb (getD s at 0) 41)
       (λ y. let z = eqb-true (getD s at 0) 41 y in let w : at < length s = inside s at (λ x. omega arith) in (omega arith, omega arith, p, i, omega arith))
       (λ y. tt)
 
@@ -154,7 +154,7 @@ module _ {n : Begun} {cs cs' : List ℕ} {vs vs' : List ℤ} {r : Form} where
       go (got φ last) p = let z : _≡_ {A = ℕ} 0 1 = cc in absurd (omega arith)
       go (refused j) p = cc
 
-pub within-is : (e up len : ℕ) (r : Form) (m : Ended) (next : ℕ) → Within e up len r → r ≡ Form.Is m next → (e < m .forms) × (m .forms + up ≤ maxForms) × (m .paths ≤ maxPaths) × (m .items ≤ maxItems) × (next ≤ len)
+pub within-is : (e up len : ℕ) (r : Form) (m : Ended) (next : ℕ) → FormsWithin e up len r → r ≡ Form.Is m next → (e < m .forms) × (m .forms + up ≤ maxForms) × (m .paths ≤ maxPaths) × (m .items ≤ maxItems) × (next ≤ len)
 within-is e up len r m next g q = rw q at g
 
 -- ---- words by their numbers

@@ -57,9 +57,9 @@ unfoldable pub closedForm : List ℕ → ℕ → Ended → Form
 closedForm s at l = cond (eqb (getD s at 0) 41) (Form.Is (formEnded l) (at + 1)) (Form.No 2)
 
 -- more than e form entries with room for up more, other entries within their limits, and a position in a text of a length
-abbrev pub Within : ℕ → ℕ → ℕ → Form → Type 0
-Within e up len (Form.Is m next) = (e < m .forms) × (m .forms + up ≤ maxForms) × (m .paths ≤ maxPaths) × (m .items ≤ maxItems) × (next ≤ len)
-Within e up len (Form.No k) = Unit {0}
+abbrev pub FormsWithin : ℕ → ℕ → ℕ → Form → Type 0
+FormsWithin e up len (Form.Is m next) = (e < m .forms) × (m .forms + up ≤ maxForms) × (m .paths ≤ maxPaths) × (m .items ≤ maxItems) × (next ≤ len)
+FormsWithin e up len (Form.No k) = Unit {0}
 
 -- how many FORMs stand within the bracket of a word
 abbrev pub childrenOf : ℕ → ℕ

@@ -41,7 +41,7 @@ ghost use Rattle.tables.specs.Layout.{cellCount, valueCount, nameCount};
 ghost use Rattle.stores.specs.Entries.{putForm};
 ghost use Rattle.itemreader.specs.Answers.{poolOf, Below, restAt};
 ghost use Rattle.itemreader.specs.Held.{Limits, Held, Indexed};
-ghost use Rattle.leafreader.specs.Forms.{begunOf, FormRead, closedForm, Within, childrenOf, formBody, putItem, ItemForm, UsedShape, ListShape, ValueShape, EndShape, PathShape, endNumber};
+ghost use Rattle.leafreader.specs.Forms.{begunOf, FormRead, closedForm, FormsWithin, childrenOf, formBody, putItem, ItemForm, UsedShape, ListShape, ValueShape, EndShape, PathShape, endNumber};
 
 // How many form entries, path entries and list items have ended.
 pub struct Ended {
@@ -121,7 +121,7 @@ fn item_form(
 ) -> Form
     requires { ⌜ (n .forms + up < maxForms) × (n .paths ≤ maxPaths) × (n .items ≤ maxItems) × (cellCount ≤ length (now cells)) × Below 65536 (length (now book)) item ⌝ }
     ensures { λ r. ⌜ ItemForm (now (book .entry)) item n (putItem lone (n .forms) code first (now (cells .entry))) (now (cells .exit)) r ⌝ }
-    ensures { λ r. ⌜ Within (n .forms) up (length (now (book .entry))) r ⌝ }
+    ensures { λ r. ⌜ FormsWithin (n .forms) up (length (now (book .entry))) r ⌝ }
     ensures { λ _. ⌜ drop cellCount (now (cells .exit)) ≡ drop cellCount (now (cells .entry)) ⌝ }
 {
     match item {
@@ -158,7 +158,7 @@ fn used_form(
 ) -> Form
     requires { ⌜ (at ≤ length (now book)) × (nameCount ≤ length (now names)) × (cellCount ≤ length (now cells)) × (n .forms + up < maxForms) × (n .paths ≤ maxPaths) × (n .items ≤ maxItems) × Limits counts × Indexed (now names) counts (now index) ⌝ }
     ensures { λ r. ⌜ ((a : Book) → Held (now (names .entry)) counts a → (R : Readers) (b : Begun) (f : ℕ → Shape) → UsedShape f code → (vs : List ℤ) → FormRead (restAt (now (book .entry)) a R true (used (poolOf pool) ∷ []) (λ xs. f (xs .0)) b at) (begunOf n) (now (cells .entry)) (now (cells .exit)) vs vs r) ⌝ }
-    ensures { λ r. ⌜ Within (n .forms) up (length (now (book .entry))) r ⌝ }
+    ensures { λ r. ⌜ FormsWithin (n .forms) up (length (now (book .entry))) r ⌝ }
     ensures { λ _. ⌜ drop cellCount (now (cells .exit)) ≡ drop cellCount (now (cells .entry)) ⌝ }
 {
     let item = read_used(names, index, counts, pool, book, at);
@@ -180,7 +180,7 @@ fn list_form(
 ) -> Form
     requires { ⌜ (at ≤ length (now book)) × (nameCount ≤ length (now names)) × (cellCount ≤ length (now cells)) × (n .forms + up < maxForms) × (n .paths ≤ maxPaths) × (n .items ≤ maxItems) × Limits counts × Indexed (now names) counts (now index) ⌝ }
     ensures { λ r. ⌜ ((a : Book) → Held (now (names .entry)) counts a → (R : Readers) (b : Begun) → b .items ≡ n .items → (f : List ℕ → Shape) → ListShape f code → (vs : List ℤ) → FormRead (restAt (now (book .entry)) a R true (list (poolOf pool) ∷ []) (λ xs. f (xs .0)) b at) (begunOf n) (now (cells .entry)) (now (cells .exit)) vs vs r) ⌝ }
-    ensures { λ r. ⌜ Within (n .forms) up (length (now (book .entry))) r ⌝ }
+    ensures { λ r. ⌜ FormsWithin (n .forms) up (length (now (book .entry))) r ⌝ }
     ensures { λ _. ⌜ drop cellCount (now (cells .exit)) ≡ drop cellCount (now (cells .entry)) ⌝ }
 {
     let items = n.items;
@@ -219,7 +219,7 @@ fn value_form(
 ) -> Form
     requires { ⌜ (at ≤ length (now book)) × (cellCount ≤ length (now cells)) × (valueCount ≤ length (now values)) × (n .forms + up < maxForms) × (n .paths ≤ maxPaths) × (n .items ≤ maxItems) ⌝ }
     ensures { λ r. ⌜ ((a : Book) (R : Readers) (b : Begun) (f : ℤ → Shape) → ValueShape f code → FormRead (restAt (now (book .entry)) a R true (value ∷ []) (λ xs. f (xs .0)) b at) (begunOf n) (now (cells .entry)) (now (cells .exit)) (now (values .entry)) (now (values .exit)) r) ⌝ }
-    ensures { λ r. ⌜ Within (n .forms) up (length (now (book .entry))) r ⌝ }
+    ensures { λ r. ⌜ FormsWithin (n .forms) up (length (now (book .entry))) r ⌝ }
     ensures { λ _. ⌜ drop cellCount (now (cells .exit)) ≡ drop cellCount (now (cells .entry)) ⌝ }
     ensures { λ _. ⌜ drop valueCount (now (values .exit)) ≡ drop valueCount (now (values .entry)) ⌝ }
 {
@@ -260,7 +260,7 @@ fn end_form(
 ) -> Form
     requires { ⌜ (at ≤ length (now book)) × (nameCount ≤ length (now names)) × (cellCount ≤ length (now cells)) × (n .forms + up < maxForms) × (n .paths ≤ maxPaths) × (n .items ≤ maxItems) × Limits counts × Indexed (now names) counts (now index) ⌝ }
     ensures { λ r. ⌜ ((a : Book) → Held (now (names .entry)) counts a → (b : Begun) → b .paths ≡ n .paths → (f : End → ℕ → Shape) → EndShape f code → (vs : List ℤ) → FormRead (restAt (now (book .entry)) a (readersAt (now (book .entry)) a left) true (end ∷ used links ∷ []) (λ xs. f (xs .0) (xs .1 .0)) b at) (begunOf n) (now (cells .entry)) (now (cells .exit)) vs vs r) ⌝ }
-    ensures { λ r. ⌜ Within (n .forms) up (length (now (book .entry))) r ⌝ }
+    ensures { λ r. ⌜ FormsWithin (n .forms) up (length (now (book .entry))) r ⌝ }
     ensures { λ _. ⌜ drop cellCount (now (cells .exit)) ≡ drop cellCount (now (cells .entry)) ⌝ }
 {
     let paths = n.paths;
@@ -293,7 +293,7 @@ fn less_form(
 ) -> Form
     requires { ⌜ (at ≤ length (now book)) × (nameCount ≤ length (now names)) × (cellCount ≤ length (now cells)) × (n .forms + up < maxForms) × (n .paths ≤ maxPaths) × (n .items ≤ maxItems) × Limits counts × Indexed (now names) counts (now index) ⌝ }
     ensures { λ r. ⌜ ((a : Book) → Held (now (names .entry)) counts a → (b : Begun) → b .paths ≡ n .paths → (f : Path → ℕ → Shape) → PathShape f code → (vs : List ℤ) → FormRead (restAt (now (book .entry)) a (readersAt (now (book .entry)) a left) true (path ∷ used links ∷ []) (λ xs. f (xs .0) (xs .1 .0)) b at) (begunOf n) (now (cells .entry)) (now (cells .exit)) vs vs r) ⌝ }
-    ensures { λ r. ⌜ Within (n .forms) up (length (now (book .entry))) r ⌝ }
+    ensures { λ r. ⌜ FormsWithin (n .forms) up (length (now (book .entry))) r ⌝ }
     ensures { λ _. ⌜ drop cellCount (now (cells .exit)) ≡ drop cellCount (now (cells .entry)) ⌝ }
 {
     let paths = n.paths;
@@ -325,7 +325,7 @@ fn onelang_form(
 ) -> Form
     requires { ⌜ (at ≤ length (now book)) × (nameCount ≤ length (now names)) × (cellCount ≤ length (now cells)) × (n .forms + up < maxForms) × (n .paths ≤ maxPaths) × (n .items ≤ maxItems) × Limits counts × Indexed (now names) counts (now index) ⌝ }
     ensures { λ r. ⌜ ((a : Book) → Held (now (names .entry)) counts a → (b : Begun) → b .paths ≡ n .paths → (vs : List ℤ) → FormRead (restAt (now (book .entry)) a (readersAt (now (book .entry)) a left) true (path ∷ []) (λ xs. uniqueLang (xs .0)) b at) (begunOf n) (now (cells .entry)) (now (cells .exit)) vs vs r) ⌝ }
-    ensures { λ r. ⌜ Within (n .forms) up (length (now (book .entry))) r ⌝ }
+    ensures { λ r. ⌜ FormsWithin (n .forms) up (length (now (book .entry))) r ⌝ }
     ensures { λ _. ⌜ drop cellCount (now (cells .exit)) ≡ drop cellCount (now (cells .entry)) ⌝ }
 {
     let paths = n.paths;
@@ -356,7 +356,7 @@ fn onelang_form(
 pub fn read_true(cells: &mut [u16], book: &[u8], at: usize, n: Ended, up: usize) -> Form
     requires { ⌜ (at ≤ length (now book)) × (cellCount ≤ length (now cells)) × (n .forms + up ≤ maxForms) × (n .paths ≤ maxPaths) × (n .items ≤ maxItems) ⌝ }
     ensures { λ r. ⌜ ((a : Book) (vs : List ℤ) → FormRead (trueAt (now (book .entry)) a (leb maxForms (n .forms + up)) at) (begunOf n) (now (cells .entry)) (now (cells .exit)) vs vs r) ⌝ }
-    ensures { λ r. ⌜ Within (n .forms) up (length (now (book .entry))) r ⌝ }
+    ensures { λ r. ⌜ FormsWithin (n .forms) up (length (now (book .entry))) r ⌝ }
     ensures { λ _. ⌜ drop cellCount (now (cells .exit)) ≡ drop cellCount (now (cells .entry)) ⌝ }
 {
     let end = item_end(book, at);
@@ -394,7 +394,7 @@ pub fn read_leaf(
 ) -> Form
     requires { ⌜ (at ≤ length (now book)) × (nameCount ≤ length (now names)) × (cellCount ≤ length (now cells)) × (valueCount ≤ length (now values)) × (n .forms + up < maxForms) × (n .paths ≤ maxPaths) × (n .items ≤ maxItems) × Limits counts × (code < 20) × (childrenOf code ≡ 0) × Indexed (now names) counts (now index) ⌝ }
     ensures { λ r. ⌜ ((a : Book) → Held (now (names .entry)) counts a → (b : Begun) → b .paths ≡ n .paths → b .items ≡ n .items → FormRead (formBody (now (book .entry)) a left code b at) (begunOf n) (now (cells .entry)) (now (cells .exit)) (now (values .entry)) (now (values .exit)) r) ⌝ }
-    ensures { λ r. ⌜ Within (n .forms) up (length (now (book .entry))) r ⌝ }
+    ensures { λ r. ⌜ FormsWithin (n .forms) up (length (now (book .entry))) r ⌝ }
     ensures { λ _. ⌜ drop cellCount (now (cells .exit)) ≡ drop cellCount (now (cells .entry)) ⌝ }
     ensures { λ _. ⌜ drop valueCount (now (values .exit)) ≡ drop valueCount (now (values .entry)) ⌝ }
 {
@@ -426,6 +426,7 @@ pub fn read_leaf(
         words::CLOSED => list_form(cells, names, index, counts, Pool::Links, book, at, n, up, k),
         words::LESS => less_form(cells, names, index, counts, book, at, left, n, up, k),
         words::LESSEQ => less_form(cells, names, index, counts, book, at, left, n, up, k),
+        // onelang
         _ => onelang_form(cells, names, index, counts, book, at, left, n, up),
     }
 }

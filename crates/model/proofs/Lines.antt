@@ -170,20 +170,20 @@ pub same-pool : (p q : Pool) → poolNumber p ≡ poolNumber q → p ≡ q
 same-pool p q e = sym (pool-number p) ∙ ap numbered-pool e ∙ pool-number q
 
 module _ (p : Pool) (a : Book) (h : length (names p a) ≤ capacity p) where
-  joined : (q : Pool) (n : Name) → hasRoom a q ≡ true → length (names p a) + length (joins p q n) ≤ capacity p
+  room-joined : (q : Pool) (n : Name) → hasRoom a q ≡ true → length (names p a) + length (joins p q n) ≤ capacity p
   unfolding joins hasRoom
-  joined q n e = bool-cases (λ t. eqb (poolNumber p) (poolNumber q) ≡ t → length (names p a) + length (cond t (n ∷ []) []) ≤ capacity p) (eqb (poolNumber p) (poolNumber q))
+  room-joined q n e = bool-cases (λ t. eqb (poolNumber p) (poolNumber q) ≡ t → length (names p a) + length (cond t (n ∷ []) []) ≤ capacity p) (eqb (poolNumber p) (poolNumber q))
       (λ _ s. let l : length (names p a) < capacity p = subst (λ (r : Pool). length (names r a) < capacity r) (sym (same-pool p q (eqb-true (poolNumber p) (poolNumber q) s))) (ltb-true (length (names q a)) (capacity q) e) in omega arith)
       (λ _ _. omega arith) refl
 
   name-room : (l : Line) → lineOk a l ≡ true → length (names p a) + length (newNames p l) ≤ capacity p
   unfolding newNames lineOk
-  name-room (link n) e = joined links n e
-  name-room (type n) e = joined types n e
-  name-room (lang n) e = joined langs n e
-  name-room (node n t) e = joined nodes n (and-left _ _ e)
+  name-room (link n) e = room-joined links n e
+  name-room (type n) e = room-joined types n e
+  name-room (lang n) e = room-joined langs n e
+  name-room (node n t) e = room-joined nodes n (and-left _ _ e)
   name-room (fact t) e = omega arith
-  name-room (shape n φ) e = joined shapes n (and-left _ _ e)
+  name-room (shape n φ) e = room-joined shapes n (and-left _ _ e)
   name-room (rule r) e = omega arith
 
 built-in-within : (p : Pool) → length (names p []) ≤ capacity p

@@ -43,6 +43,11 @@ pub struct NodeNo(pub u16);
 // The number of a link (a predicate) in its pool.
 pub struct LinkNo(pub u16);
 
+// The link `a` and the type `langstring` come first in their pools.
+pub const LINK_A: u16 = 0;
+
+pub const TYPE_LANGSTRING: u16 = 0;
+
 // How many of each a book has: the ten counts of its tables.
 pub struct Counts {
     pub nodes: usize,

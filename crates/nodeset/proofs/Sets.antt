@@ -13,6 +13,7 @@ use lib.Seq.{getD-set-same, getD-set-other, ext-getD, getD-take, getD-drop}
 use lib.Bits.{bitOr, bitAnd, and-le-r, or-lt}
 use lib.Count.{ones}
 use borrow.Author.Tests.{eq-eqb, ne-eqb, eqb-true, eqb-false, lt-ltb, le-ltb, ltb-true, ltb-false}
+use Rattle.base.proofs.Lists.{zeros-at}
 use Rattle.base.specs.Bounded.{size}
 use Rattle.base.proofs.Bools.{same-test}
 use Rattle.base.proofs.Bounded.{size-ext, size-add, size-le}
@@ -109,11 +110,6 @@ module _ {ws : List ℕ} (p : ℕ → Bool) (k : ℕ) (e : ws ≡ wordsOf p k) w
   small-of i = subst (λ (v : List ℕ). getD v i 0 < 2 ^ 64) (sym e) (small-wordsOf p k i)
 
 -- ---- zeros
-
-zeros-at : (k i : ℕ) → _≡_ {A = ℕ} (getD (replicate k 0) i 0) 0
-zeros-at zero i = refl
-zeros-at (suc k) zero = refl
-zeros-at (suc k) (suc i) = zeros-at k i
 
 pub has-zeros : (k m : ℕ) → has (replicate k 0) m ≡ false
 unfolding has

@@ -11,7 +11,7 @@ use lib.Signed.{ltZ, leZ}
 use borrow.Author.Tests.{eq-eqb, ne-eqb, le-leb, leb-true, leb-false, le-ltb, lt-ltb}
 use Rattle.base.specs.Bounded.{_⇒_, some, every, one, size}
 use Rattle.base.specs.Lists.{member, anyb, allb}
-use Rattle.base.proofs.Bools.{bool-cases, not-and}
+use Rattle.base.proofs.Bools.{bool-cases, not-and, not-implies}
 use Rattle.base.proofs.Bounded.{not-every, some-or}
 use Rattle.model.specs.Graph.{Term, iri, blankNode, numeric, plain, tagged, Triple, valueOf, datatypeOf, languageOf, holds}
 use Rattle.model.specs.Shapes.{Kind, anIri, aBlank, aLiteral, isKind, Test, nodeKind, datatype, languageIn, minInclusive, minExclusive, maxInclusive, maxExclusive, satisfies, Upper, atMost, unbounded, within, subset, noneShared, allPairs, less, lessEq, sameLang, onlyListed}
@@ -84,10 +84,6 @@ not-clash term x y = ways (eqb x y) (sameLang (term x) (term y))
     ways false b = Bool·not-not b
 
 -- ---- sets of numbers
-not-implies : (a b : Bool) → not (a ⇒ b) ≡ (a && not b)
-not-implies true b = refl
-not-implies false b = refl
-
 module _ (n : ℕ) (a b : ℕ → Bool) where
   pub not-equal : not (subset n a b && subset n b a) ≡ someInOne n a b
   unfolding subset someInOne

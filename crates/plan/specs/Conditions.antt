@@ -39,9 +39,12 @@ notLess a b = lacks (λ x. lacks (λ y. leZ y x) (valueOf b)) (valueOf a)
 unfoldable pub notLessEq : Term → Term → Bool
 notLessEq a b = lacks (λ x. lacks (λ y. ltZ y x) (valueOf b)) (valueOf a)
 
--- ---- of sets of numbers below n: some number in exactly one; some in both; some pair of members in r
+-- ---- of sets of numbers below n: a number in exactly one, and that some is; some in both; some pair of members in r
+abbrev pub inOne : (ℕ → Bool) → (ℕ → Bool) → ℕ → Bool
+inOne a b x = (a x && not (b x)) || (b x && not (a x))
+
 unfoldable pub someInOne : ℕ → (ℕ → Bool) → (ℕ → Bool) → Bool
-someInOne n a b = some (λ x. (a x && not (b x)) || (b x && not (a x))) n
+someInOne n a b = some (inOne a b) n
 
 unfoldable pub someShared : ℕ → (ℕ → Bool) → (ℕ → Bool) → Bool
 someShared n a b = some (λ x. a x && b x) n

@@ -13,7 +13,17 @@ use model::Counts;
 use model::MAX_BYTES;
 use model::NAME_BYTES;
 use model::Refusal;
+use tables::layout::FACT_COUNT;
+use tables::layout::FORM_COUNT;
+use tables::layout::ITEM_COUNT;
+use tables::layout::LANG_COUNT;
+use tables::layout::LINK_COUNT;
 use tables::layout::LINK_NAMES;
+use tables::layout::NODE_COUNT;
+use tables::layout::PATH_COUNT;
+use tables::layout::RULE_COUNT;
+use tables::layout::SHAPE_COUNT;
+use tables::layout::TYPE_COUNT;
 use tables::layout::TYPE_NAMES;
 use tables::lent::clear_cells;
 use tables::lent::clear_names;
@@ -96,16 +106,16 @@ fn put_counts(cells: &mut [u16], counts: Counts)
     requires { ⌜ (cellCount ≤ length (now cells)) × Limits counts × CountsFit counts ⌝ }
     ensures { λ _. ⌜ now (cells .exit) ≡ putCounts 0 (countList counts) (now (cells .entry)) ⌝ }
 {
-    cells[0] = counts.nodes as u16;
-    cells[1] = counts.links as u16;
-    cells[2] = counts.types as u16;
-    cells[3] = counts.langs as u16;
-    cells[4] = counts.shapes as u16;
-    cells[5] = counts.facts as u16;
-    cells[6] = counts.paths as u16;
-    cells[7] = counts.forms as u16;
-    cells[8] = counts.items as u16;
-    cells[9] = counts.rules as u16;
+    cells[NODE_COUNT] = counts.nodes as u16;
+    cells[LINK_COUNT] = counts.links as u16;
+    cells[TYPE_COUNT] = counts.types as u16;
+    cells[LANG_COUNT] = counts.langs as u16;
+    cells[SHAPE_COUNT] = counts.shapes as u16;
+    cells[FACT_COUNT] = counts.facts as u16;
+    cells[PATH_COUNT] = counts.paths as u16;
+    cells[FORM_COUNT] = counts.forms as u16;
+    cells[ITEM_COUNT] = counts.items as u16;
+    cells[RULE_COUNT] = counts.rules as u16;
 }
 
 // Where there is a name more of the pool after than before, it joins its chain in the index.

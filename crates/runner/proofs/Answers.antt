@@ -1,4 +1,4 @@
--- The answers, each with the work space that it leaves; and what slices that are long enough give.
+-- The answers, each with the work space that it leaves; and what slices that are as-long enough give.
 use Prim.Native.Nat.{ℕ, _≤_}
 use mathlib.Core.List.{List}
 use mathlib.Core.Bool.{true, _&&_}
@@ -11,7 +11,7 @@ use Rattle.base.proofs.Bools.{and-left, and-right}
 use Rattle.model.proofs.Answers.{Answering}
 use Rattle.tables.specs.Layout.{cellCount, valueCount}
 use Rattle.tables.specs.Sizes.{longEnough}
-use Rattle.tables.proofs.Sizes.{Long, long}
+use Rattle.tables.proofs.Sizes.{Long, as-long}
 use Rattle.plan.specs.Layout.{planCount}
 use Rattle.plancheck.specs.Both.{bothWellFormed}
 use Rattle.runner.specs.Run.{workCount, filled, runLong, runAnswer, workAfter}
@@ -21,7 +21,7 @@ module _ (ns cs : List ℕ) (vs : List ℤ) (ps ws : List ℕ) where
   unfolding runAnswer workAfter
   run-answers = record { answer = refl; left = refl }
 
-  -- the slices are as long as the limits
+  -- the slices are as as-long as the limits
   pub record RunRoom : Type 0 where
     pub tables : Long ns cs vs
     pub plan : planCount ≤ length ps
@@ -32,7 +32,7 @@ module _ (ns cs : List ℕ) (vs : List ℤ) (ps ws : List ℕ) where
   run-room e =
       let rest : (leb planCount (length ps) && leb workCount (length ws)) ≡ true = and-right (longEnough ns cs vs) (leb planCount (length ps) && leb workCount (length ws)) e in
       record {
-        tables = long ns cs vs (and-left (longEnough ns cs vs) (leb planCount (length ps) && leb workCount (length ws)) e);
+        tables = as-long ns cs vs (and-left (longEnough ns cs vs) (leb planCount (length ps) && leb workCount (length ws)) e);
         plan = leb-true planCount (length ps) (and-left (leb planCount (length ps)) (leb workCount (length ws)) rest);
         work = leb-true workCount (length ws) (and-right (leb planCount (length ps)) (leb workCount (length ws)) rest);
       }

@@ -41,25 +41,25 @@ valueTable C t = flat (pos 0) (valueColumns C) ++ t
 abbrev pub sizes : Entries → Begun
 sizes es = record { forms = length (es .forms); paths = length (es .paths); items = length (es .items) }
 
-pub record Within (es : Entries) : Type 0 where
+pub record EntriesWithin (es : Entries) : Type 0 where
   pub forms : length (es .forms) ≤ maxForms
   pub paths : length (es .paths) ≤ maxPaths
   pub items : length (es .items) ≤ maxItems
 
 -- room for the form entry that is lastNumber, and for what came before it
-form-room : (x : Entry) (es : Entries) → Within (addForm x es) → length (es .forms) < maxForms
+form-room : (x : Entry) (es : Entries) → EntriesWithin (addForm x es) → length (es .forms) < maxForms
 form-room x es w = omega (arith, w .forms, length-append (es .forms) (x ∷ []))
 
-without-form : (x : Entry) (es : Entries) → Within (addForm x es) → Within es
+without-form : (x : Entry) (es : Entries) → EntriesWithin (addForm x es) → EntriesWithin es
 without-form x es w = let n = form-room x es w in record { forms = omega arith; paths = w .paths; items = w .items }
 
-without-path : (e : Path) (es : Entries) → Within (withPath e es) → length (es .paths) + pathEntries e ≤ maxPaths
+without-path : (e : Path) (es : Entries) → EntriesWithin (withPath e es) → length (es .paths) + pathEntries e ≤ maxPaths
 without-path e es w = omega (arith, path-size e (es .paths), w .paths)
 
-without-items : (ks : List ℕ) (es : Entries) → Within (withItems ks es) → length (es .items) + length ks ≤ maxItems
+without-items : (ks : List ℕ) (es : Entries) → EntriesWithin (withItems ks es) → length (es .items) + length ks ≤ maxItems
 without-items ks es w = omega (arith, length-append (es .items) ks, w .items)
 
-without-shape : (φ : Shape) (es : Entries) → Within (addShape φ es) → Within es
+without-shape : (φ : Shape) (es : Entries) → EntriesWithin (addShape φ es) → EntriesWithin es
 without-shape φ es w = let s = shape-size φ es in record { forms = omega arith; paths = omega arith; items = omega arith }
 
 -- how many there are with a path, an END, a shape more
@@ -98,7 +98,7 @@ module _ (C : Content) (t : List ℕ) where
       put₃ 0 t (cellColumns (withEntries C es)) 7 8 9 n (pathRow x .code) (pathRow x .first) (pathRow x .second) (c (λ x. pathRow x .code)) h (c (λ x. pathRow x .first)) h (c (λ x. pathRow x .second)) h
       ∙ rw (map-append (λ x. pathRow x .code) (es .paths) (x ∷ []), map-append (λ x. pathRow x .first) (es .paths) (x ∷ []), map-append (λ x. pathRow x .second) (es .paths) (x ∷ []))
 
-  form-row : (es : Entries) (x : Entry) → Within (addForm x es) → putForm (length (es .forms)) (formRow x .code) (formRow x .first) (formRow x .second) (formRow x .third) (formRow x .fourth) (at es) ≡ at (addForm x es)
+  form-row : (es : Entries) (x : Entry) → EntriesWithin (addForm x es) → putForm (length (es .forms)) (formRow x .code) (formRow x .first) (formRow x .second) (formRow x .third) (formRow x .fourth) (at es) ≡ at (addForm x es)
   unfolding putForm cellTable
   form-row es x w =
       let n = length (es .forms) in
@@ -145,7 +145,7 @@ module _ (C : Content) (t : List ℕ) where
       rw (path-cells d es (omega arith), ← path-size d (es .paths), path-cells e ds (omega arith), ← path-size e (ds .paths)) (path-row fs (alt (lastNumber (ds .paths)) (lastNumber (fs .paths))) (omega arith))
 
   -- ---- shapes
-  end-cells : (f : End) (es : Entries) → Within (withEnd f es) → endCells (length (es .paths)) f (at es) ≡ at (withEnd f es)
+  end-cells : (f : End) (es : Entries) → EntriesWithin (withEnd f es) → endCells (length (es .paths)) f (at es) ≡ at (withEnd f es)
   unfolding endCells withEnd
   end-cells self es w = refl
   end-cells (along e) es w = path-cells e es (without-path e es w)
@@ -159,10 +159,10 @@ module _ (C : Content) (t : List ℕ) where
   end-operand (along e) es = refl
 
   -- a list, and the entry that has it
-  list-cells : (ks : List ℕ) (x : Entry) (es : Entries) → Within (addForm x (withItems ks es)) → putItems (length (es .items)) ks (at es) ≡ at (withItems ks es)
+  list-cells : (ks : List ℕ) (x : Entry) (es : Entries) → EntriesWithin (addForm x (withItems ks es)) → putItems (length (es .items)) ks (at es) ≡ at (withItems ks es)
   list-cells ks x es w = put-items es ks (without-items ks es (without-form x (withItems ks es) w))
 
-  test-cells : (x : Test) (es : Entries) → Within (addTest x es) → testCells (sizes es) x (at es) ≡ at (addTest x es)
+  test-cells : (x : Test) (es : Entries) → EntriesWithin (addTest x es) → testCells (sizes es) x (at es) ≡ at (addTest x es)
   unfolding testCells addTest formRow plainRow valueRow
   test-cells (nodeKind k) es w = form-row es (Entry.kind (kindCode k)) w
   test-cells (datatype a) es w = form-row es (Entry.datatype a) w
@@ -172,7 +172,7 @@ module _ (C : Content) (t : List ℕ) where
   test-cells (maxInclusive x) es w = form-row es (Entry.to x) w
   test-cells (maxExclusive x) es w = form-row es (Entry.under x) w
 
-  pub shape-cells : (φ : Shape) (es : Entries) → Within (addShape φ es) → shapeCells (sizes es) φ (at es) ≡ at (addShape φ es)
+  pub shape-cells : (φ : Shape) (es : Entries) → EntriesWithin (addShape φ es) → shapeCells (sizes es) φ (at es) ≡ at (addShape φ es)
   unfolding shapeCells addShape formRow plainRow
   shape-cells top es w = form-row es Entry.top w
   shape-cells (hasValue c) es w = form-row es (Entry.is c) w
@@ -225,7 +225,7 @@ module _ (C : Content) (t : List ℤ) where
   abbrev values-at : Entries → List ℤ
   values-at es = valueTable (withEntries C es) t
 
-  value-row : (es : Entries) (x : Entry) → Within (addForm x es) → putValue (length (es .forms)) (formRow x .value) (values-at es) ≡ values-at (addForm x es)
+  value-row : (es : Entries) (x : Entry) → EntriesWithin (addForm x es) → putValue (length (es .forms)) (formRow x .value) (values-at es) ≡ values-at (addForm x es)
   unfolding putValue valueTable
   value-row es x w =
       put (pos 0) t (valueColumns (withEntries C es)) 1 (length (es .forms)) (formRow x .value) (sym (length-map (es .forms) (λ x. formRow x .value))) (form-room x es w)
@@ -238,7 +238,7 @@ module _ (C : Content) (t : List ℤ) where
       ap (λ (l : List ℤ). l ++ t) (sym (push-default (pos 0) (valueColumns (withEntries C es)) 1))
       ∙ rw (map-append (λ x. formRow x .value) (es .forms) (x ∷ []), e)
 
-  test-values : (x : Test) (es : Entries) → Within (addTest x es) → testValues (sizes es) x (values-at es) ≡ values-at (addTest x es)
+  test-values : (x : Test) (es : Entries) → EntriesWithin (addTest x es) → testValues (sizes es) x (values-at es) ≡ values-at (addTest x es)
   unfolding testValues addTest valueTable formRow plainRow valueRow
   test-values (nodeKind k) es w = no-value es (Entry.kind (kindCode k)) refl
   test-values (datatype a) es w = no-value es (Entry.datatype a) refl
@@ -254,7 +254,7 @@ module _ (C : Content) (t : List ℤ) where
   end-values self es = refl
   end-values (along e) es = refl
 
-  pub shape-values : (φ : Shape) (es : Entries) → Within (addShape φ es) → shapeValues (sizes es) φ (values-at es) ≡ values-at (addShape φ es)
+  pub shape-values : (φ : Shape) (es : Entries) → EntriesWithin (addShape φ es) → shapeValues (sizes es) φ (values-at es) ≡ values-at (addShape φ es)
   unfolding shapeValues addShape valueTable formRow plainRow
   shape-values top es w = no-value es Entry.top refl
   shape-values (hasValue c) es w = no-value es (Entry.is c) refl

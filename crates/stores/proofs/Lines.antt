@@ -29,7 +29,7 @@ use Rattle.grammar.specs.Valid.{validLine}
 use Rattle.stores.specs.Lines.{putNode, putFact, putRule, lineCells, lineValues}
 use Rattle.stores.proofs.Columns.{put, put₃}
 use Rattle.stores.proofs.Prefixes.{line-right}
-use Rattle.stores.proofs.Entries.{withEntries, cellTable, valueTable, sizes, Within, after-shape, shape-cells, shape-values}
+use Rattle.stores.proofs.Entries.{withEntries, cellTable, valueTable, sizes, EntriesWithin, after-shape, shape-cells, shape-values}
 
 -- what lines add up to, before the counts are stored
 abbrev pub gathered : List Term → List Triple → List Shape → List Rule → Content
@@ -136,7 +136,7 @@ module _ (a : Book) where
       let i : itemsIn a ≡ length (above .items) = omega arith in
       cc
 
-  within-more : (φ : Shape) → entriesFit a φ ≡ true → Within (addShape φ above)
+  within-more : (φ : Shape) → entriesFit a φ ≡ true → EntriesWithin (addShape φ above)
   unfolding entriesFit entriesOf
   within-more φ e =
       let s = entries-size a in

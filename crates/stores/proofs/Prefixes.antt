@@ -41,18 +41,18 @@ pub new-made : (a : Book) (q : Pool) (n : Name) → newName a q n ≡ true → i
 unfolding newName wellNamed
 new-made a q n e = and-left _ _ (and-left (isName n && not (reserved q n)) _ e)
 
-joined : (a : Book) (p q : Pool) (n : Name) → newName a q n ≡ true → allNames (joins p q n) ≡ true
+named-joined : (a : Book) (p q : Pool) (n : Name) → newName a q n ≡ true → allNames (joins p q n) ≡ true
 unfolding joins allNames
-joined a p q n e = bool-cases (λ t. allNames (cond t (n ∷ []) []) ≡ true) (eqb (poolNumber p) (poolNumber q)) (λ _. and-both (isName n) true (new-made a q n e) refl) (λ _. refl)
+named-joined a p q n e = bool-cases (λ t. allNames (cond t (n ∷ []) []) ≡ true) (eqb (poolNumber p) (poolNumber q)) (λ _. and-both (isName n) true (new-made a q n e) refl) (λ _. refl)
 
 line-made : (a : Book) (p : Pool) (l : Line) → namesOk a l ≡ true → allNames (newNames p l) ≡ true
 unfolding newNames namesOk allNames
-line-made a p (link n) e = joined a p links n e
-line-made a p (type n) e = joined a p types n e
-line-made a p (lang n) e = joined a p langs n e
-line-made a p (node n t) e = joined a p nodes n e
+line-made a p (link n) e = named-joined a p links n e
+line-made a p (type n) e = named-joined a p types n e
+line-made a p (lang n) e = named-joined a p langs n e
+line-made a p (node n t) e = named-joined a p nodes n e
 line-made a p (fact t) e = refl
-line-made a p (shape n φ) e = joined a p shapes n e
+line-made a p (shape n φ) e = named-joined a p shapes n e
 line-made a p (rule r) e = refl
 
 start-made : (p : Pool) → allNames (names p []) ≡ true

@@ -9,9 +9,9 @@ use lib.ListN.{length}
 use borrow.Author.Tests.{leb-true}
 use Rattle.base.proofs.Bools.{and-left, and-right}
 use Rattle.tables.specs.Sizes.{longEnough}
-use Rattle.tables.proofs.Sizes.{Long, long}
+use Rattle.tables.proofs.Sizes.{Long, as-long}
 
--- xs, ys and zs, and how long each must be
+-- xs, ys and zs, and how as-long each must be
 module _ (ns cs : List ℕ) (vs : List ℤ) (x y z : ℕ) (xs ys zs : List ℕ) where
   pub record Beside : Type 0 where
     pub tables : Long ns cs vs
@@ -28,7 +28,7 @@ module _ (ns cs : List ℕ) (vs : List ℤ) (x y z : ℕ) (xs ys zs : List ℕ) 
       let more = and-right t (a && (b && d)) e in
       let rest = and-right a (b && d) more in
       record {
-        tables = long ns cs vs (and-left t (a && (b && d)) e);
+        tables = as-long ns cs vs (and-left t (a && (b && d)) e);
         first = leb-true x (length xs) (and-left a (b && d) more);
         second = leb-true y (length ys) (and-left b d rest);
         third = leb-true z (length zs) (and-right b d rest);

@@ -16,9 +16,9 @@ pub record Long (ns cs : List ℕ) (vs : List ℤ) : Type 0 where
   pub cells : cellCount ≤ length cs
   pub values : valueCount ≤ length vs
 
-pub long : (ns cs : List ℕ) (vs : List ℤ) → longEnough ns cs vs ≡ true → Long ns cs vs
+pub as-long : (ns cs : List ℕ) (vs : List ℤ) → longEnough ns cs vs ≡ true → Long ns cs vs
 unfolding longEnough
-long ns cs vs w = record {
+as-long ns cs vs w = record {
   names = leb-true nameCount (length ns) (and-left n (c && v) w);
   cells = leb-true cellCount (length cs) (and-left c v (and-right n (c && v) w));
   values = leb-true valueCount (length vs) (and-right c v (and-right n (c && v) w));

@@ -17,7 +17,7 @@ nodeText = 3
 abbrev pub nodeWords : ℕ
 nodeWords = 4
 
--- the first that is no kind's
+-- the first that is no node's
 abbrev pub nodeUnknown : ℕ
 nodeUnknown = 5
 
@@ -33,6 +33,10 @@ pathSeq = 2
 
 abbrev pub pathAlt : ℕ
 pathAlt = 3
+
+-- the first that is no path's
+abbrev pub pathUnknown : ℕ
+pathUnknown = 4
 
 -- ---- form entries
 abbrev pub formTrue : ℕ
@@ -98,6 +102,10 @@ formLesseq = 19
 abbrev pub formOnelang : ℕ
 formOnelang = 20
 
+-- the first that is no form's
+abbrev pub formUnknown : ℕ
+formUnknown = 21
+
 -- ---- the operand of `kind`
 abbrev pub kindThing : ℕ
 kindThing = 0
@@ -107,6 +115,10 @@ kindBlank = 1
 
 abbrev pub kindLiteral : ℕ
 kindLiteral = 2
+
+-- the first that is no kind's
+abbrev pub kindUnknown : ℕ
+kindUnknown = 3
 
 -- ---- targets of rules
 abbrev pub targetNode : ℕ
@@ -120,3 +132,7 @@ targetObjects = 2
 
 abbrev pub targetClass : ℕ
 targetClass = 3
+
+-- the first that is no target's
+abbrev pub targetUnknown : ℕ
+targetUnknown = 4

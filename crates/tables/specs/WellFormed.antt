@@ -7,6 +7,7 @@ use lib.Dec.{eqb, ltb, leb}
 use lib.ListN.{getD}
 use Rattle.base.specs.Bounded.{every}
 use Rattle.model.specs.Limits.{maxNodes, maxLinks, maxTypes, maxLangs, maxShapes, maxRules, maxFacts, maxForms, maxPaths, maxItems, maxCount}
+use Rattle.tables.specs.Codes as codes
 use Rattle.tables.specs.Layout.{noNumber, nodeCount, linkCount, typeCount, langCount, shapeCount, factCount, pathCount, formCount, itemCount, ruleCount, kindAt, typeAt, langAt, subjectAt, predicateAt, objectAt, itemAt, rootAt, ruleShapeAt, ruleTargetAt, ruleOperandAt}
 use Rattle.tables.specs.Entries.{PathEntry, link, inv, seq, alt, Entry}
 use Rattle.tables.specs.Decode.{pathEntryAt, entryAt}
@@ -61,7 +62,7 @@ module _ (cs : List ℕ) where
   entryOk e (Entry.conj a b) = ltb a e && ltb b e
   entryOk e (Entry.disj a b) = ltb a e && ltb b e
   entryOk e (Entry.neg a) = ltb a e
-  entryOk e (Entry.kind k) = ltb k 3
+  entryOk e (Entry.kind k) = ltb k codes.kindUnknown
   entryOk e (Entry.datatype t) = ltb t (typeCount cs)
   entryOk e (Entry.lang i n) = itemsOk (langCount cs) i n
   entryOk e (Entry.from x) = true

@@ -12,8 +12,29 @@ use model::MAX_SHAPES;
 use model::MAX_TYPES;
 use model::NAME_BYTES;
 
-// cells: ten counts, then per node
-pub const NODE_KINDS: usize = 10;
+// cells: ten counts
+pub const NODE_COUNT: usize = 0;
+
+pub const LINK_COUNT: usize = 1;
+
+pub const TYPE_COUNT: usize = 2;
+
+pub const LANG_COUNT: usize = 3;
+
+pub const SHAPE_COUNT: usize = 4;
+
+pub const FACT_COUNT: usize = 5;
+
+pub const PATH_COUNT: usize = 6;
+
+pub const FORM_COUNT: usize = 7;
+
+pub const ITEM_COUNT: usize = 8;
+
+pub const RULE_COUNT: usize = 9;
+
+// per node
+pub const NODE_KINDS: usize = RULE_COUNT + 1;
 
 pub const NODE_TYPES: usize = NODE_KINDS + MAX_NODES;
 

@@ -1,24 +1,34 @@
 // What stands at a place of the tables. A place past the end of a lent slice reads as zero. Node and link numbers are wrapped here.
+use crate::layout::FACT_COUNT;
 use crate::layout::FORM_CODES;
+use crate::layout::FORM_COUNT;
 use crate::layout::FORM_FIRSTS;
 use crate::layout::FORM_FOURTHS;
 use crate::layout::FORM_SECONDS;
 use crate::layout::FORM_THIRDS;
 use crate::layout::FORM_VALUES;
+use crate::layout::ITEM_COUNT;
 use crate::layout::ITEMS;
+use crate::layout::LANG_COUNT;
+use crate::layout::LINK_COUNT;
+use crate::layout::NODE_COUNT;
 use crate::layout::NODE_KINDS;
 use crate::layout::NODE_LANGS;
 use crate::layout::NODE_TYPES;
 use crate::layout::OBJECTS;
 use crate::layout::PATH_CODES;
+use crate::layout::PATH_COUNT;
 use crate::layout::PATH_FIRSTS;
 use crate::layout::PATH_SECONDS;
 use crate::layout::PREDICATES;
 use crate::layout::ROOTS;
+use crate::layout::RULE_COUNT;
 use crate::layout::RULE_OPERANDS;
 use crate::layout::RULE_SHAPES;
 use crate::layout::RULE_TARGETS;
+use crate::layout::SHAPE_COUNT;
 use crate::layout::SUBJECTS;
+use crate::layout::TYPE_COUNT;
 use model::LinkNo;
 use model::NodeNo;
 ghost use mathlib.Core.Path.{_≡_};
@@ -49,61 +59,61 @@ pub fn wide(x: u16) -> usize
 pub fn node_count(cells: &[u16]) -> usize
     ensures { λ r. ⌜ r ≡ nodeCount (now (cells .entry)) ⌝ }
 {
-    wide(cell_at(cells, 0, 0))
+    wide(cell_at(cells, 0, NODE_COUNT))
 }
 
 pub fn link_count(cells: &[u16]) -> usize
     ensures { λ r. ⌜ r ≡ linkCount (now (cells .entry)) ⌝ }
 {
-    wide(cell_at(cells, 0, 1))
+    wide(cell_at(cells, 0, LINK_COUNT))
 }
 
 pub fn type_count(cells: &[u16]) -> usize
     ensures { λ r. ⌜ r ≡ typeCount (now (cells .entry)) ⌝ }
 {
-    wide(cell_at(cells, 0, 2))
+    wide(cell_at(cells, 0, TYPE_COUNT))
 }
 
 pub fn lang_count(cells: &[u16]) -> usize
     ensures { λ r. ⌜ r ≡ langCount (now (cells .entry)) ⌝ }
 {
-    wide(cell_at(cells, 0, 3))
+    wide(cell_at(cells, 0, LANG_COUNT))
 }
 
 pub fn shape_count(cells: &[u16]) -> usize
     ensures { λ r. ⌜ r ≡ shapeCount (now (cells .entry)) ⌝ }
 {
-    wide(cell_at(cells, 0, 4))
+    wide(cell_at(cells, 0, SHAPE_COUNT))
 }
 
 pub fn fact_count(cells: &[u16]) -> usize
     ensures { λ r. ⌜ r ≡ factCount (now (cells .entry)) ⌝ }
 {
-    wide(cell_at(cells, 0, 5))
+    wide(cell_at(cells, 0, FACT_COUNT))
 }
 
 pub fn path_count(cells: &[u16]) -> usize
     ensures { λ r. ⌜ r ≡ pathCount (now (cells .entry)) ⌝ }
 {
-    wide(cell_at(cells, 0, 6))
+    wide(cell_at(cells, 0, PATH_COUNT))
 }
 
 pub fn form_count(cells: &[u16]) -> usize
     ensures { λ r. ⌜ r ≡ formCount (now (cells .entry)) ⌝ }
 {
-    wide(cell_at(cells, 0, 7))
+    wide(cell_at(cells, 0, FORM_COUNT))
 }
 
 pub fn item_count(cells: &[u16]) -> usize
     ensures { λ r. ⌜ r ≡ itemCount (now (cells .entry)) ⌝ }
 {
-    wide(cell_at(cells, 0, 8))
+    wide(cell_at(cells, 0, ITEM_COUNT))
 }
 
 pub fn rule_count(cells: &[u16]) -> usize
     ensures { λ r. ⌜ r ≡ ruleCount (now (cells .entry)) ⌝ }
 {
-    wide(cell_at(cells, 0, 9))
+    wide(cell_at(cells, 0, RULE_COUNT))
 }
 
 // Node v: its kind's code, its datatype, its language.

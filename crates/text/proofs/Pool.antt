@@ -7,15 +7,11 @@ use native.Mathlib.Numerals.{add-one}
 use native.Mathlib.Omega.{arith}
 use lib.ListN.{length, getD, take, drop, replicate, length-append, length-replicate, List·getD-append}
 use lib.Seq.{slice, length-slice, getD-append-add, paste, take-all}
+use Rattle.base.proofs.Lists.{zeros-at}
 use Rattle.text.specs.Pool.{padded, firstFrom, store}
 use Rattle.text.specs.declared.Found.the-variants.{At, Nothing}
 use Rattle.text.proofs.Parts.{slice-at}
 use Rattle.model.specs.Limits.{nameBytes}
-
-zeros-at : (n i : ℕ) → getD {A = ℕ} (replicate n 0) i 0 ≡ 0
-zeros-at zero i = refl
-zeros-at (suc n) zero = refl
-zeros-at (suc n) (suc i) = zeros-at n i
 
 module _ (s : List ℕ) (f t : ℕ) (k : t ≤ length s) where
   pub padded-in : (j : ℕ) → j < t - f → getD (padded (slice f t s)) j 0 ≡ getD s (f + j) 0

@@ -12,7 +12,7 @@ use lib.ListN.{length, getD}
 use lib.Seq.{slice, length-slice, ext-getD}
 use Rattle.base.specs.Bounded.{every}
 use Rattle.base.specs.Bytes.{eql}
-use Rattle.base.proofs.Bools.{same-test}
+use Rattle.base.proofs.Bools.{and-swap, same-test}
 use Rattle.base.proofs.Bounded.{every-at, every-all, every-ext}
 use Rattle.base.proofs.Bytes.{eql-true, eql-refl}
 use Rattle.text.specs.Pool.{padded, sameAt, zeroAt}
@@ -37,12 +37,7 @@ module _ (p : ℕ → Bool) where
   every-add : (m n : ℕ) → every p (m + n) ≡ (every p m && every (λ i. p (m + i)) n)
   unfolding every
   every-add m zero = rw (add-zero m) (sym (and-true (every p m)))
-  every-add m (suc n) = rw (add-suc m n) (ap (λ (b : Bool). p (m + n) && b) (every-add m n) ∙ swap (p (m + n)) (every p m) (every (λ i. p (m + i)) n))
-    where
-      swap : (a b c : Bool) → (a && (b && c)) ≡ (b && (a && c))
-      swap true b c = refl
-      swap false true c = refl
-      swap false false c = refl
+  every-add m (suc n) = rw (add-suc m n) (ap (λ (b : Bool). p (m + n) && b) (every-add m n) ∙ and-swap (p (m + n)) (every p m) (every (λ i. p (m + i)) n))
 
 -- lists of one length, byte by byte
 eql-every : (a b : List ℕ) (n : ℕ) → length a ≡ n → length b ≡ n → eql a b ≡ every (λ i. eqb (getD b i 0) (getD a i 0)) n

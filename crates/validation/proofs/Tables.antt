@@ -1,4 +1,4 @@
--- What read leaves for a valid book: tables that are long enough, well formed, and say what the book says.
+-- What read leaves for a valid book: tables that are as-long enough, well formed, and say what the book says.
 use Prim.Native.Nat.{ℕ, _≤_}
 use mathlib.Core.Path.{_≡_, ap, _∙_}
 use mathlib.Core.List.{List, _++_}
@@ -13,7 +13,7 @@ use Rattle.model.specs.Valid.{admissible}
 use Rattle.tables.specs.Layout.{nameCount, cellCount, valueCount}
 use Rattle.tables.specs.Sizes.{longEnough}
 use Rattle.tables.specs.WellFormed.{wellFormed}
-use Rattle.tables.proofs.Sizes.{Long, long}
+use Rattle.tables.proofs.Sizes.{Long, as-long}
 use Rattle.encoding.specs.Encode.{encodeNames, encodeCells, encodeValues}
 use Rattle.encoding.proofs.Counts.{names-length, cells-length, values-length}
 use Rattle.encoding.proofs.WellFormed.{well-formed}
@@ -62,7 +62,7 @@ module _ (s ns cs : List ℕ) (vs : List ℤ) (e : longEnough ns cs vs ≡ true)
 
   pub still-long : longEnough names′ cells′ values′ ≡ true
   still-long =
-      let l : Long ns cs vs = long ns cs vs e in
+      let l : Long ns cs vs = as-long ns cs vs e in
       long-kept ns names′ cs cells′ vs values′ e
       (ap length names-are ∙ same-length (encodeNames b) ns nameCount (names-length b) (l .names))
       (ap length cells-are ∙ same-length (encodeCells b) cs cellCount (cells-length b) (l .cells))

@@ -7,6 +7,7 @@ use mathlib.Core.Bool.{Bool, true, false, _&&_, and-false}
 use native.Mathlib.Omega.{arith}
 use lib.Dec.{ltb}
 use lib.ListN.{length, drop, getD, replicate}
+use Rattle.base.proofs.Lists.{zeros-at}
 use Rattle.base.specs.Range.{inRange}
 use Rattle.base.specs.Bytes.{eql}
 use Rattle.base.specs.Bounded.{some, every, one, size}
@@ -69,11 +70,6 @@ pub always-8 : (before after : Lent) → Demand3 (render bookB) before (refusal 
 always-8 before after claim e = never-both e (claim bookB b-valid refl .0)
 
 -- ---- a runner that touches no work space: over zeros no break is listed
-zeros-at : (n i : ℕ) → _≡_ {A = ℕ} (getD (replicate n 0) i 0) 0
-zeros-at zero i = refl
-zeros-at (suc n) zero = refl
-zeros-at (suc n) (suc i) = zeros-at n i
-
 no-member : (n i v : ℕ) → has (drop i (replicate n 0)) v ≡ false
 unfolding has
 no-member n i v = has-drop (replicate n 0) i v ∙ ap (λ (x : ℕ). bit x ((i * 64 + v) % 64)) (zeros-at n ((i * 64 + v) / 64)) ∙ bit-zero ((i * 64 + v) % 64)

@@ -20,18 +20,18 @@ use Rattle.tables.specs.Decode.{graphAt, shapeAt}
 use Rattle.verdict.specs.Memo.{yesPlace, noPlace, settled, MemoRight, memoCount}
 
 -- ---- words with one number more
-within : (ws : List ℕ) (m : ℕ) → has ws m ≡ true → m < 64 * length ws
-within ws m h = bool-cases (λ b. ltb m (64 * length ws) ≡ b → m < 64 * length ws) (ltb m (64 * length ws)) (λ _ q. ltb-true m (64 * length ws) q) (λ _ q. absurd (never-both h (has-out ws m (let g : 64 * length ws ≤ m = ltb-false m (64 * length ws) q in omega arith)))) refl
+has-low : (ws : List ℕ) (m : ℕ) → has ws m ≡ true → m < 64 * length ws
+has-low ws m h = bool-cases (λ b. ltb m (64 * length ws) ≡ b → m < 64 * length ws) (ltb m (64 * length ws)) (λ _ q. ltb-true m (64 * length ws) q) (λ _ q. absurd (never-both h (has-out ws m (let g : 64 * length ws ≤ m = ltb-false m (64 * length ws) q in omega arith)))) refl
 
 has-with : (ws : List ℕ) (k m : ℕ) → has (with ws k) m ≡ true → (has ws m ≡ true) ⊎ (m ≡ k)
 unfolding with
 has-with ws k m h =
-    let l : m < 64 * length ws = subst (λ (n : ℕ). m < 64 * n) (length-wordsOf (λ m. has ws m || eqb m k) (length ws)) (within (wordsOf (λ m. has ws m || eqb m k) (length ws)) m h) in
+    let l : m < 64 * length ws = subst (λ (n : ℕ). m < 64 * n) (length-wordsOf (λ m. has ws m || eqb m k) (length ws)) (has-low (wordsOf (λ m. has ws m || eqb m k) (length ws)) m h) in
     ⊎-elim (λ a. inl a) (λ b. inr (eqb-true m k b)) (or-cases (has ws m) (eqb m k) (sym (has-wordsOf (λ m. has ws m || eqb m k) (length ws) m l) ∙ h))
 
 with-has : (ws : List ℕ) (k m : ℕ) → has ws m ≡ true → has (with ws k) m ≡ true
 unfolding with
-with-has ws k m h = has-wordsOf (λ m. has ws m || eqb m k) (length ws) m (within ws m h) ∙ ap (λ (b : Bool). b || eqb m k) h
+with-has ws k m h = has-wordsOf (λ m. has ws m || eqb m k) (length ws) m (has-low ws m h) ∙ ap (λ (b : Bool). b || eqb m k) h
 
 pub with-new : (ws : List ℕ) (k : ℕ) → k < 64 * length ws → has (with ws k) k ≡ true
 unfolding with

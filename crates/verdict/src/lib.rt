@@ -198,6 +198,7 @@ fn entry_holds(
         codes::FORM_CLOSED => links_hold(cells, index, e, v),
         codes::FORM_ONELANG => lang_holds(cells, index, values, e, v),
         codes::FORM_KIND..=codes::FORM_BELOW => test_holds(cells, values, e, v),
+        // equal, apart, less, lesseq
         _ => sets_hold(cells, index, values, e, v),
     }
 }
@@ -246,6 +247,7 @@ fn set_of_rows(
             path,
             l,
         ),
+        // onelang
         _ => lang_set(first, new, Condition::OneLang, cells, index, values, p),
     }
 }

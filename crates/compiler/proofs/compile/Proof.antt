@@ -6,7 +6,7 @@ use lib.Seq.{length-take-le}
 use borrow.Author.Tests.{not-true, not-false}
 use Rattle.model.proofs.Answers.{short, malformed, done}
 use Rattle.tables.specs.Sizes.{longEnough}
-use Rattle.tables.proofs.Sizes.{long}
+use Rattle.tables.proofs.Sizes.{as-long}
 use Rattle.compiler.proofs.Answers.{compile-answers, short-tables, short-plan, long-both, fits}
 use Rattle.tables.specs.Layout.{cellCount}
 use borrow.Author.Needs.{needs}
@@ -23,7 +23,7 @@ returns-2 : tie.Need-returns-2
 returns-2 c = let a = c .before .before .before .before .before .before .args in short (compile-answers (now (a .names)) (now (a .cells)) (now (a .values)) (now (a .plan))) (short-plan (now (a .names)) (now (a .cells)) (now (a .values)) (now (a .plan)) (c .if2 .taken))
 
 slice-aggregate-part : tie.Need-slice-aggregate-part
-slice-aggregate-part c = let a = c .before .before .before .before .before .before .before .args in let e : longEnough (now (a .names)) (now (a .cells)) (now (a .values)) ≡ true = sym (c .before .before .before .enough .ensures) ∙ not-false (c .before .before .before .enough .result) (c .before .before .if1 .left) in sym (length-take-le cellCount (now (a .cells)) (long (now (a .names)) (now (a .cells)) (now (a .values)) e .cells))
+slice-aggregate-part c = let a = c .before .before .before .before .before .before .before .args in let e : longEnough (now (a .names)) (now (a .cells)) (now (a .values)) ≡ true = sym (c .before .before .before .enough .ensures) ∙ not-false (c .before .before .before .enough .result) (c .before .before .if1 .left) in sym (length-take-le cellCount (now (a .cells)) (as-long (now (a .names)) (now (a .cells)) (now (a .values)) e .cells))
 
 well-formed-requires : tie.Need-well-formed-requires
 well-formed-requires c κs = search needs

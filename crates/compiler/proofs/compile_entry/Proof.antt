@@ -15,7 +15,7 @@ use Rattle.tables.proofs.reads.form_code.Reads as form-code-reads
 use Rattle.compiler.proofs.two.Reads as two-reads
 use Rattle.compiler.proofs.is_steps.Reads as is-steps-reads
 use Rattle.compiler.proofs.same_steps.Reads as same-steps-reads
-use Rattle.compiler.proofs.joined.Reads as joined-reads
+use Rattle.compiler.proofs.parts_steps.Reads as parts-steps-reads
 use Rattle.compiler.proofs.swapped.Reads as swapped-reads
 use Rattle.compiler.proofs.count_entry.Reads as count-entry-reads
 use Rattle.compiler.proofs.all_entry.Reads as all-entry-reads
@@ -25,7 +25,7 @@ use Rattle.compiler.proofs.path_steps.Reads as path-steps-reads
 
 -- what is asked of each callee, and what it tells
 abbrev calls : lts.Claims
-calls = (form-code-reads.Asked, form-code-reads.Learnt, two-reads.Asked, two-reads.Learnt, is-steps-reads.Asked, is-steps-reads.Learnt, same-steps-reads.Asked, same-steps-reads.Learnt, joined-reads.Asked, joined-reads.Learnt, swapped-reads.Asked, swapped-reads.Learnt, count-entry-reads.Asked, count-entry-reads.Learnt, all-entry-reads.Asked, all-entry-reads.Learnt, link-steps-reads.Asked, link-steps-reads.Learnt, own-steps-reads.Asked, own-steps-reads.Learnt, path-steps-reads.Asked, path-steps-reads.Learnt)
+calls = (form-code-reads.Asked, form-code-reads.Learnt, two-reads.Asked, two-reads.Learnt, is-steps-reads.Asked, is-steps-reads.Learnt, same-steps-reads.Asked, same-steps-reads.Learnt, parts-steps-reads.Asked, parts-steps-reads.Learnt, swapped-reads.Asked, swapped-reads.Learnt, count-entry-reads.Asked, count-entry-reads.Learnt, all-entry-reads.Asked, all-entry-reads.Learnt, link-steps-reads.Asked, link-steps-reads.Learnt, own-steps-reads.Asked, own-steps-reads.Learnt, path-steps-reads.Asked, path-steps-reads.Learnt)
 
 -- what is known after the entry's code has been read, which all arms share
 abbrev Place : Type 0
@@ -48,11 +48,11 @@ is-steps-requires c κs = search needs
 same-steps-requires : tie.Need-same-steps-requires
 same-steps-requires c κs = search needs
 
-joined-requires : tie.Need-joined-requires
-joined-requires c κs = search needs
+parts-steps-requires : tie.Need-parts-steps-requires
+parts-steps-requires c κs = search needs
 
-joined-requires-2 : tie.Need-joined-requires-2
-joined-requires-2 c κs = search needs
+parts-steps-requires-2 : tie.Need-parts-steps-requires-2
+parts-steps-requires-2 c κs = search needs
 
 swapped-requires : tie.Need-swapped-requires
 swapped-requires c κs = search needs
@@ -105,14 +105,14 @@ same-length-3 c = search needs
 
 returns-4 : tie.Need-returns-4
 unfolding numbersOf
-returns-4 c = arm-conj (read (c .before .before .before .before .before)) (c .before .before .joined .last .0) (c .before .before .joined .result) (c .before .before .before .before .match .keys4) (c .before .before .joined .ensures)
+returns-4 c = arm-conj (read (c .before .before .before .before .before)) (c .before .before .parts-steps .last .0) (c .before .before .parts-steps .result) (c .before .before .before .before .match .keys4) (c .before .before .parts-steps .ensures)
 
 same-length-4 : tie.Need-same-length-4
 same-length-4 c = search needs
 
 returns-5 : tie.Need-returns-5
 unfolding numbersOf
-returns-5 c = arm-disj (read (c .before .before .before .before .before)) (c .before .before .joined2 .last .0) (c .before .before .joined2 .result) (c .before .before .before .before .match .keys5) (c .before .before .joined2 .ensures)
+returns-5 c = arm-disj (read (c .before .before .before .before .before)) (c .before .before .parts-steps2 .last .0) (c .before .before .parts-steps2 .result) (c .before .before .before .before .match .keys5) (c .before .before .parts-steps2 .ensures)
 
 returns-6 : tie.Need-returns-6
 returns-6 c = arm-neg (read (c .before .before)) (read (c .before .before) .ps) (c .swapped .result) (c .before .match .keys6) refl (c .swapped .ensures .0) (c .swapped .ensures .1) (c .swapped .ensures .2)
@@ -188,8 +188,8 @@ compile-entry-spec =
     two-requires
     is-steps-requires
     same-steps-requires
-    joined-requires
-    joined-requires-2
+    parts-steps-requires
+    parts-steps-requires-2
     swapped-requires
     count-entry-requires
     all-entry-requires

@@ -4,11 +4,12 @@ use mathlib.Core.Path.{_≡_, refl, ap, _∙_, subst}
 use denote.Ref.{now}
 use native.Mathlib.Omega.{arith}
 use lib.ListN.{getD, length, length-set, length-replicate}
+use Rattle.base.proofs.Lists.{zeros-at}
 use Rattle.model.specs.Limits.{maxForms}
 use Rattle.tables.specs.Layout.{formCount}
 use Rattle.translation.specs.Compile.{made}
 use Rattle.compiler.specs.Stores.{FormsAdded}
-use Rattle.compiler.proofs.Loops.{zeros, forms-none, keeps-none, forms-more, keeps-more}
+use Rattle.compiler.proofs.Loops.{forms-none, keeps-none, forms-more, keeps-more}
 use Rattle.translation.proofs.WellMade.{start-four}
 use borrow.Author.Needs.{needs}
 use Rattle.compiler.proofs.fill_forms.Statement.{statement}
@@ -24,7 +25,7 @@ form-count-requires : tie.Need-form-count-requires Inv-loop μ-loop
 form-count-requires c κs = search needs
 
 loop-holds : tie.Need-loop-holds Inv-loop μ-loop
-loop-holds c = let a = c .before .before .before .before .args in (search needs, c .form-count .ensures, refl, ap length (c .before .before .before .before .pre .1) ∙ length-replicate {A = ℕ} maxForms 0, length-replicate {A = ℕ} maxForms 0, forms-none (now (a .cells)) (now (a .plan)) (now (a .breaks)) (λ j. ap (λ (l : List ℕ). getD l j 0) (c .before .before .before .before .pre .1) ∙ zeros maxForms j), keeps-none (now (a .cells)))
+loop-holds c = let a = c .before .before .before .before .args in (search needs, c .form-count .ensures, refl, ap length (c .before .before .before .before .pre .1) ∙ length-replicate {A = ℕ} maxForms 0, length-replicate {A = ℕ} maxForms 0, forms-none (now (a .cells)) (now (a .plan)) (now (a .breaks)) (λ j. ap (λ (l : List ℕ). getD l j 0) (c .before .before .before .before .pre .1) ∙ zeros-at maxForms j), keeps-none (now (a .cells)))
 
 slice-aggregate-compile-entry : tie.Need-slice-aggregate-compile-entry Inv-loop μ-loop
 slice-aggregate-compile-entry c = search needs

@@ -80,9 +80,9 @@ same-language-requires : tie.Need-same-language-requires Inv-loop μ-loop Inv-se
 same-language-requires c κs = search needs
 
 -- what is asked of the pair
-told : (c : tie.After-same-language Inv-loop μ-loop Inv-search μ-search) (vs : List ℤ)
+asked : (c : tie.After-same-language Inv-loop μ-loop Inv-search μ-search) (vs : List ℤ)
     → c .same-language .result ≡ alike (c .before .before .before .before .before .before .before .before .before .before .before .before .before .before .args .cells .now) vs (getD (c .before .before .before .before .before .before .before .before .gather .last .0) (c .before .before .before .before .before .before .search .i) 0) (getD (c .before .before .before .before .before .before .before .before .gather .last .0) (c .before .before .loop .k) 0)
-told c vs =
+asked c vs =
     let cs = c .before .before .before .before .before .before .before .before .before .before .before .before .before .before .args .cells .now in
     let i = c .before .before .before .before .before .before .search .inv in
     let x : ℕ = getD (c .before .before .before .before .before .before .before .before .gather .last .0) (c .before .before .before .before .before .before .search .i) 0 in
@@ -100,7 +100,7 @@ loop-less c = search needs
 loop-again : tie.Need-loop-again Inv-loop μ-loop Inv-search μ-search
 loop-again c =
     let l = c .before .before .before .loop in
-    (l .inv .0, omega (arith, l .inv .1), λ vs. clear-more (alike (c .before .before .before .before .before .before .before .before .before .before .before .before .before .before .before .args .cells .now) vs) (c .before .before .before .before .before .before .before .before .before .gather .last .0) (c .before .before .before .before .before .before .before .search .i) (l .k) (l .inv .2 vs) (sym (told (c .before) vs) ∙ c .if1 .left))
+    (l .inv .0, omega (arith, l .inv .1), λ vs. clear-more (alike (c .before .before .before .before .before .before .before .before .before .before .before .before .before .before .before .args .cells .now) vs) (c .before .before .before .before .before .before .before .before .before .gather .last .0) (c .before .before .before .before .before .before .before .search .i) (l .k) (l .inv .2 vs) (sym (asked (c .before) vs) ∙ c .if1 .left))
 
 add-i : tie.Need-add-i Inv-loop μ-loop Inv-search μ-search
 add-i c = omega (arith, c .before .before .before .before .search-test, room (c .before .before .before .before))
@@ -132,7 +132,7 @@ returns-2 c =
     let cs = a .cells .now in
     let s = c .before .before .before .before .before .before .before .search in
     let l = c .before .before .before .loop in
-    λ vs. sym (sym (clash-ordered cs vs (λ w. has (a .a .now) w && has (a .b .now) w)) ∙ ap (firstPair (among (λ w. has (a .a .now) w && has (a .b .now) w) (λ w. has (a .a .now) w && has (a .b .now) w) (ordered (alike cs vs)))) (sym (s .inv .1)) ∙ clash-hit (λ w. has (a .a .now) w && has (a .b .now) w) (alike cs vs) (c .before .before .before .before .before .before .before .before .before .before .before .node-count .result) (s .inv .2) (l .inv .1) (omega (arith, c .before .before .loop-test)) (s .inv .4 vs) (l .inv .2 vs) (sym (told (c .before) vs) ∙ c .if1 .taken))
+    λ vs. sym (sym (clash-ordered cs vs (λ w. has (a .a .now) w && has (a .b .now) w)) ∙ ap (firstPair (among (λ w. has (a .a .now) w && has (a .b .now) w) (λ w. has (a .a .now) w && has (a .b .now) w) (ordered (alike cs vs)))) (sym (s .inv .1)) ∙ clash-hit (λ w. has (a .a .now) w && has (a .b .now) w) (alike cs vs) (c .before .before .before .before .before .before .before .before .before .before .before .node-count .result) (s .inv .2) (l .inv .1) (omega (arith, c .before .before .loop-test)) (s .inv .4 vs) (l .inv .2 vs) (sym (asked (c .before) vs) ∙ c .if1 .taken))
 
 pub first-clash-spec : {M : Type 1} → statement M
 first-clash-spec =

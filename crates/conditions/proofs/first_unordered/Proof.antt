@@ -93,10 +93,10 @@ breaks-order-requires : tie.Need-breaks-order-requires Inv-loop μ-loop Inv-sear
 breaks-order-requires c κs = search needs
 
 -- what is asked of the pair
-told : (c : tie.After-breaks-order Inv-loop μ-loop Inv-search μ-search)
+asked : (c : tie.After-breaks-order Inv-loop μ-loop Inv-search μ-search)
     → let a = c .before .before .before .before .before .before .before .before .before .before .before .before .before .before .before .before .args in
     c .breaks-order .result ≡ unordered (a .order) (termAt (a .cells .now) (a .values .now) (c .before .before .before .before .before .before .search .x)) (termAt (a .cells .now) (a .values .now) (getD (c .before .before .before .before .before .before .before .before .gather .last .0) (c .before .before .loop .k) 0))
-told c =
+asked c =
     let a = c .before .before .before .before .before .before .before .before .before .before .before .before .before .before .before .before .args in
     let cs = a .cells .now in
     let vs = a .values .now in
@@ -119,7 +119,7 @@ loop-again c =
     let vs = a .values .now in
     let f : ℕ → ℕ → Bool = λ x y. unordered (a .order) (termAt cs vs x) (termAt cs vs y) in
     let l = c .before .before .before .loop in
-    (l .inv .0, omega (arith, c .before .before .loop-test), every-more (λ j. not (f (c .before .before .before .before .before .before .before .search .x) (getD (c .before .before .before .before .before .before .before .before .before .gather .last .0) j 0))) (l .k) (l .inv .2) (ap not (sym (told (c .before)) ∙ c .if2 .left)))
+    (l .inv .0, omega (arith, c .before .before .loop-test), every-more (λ j. not (f (c .before .before .before .before .before .before .before .search .x) (getD (c .before .before .before .before .before .before .before .before .before .gather .last .0) j 0))) (l .k) (l .inv .2) (ap not (sym (asked (c .before)) ∙ c .if2 .left)))
 
 add-next-member : tie.Need-add-next-member Inv-loop μ-loop Inv-search μ-search
 add-next-member c = search needs
@@ -162,7 +162,7 @@ returns-3 c =
     let s = c .before .before .before .before .before .before .before .search in
     let l = c .before .before .before .loop in
     let y : ℕ = getD (c .before .before .before .before .before .before .before .before .before .gather .last .0) (l .k) 0 in
-    sym (ap (firstPair (among (has (a .a .now)) (has (a .b .now)) f)) (sym (s .inv .1)) ∙ pair-hit (has (a .a .now)) (has (a .b .now)) f n (s .inv .2) (s .inv .3) (omega (arith, c .before .before .before .before .before .before .search-test)) (omega (arith, c .before .before .loop-test)) (l .inv .2) (sym (told (c .before)) ∙ c .if2 .taken))
+    sym (ap (firstPair (among (has (a .a .now)) (has (a .b .now)) f)) (sym (s .inv .1)) ∙ pair-hit (has (a .a .now)) (has (a .b .now)) f n (s .inv .2) (s .inv .3) (omega (arith, c .before .before .before .before .before .before .search-test)) (omega (arith, c .before .before .loop-test)) (l .inv .2) (sym (asked (c .before)) ∙ c .if2 .taken))
 
 pub first-unordered-spec : {M : Type 1} → statement M
 first-unordered-spec =

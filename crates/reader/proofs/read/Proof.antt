@@ -4,7 +4,7 @@ use borrow.Author.Tests.{not-true, not-false}
 use Rattle.model.specs.Answers.{Answer, mapValue}
 use Rattle.model.specs.Books.{Book}
 use Rattle.tables.specs.Sizes.{longEnough}
-use Rattle.tables.proofs.Sizes.{Long, long}
+use Rattle.tables.proofs.Sizes.{Long, as-long}
 use Rattle.model.specs.Sizes.{countsIn}
 use Rattle.reader.specs.Answers.{namesLeft, cellsLeft, valuesLeft}
 use Rattle.reader.proofs.Answers.{answered-short, answered-long}
@@ -13,12 +13,12 @@ use borrow.Author.Needs.{needs}
 use Rattle.reader.proofs.read.Statement.{statement}
 use Rattle.reader.proofs.read.Tie as tie
 
--- the tables are long enough
+-- the tables are as-long enough
 enough : (c : tie.Else1) → longEnough (c .before .before .before .before .before .before .before .before .args .names .now) (c .before .before .before .before .before .before .before .before .args .cells .now) (c .before .before .before .before .before .before .before .before .args .values .now) ≡ true
 enough c = sym (c .before .enough .ensures) ∙ not-false (c .before .enough .result) (c .if1 .left)
 
 lengths : (c : tie.Else1) → Long (c .before .before .before .before .before .before .before .before .args .names .now) (c .before .before .before .before .before .before .before .before .args .cells .now) (c .before .before .before .before .before .before .before .before .args .values .now)
-lengths c = long _ _ _ (enough c)
+lengths c = as-long _ _ _ (enough c)
 
 enough-requires : tie.Need-enough-requires
 enough-requires c κs = search needs

@@ -2,7 +2,7 @@ use mathlib.Core.Path.{sym, _∙_}
 use denote.Ref.{now}
 use native.Mathlib.Omega.{arith}
 use lib.Seq.{length-take-le}
-use Rattle.tables.proofs.Sizes.{long}
+use Rattle.tables.proofs.Sizes.{as-long}
 use Rattle.tables.specs.Layout.{cellCount}
 use Rattle.plan.specs.Layout.{planCount}
 use Rattle.tablerun.proofs.Answers.{plan-right, rows-left, lengths-left}
@@ -14,7 +14,7 @@ plan-and-run-requires : tie.Need-plan-and-run-requires
 plan-and-run-requires c κs = search needs
 
 slice-aggregate-list-rows : tie.Need-slice-aggregate-list-rows
-slice-aggregate-list-rows c = let a = c .before .before .before .before .before .before .before .before .before .before .before .before .before .before .before .before .args in let q = c .before .before .before .before .before .before .before .before .before .before .before .before .before .before .before .before .pre in let x = c .before .before .before .before .before .before .before .plan-and-run in sym (length-take-le cellCount (now (a .cells)) (long (now (a .names)) (now (a .cells)) (now (a .values)) (q .0) .cells))
+slice-aggregate-list-rows c = let a = c .before .before .before .before .before .before .before .before .before .before .before .before .before .before .before .before .args in let q = c .before .before .before .before .before .before .before .before .before .before .before .before .before .before .before .before .pre in let x = c .before .before .before .before .before .before .before .plan-and-run in sym (length-take-le cellCount (now (a .cells)) (as-long (now (a .names)) (now (a .cells)) (now (a .values)) (q .0) .cells))
 
 slice-reshare-prefix-list-rows : tie.Need-slice-reshare-prefix-list-rows
 slice-reshare-prefix-list-rows c = search needs

@@ -6,7 +6,7 @@ use denote.Ref.{now}
 use lib.Seq.{length-take-le}
 use borrow.Author.Tests.{not-true, not-false}
 use Rattle.tables.specs.Sizes.{longEnough}
-use Rattle.tables.proofs.Sizes.{long}
+use Rattle.tables.proofs.Sizes.{as-long}
 use Rattle.verdict.proofs.Answers.{verdict-short, verdict-long, answered}
 use Rattle.tables.specs.Layout.{cellCount, valueCount}
 use borrow.Author.Needs.{needs}
@@ -28,19 +28,19 @@ slice-aggregate-answer-on : tie.Need-slice-aggregate-answer-on
 slice-aggregate-answer-on c =
     let a = c .before .before .before .before .before .args in
     let e : longEnough (now (a .names)) (now (a .cells)) (now (a .values)) ≡ true = sym (c .before .before .enough .ensures) ∙ not-false (c .before .before .enough .result) (c .before .if1 .left) in
-    sym (length-take-le cellCount (now (a .cells)) (long (now (a .names)) (now (a .cells)) (now (a .values)) e .cells))
+    sym (length-take-le cellCount (now (a .cells)) (as-long (now (a .names)) (now (a .cells)) (now (a .values)) e .cells))
 
 slice-aggregate-answer-on-2 : tie.Need-slice-aggregate-answer-on-2
 slice-aggregate-answer-on-2 c =
     let a = c .before .before .before .before .before .before .args in
     let e : longEnough (now (a .names)) (now (a .cells)) (now (a .values)) ≡ true = sym (c .before .before .before .enough .ensures) ∙ not-false (c .before .before .before .enough .result) (c .before .before .if1 .left) in
-    sym (length-take-le valueCount (now (a .values)) (long (now (a .names)) (now (a .cells)) (now (a .values)) e .values))
+    sym (length-take-le valueCount (now (a .values)) (as-long (now (a .names)) (now (a .cells)) (now (a .values)) e .values))
 
 answer-on-requires : tie.Need-answer-on-requires
 answer-on-requires c κs =
     let a = c .before .before .before .before .before .before .args in
     let e : longEnough (now (a .names)) (now (a .cells)) (now (a .values)) ≡ true = sym (c .before .before .before .enough .ensures) ∙ not-false (c .before .before .before .enough .result) (c .before .before .if1 .left) in
-    omega (arith, length-take-le cellCount (now (a .cells)) (long (now (a .names)) (now (a .cells)) (now (a .values)) e .cells))
+    omega (arith, length-take-le cellCount (now (a .cells)) (as-long (now (a .names)) (now (a .cells)) (now (a .values)) e .cells))
 
 with-tally-requires-2 : tie.Need-with-tally-requires-2
 with-tally-requires-2 c κs = search needs

@@ -3,8 +3,8 @@ use mathlib.Core.Path.{ap, _∙_}
 use denote.Ref.{now}
 use lib.ListN.{getD}
 use borrow.Author.Needs.{needs}
-use Rattle.compiler.proofs.joined.Statement.{statement}
-use Rattle.compiler.proofs.joined.Tie as tie
+use Rattle.compiler.proofs.parts_steps.Statement.{statement}
+use Rattle.compiler.proofs.parts_steps.Tie as tie
 
 form-first-requires : tie.Need-form-first-requires
 form-first-requires c κs = search needs
@@ -39,8 +39,8 @@ same-length c = search needs
 returns : tie.Need-returns
 returns c = rw (← (c .before .before .before .before .before .before .before .cell .ensures ∙ ap (λ (i : ℕ). getD (now (c .before .before .before .before .before .before .before .before .before .before .before .before .before .before .before .before .args .keeps)) i 0) (c .before .before .before .before .before .before .before .before .before .before .wide .ensures ∙ c .before .before .before .before .before .before .before .before .before .before .before .form-first .ensures)), ← (c .before .before .before .before .before .before .cell2 .ensures ∙ ap (λ (i : ℕ). getD (now (c .before .before .before .before .before .before .before .before .before .before .before .before .before .before .before .before .args .keeps)) i 0) (c .before .before .before .before .before .before .before .before .wide2 .ensures ∙ c .before .before .before .before .before .before .before .before .before .form-second .ensures)), ← (c .before .before .before .before .before .cell3 .ensures ∙ ap (λ (i : ℕ). getD (now (c .before .before .before .before .before .before .before .before .before .before .before .before .before .before .before .before .args .breaks)) i 0) (c .before .before .before .before .before .before .before .before .before .before .wide .ensures ∙ c .before .before .before .before .before .before .before .before .before .before .before .form-first .ensures)), ← (c .before .before .before .before .cell4 .ensures ∙ ap (λ (i : ℕ). getD (now (c .before .before .before .before .before .before .before .before .before .before .before .before .before .before .before .before .args .breaks)) i 0) (c .before .before .before .before .before .before .before .before .wide2 .ensures ∙ c .before .before .before .before .before .before .before .before .before .form-second .ensures))) (c .before .before .two .ensures)
 
-pub joined-spec : {M : Type 1} → statement M
-joined-spec =
+pub parts-steps-spec : {M : Type 1} → statement M
+parts-steps-spec =
     tie.close
     (tie.spec
     form-first-requires
