@@ -1,4 +1,4 @@
--- A place of a column; the items of a list; and the shorter parts of the tables: how many there are of each, and when one is right.
+-- A place of a column; the items of a list; the shorter parts of the tables: how many of each, and when one is right.
 use Prim.Native.Nat.{ℕ, _+_}
 use mathlib.Core.List.{List, []}
 use mathlib.Core.Bool.{Bool}
