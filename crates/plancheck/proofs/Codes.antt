@@ -1,5 +1,5 @@
 -- What the code that was read says of an entry and of a step.
-use Prim.Native.Nat.{ℕ, _≤_}
+use Prim.Native.Nat.{ℕ, suc, _≤_}
 use mathlib.Core.List.{List}
 use mathlib.Core.Bool.{Bool, true, false, not, cond, _&&_, and-false}
 use mathlib.Core.Path.{_≡_, refl, sym, ap, _∙_}
@@ -12,6 +12,7 @@ use Rattle.base.specs.Bounded.{every}
 use Rattle.base.proofs.Bools.{bool-cases, and-right}
 use Rattle.base.proofs.Bounded.{every-at}
 use Rattle.model.specs.Graph.{holds}
+use Rattle.tables.specs.Codes as codes
 use Rattle.tables.specs.Layout.{formCount, formCodeAt, formFirstAt, formSecondAt, formThirdAt, formFourthAt}
 use Rattle.tables.specs.Entries.{Entry, entryOf}
 use Rattle.tables.specs.Decode.{entryAt}
@@ -35,30 +36,30 @@ module _ (cs : List ℕ) where
     abbrev pub entryBy : ℤ → ℕ → Entry
     entryBy x k = entryOf k (formFirstAt cs e) (formSecondAt cs e) (formThirdAt cs e) (formFourthAt cs e) x
 
-    pub test-code : (x : ℤ) (k : ℕ) → holds (λ t. true) (testOf cs (entryBy x k)) ≡ (leb 6 k && leb k 12)
+    pub test-code : (x : ℤ) (k : ℕ) → holds (λ t. true) (testOf cs (entryBy x k)) ≡ (leb codes.formKind k && leb k codes.formBelow)
     unfolding holds testOf entryOf every
-    test-code x = by-code (λ k. holds (λ t. true) (testOf cs (entryBy x k))) (λ k. leb 6 k && leb k 12) 21 refl
-        (λ k l. rw (List·getD-eq-default, lt-leb k 12 (omega arith), and-false (leb 6 k)))
+    test-code x = by-code (λ k. holds (λ t. true) (testOf cs (entryBy x k))) (λ k. leb codes.formKind k && leb k codes.formBelow) (suc codes.formOnelang) refl
+        (λ k l. rw (List·getD-eq-default, lt-leb k codes.formBelow (omega arith), and-false (leb codes.formKind k)))
 
-    closed-code : (x : ℤ) (k : ℕ) → holds (λ ps. true) (linksOf cs (entryBy x k)) ≡ eqb k 17
+    closed-code : (x : ℤ) (k : ℕ) → holds (λ ps. true) (linksOf cs (entryBy x k)) ≡ eqb k codes.formClosed
     unfolding holds linksOf entryOf every
-    closed-code x = by-code (λ k. holds (λ ps. true) (linksOf cs (entryBy x k))) (λ k. eqb k 17) 21 refl
-        (λ k l. rw (List·getD-eq-default, ne-eqb k 17 (λ q. let z : ⊥ = omega arith in z)))
+    closed-code x = by-code (λ k. holds (λ ps. true) (linksOf cs (entryBy x k))) (λ k. eqb k codes.formClosed) (suc codes.formOnelang) refl
+        (λ k l. rw (List·getD-eq-default, ne-eqb k codes.formClosed (λ q. let z : ⊥ = omega arith in z)))
 
-    pub test-read : (k : ℕ) → k ≡ formCodeAt cs e → (ltb e (formCount cs) && (leb 6 k && leb k 12)) ≡ testOk cs e
+    pub test-read : (k : ℕ) → k ≡ formCodeAt cs e → (ltb e (formCount cs) && (leb codes.formKind k && leb k codes.formBelow)) ≡ testOk cs e
     unfolding testOk entryAt
     test-read k x = ap (λ (b : Bool). ltb e (formCount cs) && b) (sym (test-code (pos 0) k) ∙ ap (λ (j : ℕ). holds (λ t. true) (testOf cs (entryBy (pos 0) j))) x)
 
-    pub closed-read : (k : ℕ) → k ≡ formCodeAt cs e → (ltb e (formCount cs) && eqb k 17) ≡ closedOk cs e
+    pub closed-read : (k : ℕ) → k ≡ formCodeAt cs e → (ltb e (formCount cs) && eqb k codes.formClosed) ≡ closedOk cs e
     unfolding closedOk entryAt
     closed-read k x = ap (λ (b : Bool). ltb e (formCount cs) && b) (sym (closed-code (pos 0) k) ∙ ap (λ (j : ℕ). holds (λ ps. true) (linksOf cs (entryBy (pos 0) j))) x)
 
     -- the code of an entry that is a test; of one that is `closed`
-    pub test-codes : testOk cs e ≡ true → (leb 6 (formCodeAt cs e) && leb (formCodeAt cs e) 12) ≡ true
-    test-codes w = and-right (ltb e (formCount cs)) (leb 6 (formCodeAt cs e) && leb (formCodeAt cs e) 12) (test-read (formCodeAt cs e) refl ∙ w)
+    pub test-codes : testOk cs e ≡ true → (leb codes.formKind (formCodeAt cs e) && leb (formCodeAt cs e) codes.formBelow) ≡ true
+    test-codes w = and-right (ltb e (formCount cs)) (leb codes.formKind (formCodeAt cs e) && leb (formCodeAt cs e) codes.formBelow) (test-read (formCodeAt cs e) refl ∙ w)
 
-    pub closed-codes : closedOk cs e ≡ true → formCodeAt cs e ≡ 17
-    closed-codes w = eqb-true (formCodeAt cs e) 17 (and-right (ltb e (formCount cs)) (eqb (formCodeAt cs e) 17) (closed-read (formCodeAt cs e) refl ∙ w))
+    pub closed-codes : closedOk cs e ≡ true → formCodeAt cs e ≡ codes.formClosed
+    closed-codes w = eqb-true (formCodeAt cs e) codes.formClosed (and-right (ltb e (formCount cs)) (eqb (formCodeAt cs e) codes.formClosed) (closed-read (formCodeAt cs e) refl ∙ w))
 
   -- ---- step k: the answers by code
   module _ (ps : List ℕ) (k : ℕ) where

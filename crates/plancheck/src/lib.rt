@@ -8,17 +8,20 @@ use crate::reads::step_code;
 use crate::reads::step_count;
 use crate::reads::step_first;
 use crate::reads::step_fourth;
+use crate::reads::step_link;
+use crate::reads::step_node;
 use crate::reads::step_second;
+use crate::reads::step_second_link;
 use crate::reads::step_third;
 use plan::steps;
 use tablecheck::end_ok;
+use tablecheck::link_there;
+use tablecheck::node_there;
 use tablecheck::well_formed;
 use tables::codes;
 use tables::layout::NO_NUMBER;
 use tables::reads::form_code;
 use tables::reads::form_count;
-use tables::reads::link_count;
-use tables::reads::node_count;
 use tables::reads::path_count;
 use tables::reads::rule_count;
 use tables::reads::wide;
@@ -61,17 +64,19 @@ fn step_ok(cells: &[u16], plan: &[u16], k: usize) -> bool
     let b = step_second(plan, k);
     match step_code(plan, k) {
         steps::ALL | steps::NONE => true,
-        steps::IS | steps::ISNOT => a < node_count(cells),
+        steps::IS | steps::ISNOT => node_there(cells, step_node(plan, k)),
         steps::TEST | steps::UNTEST => test_ok(cells, a),
         steps::BOTH | steps::EITHER => (a < k) & (b < k),
         steps::COUNT => count_ok(cells, k, a, b, step_third(plan, k), step_fourth(plan, k)),
         steps::EVERY => (a < path_count(cells)) & (b < k),
-        steps::EQUAL..=steps::MEET => end_ok(cells, a) & (b < link_count(cells)),
+        steps::EQUAL..=steps::MEET => end_ok(cells, a)
+            & link_there(cells, step_second_link(plan, k)),
         steps::CLOSED | steps::OPEN => closed_ok(cells, a),
-        steps::LESS..=steps::NOTLESSEQ => (a < path_count(cells)) & (b < link_count(cells)),
+        steps::LESS..=steps::NOTLESSEQ => (a < path_count(cells))
+            & link_there(cells, step_second_link(plan, k)),
         steps::ONELANG | steps::MANYLANG => a < path_count(cells),
-        steps::FROM | steps::INTO => a < link_count(cells),
-        steps::TYPED => a < node_count(cells),
+        steps::FROM | steps::INTO => link_there(cells, step_link(plan, k)),
+        steps::TYPED => node_there(cells, step_node(plan, k)),
         steps::UNKNOWN..=steps::LAST => false,
     }
 }

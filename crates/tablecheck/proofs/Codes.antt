@@ -11,6 +11,7 @@ use lib.Dec.{ltb}
 use lib.IntN.{pos}
 use lib.ListN.{getD, List·getD-eq-default}
 use borrow.Author.Tests.{lt-ltb, le-ltb}
+use Rattle.tables.specs.Codes as codes
 use Rattle.tables.specs.Layout.{kindAt, typeAt, langAt, typeCount, langCount, nodeCount, linkCount, shapeCount, pathCodeAt, pathFirstAt, pathSecondAt, formCodeAt, formFirstAt, formSecondAt, formThirdAt, formFourthAt, ruleShapeAt, ruleTargetAt, ruleOperandAt}
 use Rattle.tables.specs.Entries.{pathEntryOf, entryOf}
 use Rattle.tables.specs.Decode.{pathEntryAt, entryAt}
@@ -39,6 +40,10 @@ module _ (F : ℕ → Bool) (k : ℕ) {r s : Bool} (x : F k ≡ s) where
   pub case-past : (m : ℕ) → m ≤ k → ((j : ℕ) → m ≤ j → r ≡ F j) → r ≡ s
   case-past m l h = h k l ∙ x
 
+-- a number that was read twice, once as a node's or a link's
+pub read-twice : (n : ℕ) {v a x : ℕ} {r : Bool} → r ≡ ltb v n → v ≡ x → a ≡ x → r ≡ ltb a n
+read-twice n h e f = h ∙ ap (λ (y : ℕ). ltb y n) (e ∙ sym f)
+
 -- the answers by code
 module _ (cs : List ℕ) where
   abbrev pub nodeBy : ℕ → ℕ → Bool
@@ -48,7 +53,7 @@ module _ (cs : List ℕ) where
   unfolding nodeOk
   node-by v k x = rw x
 
-  pub node-unknown : (v k : ℕ) → 5 ≤ k → false ≡ nodeBy v k
+  pub node-unknown : (v k : ℕ) → codes.nodeUnknown ≤ k → false ≡ nodeBy v k
   node-unknown v k l = rw List·getD-eq-default
 
   abbrev pub pathBy : ℕ → ℕ → ℕ → ℕ → Bool
@@ -58,7 +63,7 @@ module _ (cs : List ℕ) where
   unfolding pathEntryAt
   path-by e a b k p q x = rw (p, q, x)
 
-  pub path-unknown : (e a b k : ℕ) → 4 ≤ k → false ≡ pathBy e a b k
+  pub path-unknown : (e a b k : ℕ) → codes.pathAlt < k → false ≡ pathBy e a b k
   unfolding pathEntryOf pathEntryOk
   path-unknown e a b k l = rw List·getD-eq-default
 
@@ -69,7 +74,7 @@ module _ (cs : List ℕ) where
   unfolding entryAt
   entry-by e a b k p q x = rw (p, q, x)
 
-  pub entry-unknown : (e a b k : ℕ) → 21 ≤ k → false ≡ entryBy e a b k
+  pub entry-unknown : (e a b k : ℕ) → codes.formOnelang < k → false ≡ entryBy e a b k
   unfolding entryOf entryOk
   entry-unknown e a b k l = rw List·getD-eq-default
 
@@ -81,7 +86,7 @@ module _ (cs : List ℕ) where
   unfolding ruleOk
   rule-by r k l x = rw (x, lt-ltb (ruleShapeAt cs r) (shapeCount cs) l)
 
-  pub rule-unknown : (r k : ℕ) → 4 ≤ k → false ≡ ruleBy r k
+  pub rule-unknown : (r k : ℕ) → codes.targetClass < k → false ≡ ruleBy r k
   rule-unknown r k l = rw List·getD-eq-default
 
   pub rule-shapeless : (r : ℕ) → shapeCount cs ≤ ruleShapeAt cs r → false ≡ ruleOk cs r

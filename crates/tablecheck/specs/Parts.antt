@@ -1,18 +1,25 @@
--- A place of a column; and the shorter parts of the tables: how many there are of each, and when one is right.
+-- A place of a column; the items of a list; the shorter parts of the tables: how many of each, and when one is right.
 use Prim.Native.Nat.{ℕ, _+_}
 use mathlib.Core.List.{List, []}
 use mathlib.Core.Bool.{Bool}
 use lib.Dec.{ltb}
 use lib.ListN.{getD}
-use Rattle.tables.specs.Layout.{pathCount, formCount, shapeCount, ruleCount, rootAt}
+use Rattle.tables.specs.Layout.{linkCount, langCount, pathCount, formCount, shapeCount, ruleCount, rootAt}
 use Rattle.tables.specs.Decode.{pathEntryAt, entryAt}
 use Rattle.tables.specs.WellFormed.{pathEntryOk, entryOk, ruleOk}
+use Rattle.tablecheck.specs.declared.Listed.{Listed}
+use Rattle.tablecheck.specs.declared.Listed.the-variants.{Langs, Links}
 use Rattle.tablecheck.specs.declared.Part.{Part}
 use Rattle.tablecheck.specs.declared.Part.the-variants.{Paths, Forms, Shapes, Rules}
 
 -- place i of the column that begins at base is below a bound
 abbrev pub placeBelow : List ℕ → ℕ → ℕ → ℕ → Bool
 placeBelow cs base bound i = ltb (getD cs (base + i) 0) bound
+
+-- what an item must be below
+unfoldable pub itemBound : List ℕ → Listed → ℕ
+itemBound cs Langs = langCount cs
+itemBound cs Links = linkCount cs
 
 unfoldable pub partCount : List ℕ → Part → ℕ
 partCount cs Paths = pathCount cs

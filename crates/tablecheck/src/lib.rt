@@ -1,5 +1,6 @@
 // Refusal 9: whether tables that somebody lends are well formed. Operations: well_formed; it takes any content of any length,
-// and reads some fifty thousand cells at the most.
+// and reads some fifty thousand cells at the most. For plancheck: node_there, link_there, end_ok.
+use model::LinkNo;
 use model::NodeNo;
 use tables::codes;
 use tables::layout::NO_NUMBER;
@@ -14,16 +15,29 @@ ghost use Prim.Native.Nat.{_+_};
 ghost use lib.Dec.{ltb};
 ghost use lib.ListN.{take, drop};
 ghost use Rattle.base.specs.Bounded.{every};
-ghost use Rattle.tables.specs.Layout.{rootAt, nodeCount, shapeCount, factCount};
+ghost use Rattle.tables.specs.Layout.{rootAt, nodeCount, linkCount, shapeCount, factCount};
 ghost use Rattle.tables.specs.Decode.{pathEntryAt, entryAt};
 ghost use Rattle.tables.specs.Entries.{Entry};
 ghost use Rattle.tables.specs.WellFormed.{countsOk, nodeOk, factOk, pathEntryOk, itemOk, itemsOk, endNumberOk, entryOk, ruleOk, wellFormed};
-ghost use Rattle.tablecheck.specs.Parts.{placeBelow, partCount, tablePartOk};
+ghost use Rattle.tablecheck.specs.Parts.{placeBelow, itemBound, partCount, tablePartOk};
 
 fn below(x: u16, n: usize) -> bool
     ensures { λ r. ⌜ r ≡ ltb x n ⌝ }
 {
     reads::wide(x) < n
+}
+
+// The tables have a node v; a link l.
+pub fn node_there(cells: &[u16], v: NodeNo) -> bool
+    ensures { λ r. ⌜ r ≡ ltb (v .0) (nodeCount (now (cells .entry))) ⌝ }
+{
+    below(v.0, reads::node_count(cells))
+}
+
+pub fn link_there(cells: &[u16], l: LinkNo) -> bool
+    ensures { λ r. ⌜ r ≡ ltb (l .0) (linkCount (now (cells .entry))) ⌝ }
+{
+    below(l.0, reads::link_count(cells))
 }
 
 fn counts_ok(cells: &[u16]) -> bool
@@ -111,28 +125,38 @@ fn path_ok(cells: &[u16], e: usize) -> bool
     let a = reads::path_first(cells, e);
     let b = reads::path_second(cells, e);
     match reads::path_code(cells, e) {
-        codes::PATH_LINK => a < reads::link_count(cells),
+        codes::PATH_LINK => link_there(cells, reads::path_link(cells, e)),
         codes::PATH_INV => a < e,
         codes::PATH_SEQ | codes::PATH_ALT => (a < e) & (b < e),
         codes::PATH_UNKNOWN..=codes::LAST => false,
     }
 }
 
-// Item i is there, and is below a bound.
-fn item_ok(cells: &[u16], bound: usize, i: usize) -> bool
-    ensures { λ r. ⌜ r ≡ itemOk (now (cells .entry)) bound i ⌝ }
+// What a list's items are: languages (`lang`), links (`closed`).
+enum Listed {
+    Langs,
+    Links,
+}
+
+// Item i is there, and the tables have what it names.
+fn item_ok(cells: &[u16], listed: Listed, i: usize) -> bool
+    ensures { λ r. ⌜ r ≡ itemOk (now (cells .entry)) (itemBound (now (cells .entry)) listed) i ⌝ }
 {
-    (i < reads::item_count(cells)) & below(reads::item(cells, i), bound)
+    let there = i < reads::item_count(cells);
+    match listed {
+        Listed::Langs => there & below(reads::item(cells, i), reads::lang_count(cells)),
+        Listed::Links => there & link_there(cells, reads::item_link(cells, i)),
+    }
 }
 
 // n items from number i on.
-fn items_ok(cells: &[u16], bound: usize, i: u16, n: u16) -> bool
-    ensures { λ r. ⌜ r ≡ itemsOk (now (cells .entry)) bound i n ⌝ }
+fn items_ok(cells: &[u16], listed: Listed, i: u16, n: u16) -> bool
+    ensures { λ r. ⌜ r ≡ itemsOk (now (cells .entry)) (itemBound (now (cells .entry)) listed) i n ⌝ }
 {
     let from = reads::wide(i);
     let count = reads::wide(n);
     for k in 0..count {
-        if !item_ok(cells, bound, from + k) {
+        if !item_ok(cells, listed, from + k) {
             return false;
         }
     }
@@ -169,13 +193,13 @@ fn entry_ok(cells: &[u16], e: usize) -> bool
     let b = reads::form_second(cells, e);
     match reads::form_code(cells, e) {
         codes::FORM_TRUE => true,
-        codes::FORM_IS => below(a, reads::node_count(cells)),
+        codes::FORM_IS => node_there(cells, reads::form_node(cells, e)),
         codes::FORM_SHAPE => shape_before(cells, a, e),
         codes::FORM_AND | codes::FORM_OR => below(a, e) & below(b, e),
         codes::FORM_NOT => below(a, e),
         codes::FORM_KIND => a < codes::KIND_UNKNOWN,
         codes::FORM_DATATYPE => below(a, reads::type_count(cells)),
-        codes::FORM_LANG => items_ok(cells, reads::lang_count(cells), a, b),
+        codes::FORM_LANG => items_ok(cells, Listed::Langs, a, b),
         codes::FORM_FROM..=codes::FORM_BELOW => true,
         codes::FORM_COUNT => count_ok(
             cells,
@@ -187,10 +211,10 @@ fn entry_ok(cells: &[u16], e: usize) -> bool
         ),
         codes::FORM_ALL => below(a, reads::path_count(cells)) & below(b, e),
         codes::FORM_EQUAL | codes::FORM_APART => end_ok(cells, reads::wide(a))
-            & below(b, reads::link_count(cells)),
-        codes::FORM_CLOSED => items_ok(cells, reads::link_count(cells), a, b),
+            & link_there(cells, reads::form_link(cells, e)),
+        codes::FORM_CLOSED => items_ok(cells, Listed::Links, a, b),
         codes::FORM_LESS | codes::FORM_LESSEQ => below(a, reads::path_count(cells))
-            & below(b, reads::link_count(cells)),
+            & link_there(cells, reads::form_link(cells, e)),
         codes::FORM_ONELANG => below(a, reads::path_count(cells)),
         codes::FORM_UNKNOWN..=codes::LAST => false,
     }
@@ -202,11 +226,12 @@ fn rule_ok(cells: &[u16], k: usize) -> bool
     if reads::shape_count(cells) <= reads::rule_shape(cells, k) {
         return false;
     }
-    let c = reads::rule_node(cells, k);
-    let p = reads::rule_link(cells, k);
     match reads::rule_target(cells, k) {
-        codes::TARGET_NODE | codes::TARGET_CLASS => below(c.0, reads::node_count(cells)),
-        codes::TARGET_SUBJECTS | codes::TARGET_OBJECTS => below(p.0, reads::link_count(cells)),
+        codes::TARGET_NODE | codes::TARGET_CLASS => node_there(cells, reads::rule_node(cells, k)),
+        codes::TARGET_SUBJECTS | codes::TARGET_OBJECTS => link_there(
+            cells,
+            reads::rule_link(cells, k),
+        ),
         codes::TARGET_UNKNOWN..=codes::LAST => false,
     }
 }

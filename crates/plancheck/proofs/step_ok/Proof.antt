@@ -3,9 +3,10 @@ use mathlib.Core.Path.{refl, ap, ap₂}
 use mathlib.Core.Bool.{_&&_}
 use lib.Dec.{ltb}
 use denote.Ref.{now}
+use Rattle.tables.specs.Layout.{nodeCount, linkCount}
 use Rattle.plan.specs.Steps.{stepOf}
 use Rattle.plan.specs.WellFormed.{stepOk}
-use Rattle.tablecheck.proofs.Codes.{next, case-is, case-in, case-past}
+use Rattle.tablecheck.proofs.Codes.{next, case-is, case-in, case-past, read-twice}
 use Rattle.plancheck.proofs.Codes.{stepBy, step-by, step-unknown}
 use borrow.Author.Needs.{needs}
 use Rattle.plancheck.proofs.step_ok.Statement.{statement}
@@ -32,11 +33,17 @@ count-ok-requires c κs = search needs
 path-count-requires : tie.Need-path-count-requires
 path-count-requires c κs = search needs
 
-node-count-requires : tie.Need-node-count-requires
-node-count-requires c κs = search needs
+step-node-requires : tie.Need-step-node-requires
+step-node-requires c κs = search needs
 
-node-count-requires-2 : tie.Need-node-count-requires-2
-node-count-requires-2 c κs = search needs
+node-there-requires : tie.Need-node-there-requires
+node-there-requires c κs = search needs
+
+step-node-requires-2 : tie.Need-step-node-requires-2
+step-node-requires-2 c κs = search needs
+
+node-there-requires-2 : tie.Need-node-there-requires-2
+node-there-requires-2 c κs = search needs
 
 test-ok-requires : tie.Need-test-ok-requires
 test-ok-requires c κs = search needs
@@ -44,8 +51,11 @@ test-ok-requires c κs = search needs
 end-ok-requires : tie.Need-end-ok-requires
 end-ok-requires c κs = search needs
 
-link-count-requires : tie.Need-link-count-requires
-link-count-requires c κs = search needs
+step-second-link-requires : tie.Need-step-second-link-requires
+step-second-link-requires c κs = search needs
+
+link-there-requires : tie.Need-link-there-requires
+link-there-requires c κs = search needs
 
 closed-ok-requires : tie.Need-closed-ok-requires
 closed-ok-requires c κs = search needs
@@ -53,14 +63,20 @@ closed-ok-requires c κs = search needs
 path-count-requires-2 : tie.Need-path-count-requires-2
 path-count-requires-2 c κs = search needs
 
-link-count-requires-2 : tie.Need-link-count-requires-2
-link-count-requires-2 c κs = search needs
+step-second-link-requires-2 : tie.Need-step-second-link-requires-2
+step-second-link-requires-2 c κs = search needs
+
+link-there-requires-2 : tie.Need-link-there-requires-2
+link-there-requires-2 c κs = search needs
 
 path-count-requires-3 : tie.Need-path-count-requires-3
 path-count-requires-3 c κs = search needs
 
-link-count-requires-3 : tie.Need-link-count-requires-3
-link-count-requires-3 c κs = search needs
+step-link-requires : tie.Need-step-link-requires
+step-link-requires c κs = search needs
+
+link-there-requires-3 : tie.Need-link-there-requires-3
+link-there-requires-3 c κs = search needs
 
 returns : tie.Need-returns
 unfolding stepOf stepOk
@@ -72,7 +88,7 @@ returns-2 c = case-is (stepBy (now (c .before .before .before .before .before .b
 
 returns-3 : tie.Need-returns-3
 unfolding stepOf stepOk
-returns-3 c = case-is (stepBy (now (c .before .before .before .before .before .before .before .args .cells)) (now (c .before .before .before .before .before .before .before .args .plan)) (c .before .before .before .before .before .before .before .args .k) (c .before .before .before .before .step-first .result) (c .before .before .before .step-second .result)) (c .before .before .step-code .result) (step-by (now (c .before .before .before .before .before .before .before .args .cells)) (now (c .before .before .before .before .before .before .before .args .plan)) (c .before .before .before .before .before .before .before .args .k) (c .before .before .before .before .step-first .result) (c .before .before .before .step-second .result) (c .before .before .step-code .result) (c .before .before .before .before .step-first .ensures) (c .before .before .before .step-second .ensures) (c .before .before .step-code .ensures)) 24 (c .before .match .keys3) (ap (ltb _) (c .node-count .ensures))
+returns-3 c = case-is (stepBy (now (c .before .before .before .before .before .before .before .before .args .cells)) (now (c .before .before .before .before .before .before .before .before .args .plan)) (c .before .before .before .before .before .before .before .before .args .k) (c .before .before .before .before .before .step-first .result) (c .before .before .before .before .step-second .result)) (c .before .before .before .step-code .result) (step-by (now (c .before .before .before .before .before .before .before .before .args .cells)) (now (c .before .before .before .before .before .before .before .before .args .plan)) (c .before .before .before .before .before .before .before .before .args .k) (c .before .before .before .before .before .step-first .result) (c .before .before .before .before .step-second .result) (c .before .before .before .step-code .result) (c .before .before .before .before .before .step-first .ensures) (c .before .before .before .before .step-second .ensures) (c .before .before .before .step-code .ensures)) 24 (c .before .before .match .keys3) (read-twice (nodeCount (now (c .before .before .before .before .before .before .before .before .args .cells))) (c .node-there .ensures) (c .before .step-node .ensures) (c .before .before .before .before .before .step-first .ensures))
 
 returns-4 : tie.Need-returns-4
 unfolding stepOf stepOk
@@ -80,7 +96,7 @@ returns-4 c = case-in (stepBy (now (c .before .before .before .before .before .b
 
 returns-5 : tie.Need-returns-5
 unfolding stepOf stepOk
-returns-5 c = case-in (stepBy (now (c .before .before .before .before .before .before .before .before .before .before .args .cells)) (now (c .before .before .before .before .before .before .before .before .before .before .args .plan)) (c .before .before .before .before .before .before .before .before .before .before .args .k) (c .before .before .before .before .before .before .before .step-first .result) (c .before .before .before .before .before .before .step-second .result)) (c .before .before .before .before .before .step-code .result) (step-by (now (c .before .before .before .before .before .before .before .before .before .before .args .cells)) (now (c .before .before .before .before .before .before .before .before .before .before .args .plan)) (c .before .before .before .before .before .before .before .before .before .before .args .k) (c .before .before .before .before .before .before .before .step-first .result) (c .before .before .before .before .before .before .step-second .result) (c .before .before .before .before .before .step-code .result) (c .before .before .before .before .before .before .before .step-first .ensures) (c .before .before .before .before .before .before .step-second .ensures) (c .before .before .before .before .before .step-code .ensures)) 2 2 (c .before .before .if2 .left) (c .before .if3 .taken) (ap (ltb _) (c .node-count2 .ensures), (ap (ltb _) (c .node-count2 .ensures), tt))
+returns-5 c = case-in (stepBy (now (c .before .before .before .before .before .before .before .before .before .before .before .args .cells)) (now (c .before .before .before .before .before .before .before .before .before .before .before .args .plan)) (c .before .before .before .before .before .before .before .before .before .before .before .args .k) (c .before .before .before .before .before .before .before .before .step-first .result) (c .before .before .before .before .before .before .before .step-second .result)) (c .before .before .before .before .before .before .step-code .result) (step-by (now (c .before .before .before .before .before .before .before .before .before .before .before .args .cells)) (now (c .before .before .before .before .before .before .before .before .before .before .before .args .plan)) (c .before .before .before .before .before .before .before .before .before .before .before .args .k) (c .before .before .before .before .before .before .before .before .step-first .result) (c .before .before .before .before .before .before .before .step-second .result) (c .before .before .before .before .before .before .step-code .result) (c .before .before .before .before .before .before .before .before .step-first .ensures) (c .before .before .before .before .before .before .before .step-second .ensures) (c .before .before .before .before .before .before .step-code .ensures)) 2 2 (c .before .before .before .if2 .left) (c .before .before .if3 .taken) (read-twice (nodeCount (now (c .before .before .before .before .before .before .before .before .before .before .before .args .cells))) (c .node-there2 .ensures) (c .before .step-node2 .ensures) (c .before .before .before .before .before .before .before .before .step-first .ensures), (read-twice (nodeCount (now (c .before .before .before .before .before .before .before .before .before .before .before .args .cells))) (c .node-there2 .ensures) (c .before .step-node2 .ensures) (c .before .before .before .before .before .before .before .before .step-first .ensures), tt))
 
 returns-6 : tie.Need-returns-6
 unfolding stepOf stepOk
@@ -92,7 +108,7 @@ returns-7 c = case-in (stepBy (now (c .before .before .before .before .before .b
 
 returns-8 : tie.Need-returns-8
 unfolding stepOf stepOk
-returns-8 c = case-in (stepBy (now (c .before .before .before .before .before .before .before .before .before .before .before .before .before .args .cells)) (now (c .before .before .before .before .before .before .before .before .before .before .before .before .before .args .plan)) (c .before .before .before .before .before .before .before .before .before .before .before .before .before .args .k) (c .before .before .before .before .before .before .before .before .before .before .step-first .result) (c .before .before .before .before .before .before .before .before .before .step-second .result)) (c .before .before .before .before .before .before .before .before .step-code .result) (step-by (now (c .before .before .before .before .before .before .before .before .before .before .before .before .before .args .cells)) (now (c .before .before .before .before .before .before .before .before .before .before .before .before .before .args .plan)) (c .before .before .before .before .before .before .before .before .before .before .before .before .before .args .k) (c .before .before .before .before .before .before .before .before .before .before .step-first .result) (c .before .before .before .before .before .before .before .before .before .step-second .result) (c .before .before .before .before .before .before .before .before .step-code .result) (c .before .before .before .before .before .before .before .before .before .before .step-first .ensures) (c .before .before .before .before .before .before .before .before .before .step-second .ensures) (c .before .before .before .before .before .before .before .before .step-code .ensures)) 10 4 (next 9 (c .before .before .before .before .before .before .before .before .step-code .result) (next 8 (c .before .before .before .before .before .before .before .before .step-code .result) (c .before .before .if5 .left) (c .before .before .before .before .before .before .before .match .rest .0 .0 .1)) (c .before .before .before .before .before .before .before .match .rest .0 .1)) (c .before .before .before .before .before .before .if1 .taken) (ap₂ _&&_ (c .before .end-ok .ensures) (ap (ltb _) (c .link-count .ensures)), (ap₂ _&&_ (c .before .end-ok .ensures) (ap (ltb _) (c .link-count .ensures)), (ap₂ _&&_ (c .before .end-ok .ensures) (ap (ltb _) (c .link-count .ensures)), (ap₂ _&&_ (c .before .end-ok .ensures) (ap (ltb _) (c .link-count .ensures)), tt))))
+returns-8 c = case-in (stepBy (now (c .before .before .before .before .before .before .before .before .before .before .before .before .before .before .args .cells)) (now (c .before .before .before .before .before .before .before .before .before .before .before .before .before .before .args .plan)) (c .before .before .before .before .before .before .before .before .before .before .before .before .before .before .args .k) (c .before .before .before .before .before .before .before .before .before .before .before .step-first .result) (c .before .before .before .before .before .before .before .before .before .before .step-second .result)) (c .before .before .before .before .before .before .before .before .before .step-code .result) (step-by (now (c .before .before .before .before .before .before .before .before .before .before .before .before .before .before .args .cells)) (now (c .before .before .before .before .before .before .before .before .before .before .before .before .before .before .args .plan)) (c .before .before .before .before .before .before .before .before .before .before .before .before .before .before .args .k) (c .before .before .before .before .before .before .before .before .before .before .before .step-first .result) (c .before .before .before .before .before .before .before .before .before .before .step-second .result) (c .before .before .before .before .before .before .before .before .before .step-code .result) (c .before .before .before .before .before .before .before .before .before .before .before .step-first .ensures) (c .before .before .before .before .before .before .before .before .before .before .step-second .ensures) (c .before .before .before .before .before .before .before .before .before .step-code .ensures)) 10 4 (next 9 (c .before .before .before .before .before .before .before .before .before .step-code .result) (next 8 (c .before .before .before .before .before .before .before .before .before .step-code .result) (c .before .before .before .if5 .left) (c .before .before .before .before .before .before .before .before .match .rest .0 .0 .1)) (c .before .before .before .before .before .before .before .before .match .rest .0 .1)) (c .before .before .before .before .before .before .before .if1 .taken) (ap₂ _&&_ (c .before .before .end-ok .ensures) (read-twice (linkCount (now (c .before .before .before .before .before .before .before .before .before .before .before .before .before .before .args .cells))) (c .link-there .ensures) (c .before .step-second-link .ensures) (c .before .before .before .before .before .before .before .before .before .before .step-second .ensures)), (ap₂ _&&_ (c .before .before .end-ok .ensures) (read-twice (linkCount (now (c .before .before .before .before .before .before .before .before .before .before .before .before .before .before .args .cells))) (c .link-there .ensures) (c .before .step-second-link .ensures) (c .before .before .before .before .before .before .before .before .before .before .step-second .ensures)), (ap₂ _&&_ (c .before .before .end-ok .ensures) (read-twice (linkCount (now (c .before .before .before .before .before .before .before .before .before .before .before .before .before .before .args .cells))) (c .link-there .ensures) (c .before .step-second-link .ensures) (c .before .before .before .before .before .before .before .before .before .before .step-second .ensures)), (ap₂ _&&_ (c .before .before .end-ok .ensures) (read-twice (linkCount (now (c .before .before .before .before .before .before .before .before .before .before .before .before .before .before .args .cells))) (c .link-there .ensures) (c .before .step-second-link .ensures) (c .before .before .before .before .before .before .before .before .before .before .step-second .ensures)), tt))))
 
 returns-9 : tie.Need-returns-9
 unfolding stepOf stepOk
@@ -100,7 +116,7 @@ returns-9 c = case-in (stepBy (now (c .before .before .before .before .before .b
 
 returns-10 : tie.Need-returns-10
 unfolding stepOf stepOk
-returns-10 c = case-in (stepBy (now (c .before .before .before .before .before .before .before .before .before .before .before .args .cells)) (now (c .before .before .before .before .before .before .before .before .before .before .before .args .plan)) (c .before .before .before .before .before .before .before .before .before .before .before .args .k) (c .before .before .before .before .before .before .before .before .step-first .result) (c .before .before .before .before .before .before .before .step-second .result)) (c .before .before .before .before .before .before .step-code .result) (step-by (now (c .before .before .before .before .before .before .before .before .before .before .before .args .cells)) (now (c .before .before .before .before .before .before .before .before .before .before .before .args .plan)) (c .before .before .before .before .before .before .before .before .before .before .before .args .k) (c .before .before .before .before .before .before .before .before .step-first .result) (c .before .before .before .before .before .before .before .step-second .result) (c .before .before .before .before .before .before .step-code .result) (c .before .before .before .before .before .before .before .before .step-first .ensures) (c .before .before .before .before .before .before .before .step-second .ensures) (c .before .before .before .before .before .before .step-code .ensures)) 16 4 (c .before .before .before .if6 .left) (c .before .before .if7 .taken) (ap₂ _&&_ (ap (ltb _) (c .before .path-count2 .ensures)) (ap (ltb _) (c .link-count2 .ensures)), (ap₂ _&&_ (ap (ltb _) (c .before .path-count2 .ensures)) (ap (ltb _) (c .link-count2 .ensures)), (ap₂ _&&_ (ap (ltb _) (c .before .path-count2 .ensures)) (ap (ltb _) (c .link-count2 .ensures)), (ap₂ _&&_ (ap (ltb _) (c .before .path-count2 .ensures)) (ap (ltb _) (c .link-count2 .ensures)), tt))))
+returns-10 c = case-in (stepBy (now (c .before .before .before .before .before .before .before .before .before .before .before .before .args .cells)) (now (c .before .before .before .before .before .before .before .before .before .before .before .before .args .plan)) (c .before .before .before .before .before .before .before .before .before .before .before .before .args .k) (c .before .before .before .before .before .before .before .before .before .step-first .result) (c .before .before .before .before .before .before .before .before .step-second .result)) (c .before .before .before .before .before .before .before .step-code .result) (step-by (now (c .before .before .before .before .before .before .before .before .before .before .before .before .args .cells)) (now (c .before .before .before .before .before .before .before .before .before .before .before .before .args .plan)) (c .before .before .before .before .before .before .before .before .before .before .before .before .args .k) (c .before .before .before .before .before .before .before .before .before .step-first .result) (c .before .before .before .before .before .before .before .before .step-second .result) (c .before .before .before .before .before .before .before .step-code .result) (c .before .before .before .before .before .before .before .before .before .step-first .ensures) (c .before .before .before .before .before .before .before .before .step-second .ensures) (c .before .before .before .before .before .before .before .step-code .ensures)) 16 4 (c .before .before .before .before .if6 .left) (c .before .before .before .if7 .taken) (ap₂ _&&_ (ap (ltb _) (c .before .before .path-count2 .ensures)) (read-twice (linkCount (now (c .before .before .before .before .before .before .before .before .before .before .before .before .args .cells))) (c .link-there2 .ensures) (c .before .step-second-link2 .ensures) (c .before .before .before .before .before .before .before .before .step-second .ensures)), (ap₂ _&&_ (ap (ltb _) (c .before .before .path-count2 .ensures)) (read-twice (linkCount (now (c .before .before .before .before .before .before .before .before .before .before .before .before .args .cells))) (c .link-there2 .ensures) (c .before .step-second-link2 .ensures) (c .before .before .before .before .before .before .before .before .step-second .ensures)), (ap₂ _&&_ (ap (ltb _) (c .before .before .path-count2 .ensures)) (read-twice (linkCount (now (c .before .before .before .before .before .before .before .before .before .before .before .before .args .cells))) (c .link-there2 .ensures) (c .before .step-second-link2 .ensures) (c .before .before .before .before .before .before .before .before .step-second .ensures)), (ap₂ _&&_ (ap (ltb _) (c .before .before .path-count2 .ensures)) (read-twice (linkCount (now (c .before .before .before .before .before .before .before .before .before .before .before .before .args .cells))) (c .link-there2 .ensures) (c .before .step-second-link2 .ensures) (c .before .before .before .before .before .before .before .before .step-second .ensures)), tt))))
 
 returns-11 : tie.Need-returns-11
 unfolding stepOf stepOk
@@ -108,7 +124,7 @@ returns-11 c = case-in (stepBy (now (c .before .before .before .before .before .
 
 returns-12 : tie.Need-returns-12
 unfolding stepOf stepOk
-returns-12 c = case-in (stepBy (now (c .before .before .before .before .before .before .before .before .before .before .before .before .args .cells)) (now (c .before .before .before .before .before .before .before .before .before .before .before .before .args .plan)) (c .before .before .before .before .before .before .before .before .before .before .before .before .args .k) (c .before .before .before .before .before .before .before .before .before .step-first .result) (c .before .before .before .before .before .before .before .before .step-second .result)) (c .before .before .before .before .before .before .before .step-code .result) (step-by (now (c .before .before .before .before .before .before .before .before .before .before .before .before .args .cells)) (now (c .before .before .before .before .before .before .before .before .before .before .before .before .args .plan)) (c .before .before .before .before .before .before .before .before .before .before .before .before .args .k) (c .before .before .before .before .before .before .before .before .before .step-first .result) (c .before .before .before .before .before .before .before .before .step-second .result) (c .before .before .before .before .before .before .before .step-code .result) (c .before .before .before .before .before .before .before .before .before .step-first .ensures) (c .before .before .before .before .before .before .before .before .step-second .ensures) (c .before .before .before .before .before .before .before .step-code .ensures)) 22 2 (c .before .before .if8 .left) (c .before .if9 .taken) (ap (ltb _) (c .link-count3 .ensures), (ap (ltb _) (c .link-count3 .ensures), tt))
+returns-12 c = case-in (stepBy (now (c .before .before .before .before .before .before .before .before .before .before .before .before .before .args .cells)) (now (c .before .before .before .before .before .before .before .before .before .before .before .before .before .args .plan)) (c .before .before .before .before .before .before .before .before .before .before .before .before .before .args .k) (c .before .before .before .before .before .before .before .before .before .before .step-first .result) (c .before .before .before .before .before .before .before .before .before .step-second .result)) (c .before .before .before .before .before .before .before .before .step-code .result) (step-by (now (c .before .before .before .before .before .before .before .before .before .before .before .before .before .args .cells)) (now (c .before .before .before .before .before .before .before .before .before .before .before .before .before .args .plan)) (c .before .before .before .before .before .before .before .before .before .before .before .before .before .args .k) (c .before .before .before .before .before .before .before .before .before .before .step-first .result) (c .before .before .before .before .before .before .before .before .before .step-second .result) (c .before .before .before .before .before .before .before .before .step-code .result) (c .before .before .before .before .before .before .before .before .before .before .step-first .ensures) (c .before .before .before .before .before .before .before .before .before .step-second .ensures) (c .before .before .before .before .before .before .before .before .step-code .ensures)) 22 2 (c .before .before .before .if8 .left) (c .before .before .if9 .taken) (read-twice (linkCount (now (c .before .before .before .before .before .before .before .before .before .before .before .before .before .args .cells))) (c .link-there3 .ensures) (c .before .step-link .ensures) (c .before .before .before .before .before .before .before .before .before .before .step-first .ensures), (read-twice (linkCount (now (c .before .before .before .before .before .before .before .before .before .before .before .before .before .args .cells))) (c .link-there3 .ensures) (c .before .step-link .ensures) (c .before .before .before .before .before .before .before .before .before .before .step-first .ensures), tt))
 
 returns-13 : tie.Need-returns-13
 unfolding stepOf stepOk
@@ -125,16 +141,21 @@ step-ok-spec =
     step-fourth-requires
     count-ok-requires
     path-count-requires
-    node-count-requires
-    node-count-requires-2
+    step-node-requires
+    node-there-requires
+    step-node-requires-2
+    node-there-requires-2
     test-ok-requires
     end-ok-requires
-    link-count-requires
+    step-second-link-requires
+    link-there-requires
     closed-ok-requires
     path-count-requires-2
-    link-count-requires-2
+    step-second-link-requires-2
+    link-there-requires-2
     path-count-requires-3
-    link-count-requires-3
+    step-link-requires
+    link-there-requires-3
     returns
     returns-2
     returns-3
