@@ -112,8 +112,8 @@ fn put_name(page: &mut [u8], at: usize, names: &[u8], v: NodeNo) -> usize
     let start = put_bytes(page, at, b" ");
     let n = name_length(names, v);
     let first = NAME_BYTES * (v.0 as usize);
-    let last = first + n;
-    put_bytes(page, start, &names[first..last])
+    let end = first + n;
+    put_bytes(page, start, &names[first..end])
 }
 
 // The line of node v under rule r.
@@ -193,30 +193,30 @@ fn put_rule(page: &mut [u8], names: &[u8], lists: &[u16], lengths: &[u16], r: us
     ensures { λ end. ⌜ Put (now (page .entry)) (now (page .exit)) 0 (breakLines r (map (nameIn (now (names .entry))) (rowIn (now (lists .entry)) (now (lengths .entry)) r))) end ⌝ }
 {
     let first = MAX_NODES * r;
-    let last = first + wide(lengths[r]);
-    put_breaks(page, names, &lists[first..last], r)
+    let end = first + wide(lengths[r]);
+    put_breaks(page, names, &lists[first..end], r)
 }
 
-// Part k of the report.
+// A part of the report, by its number.
 fn put_part(
     page: &mut [u8],
     names: &[u8],
     cells: &[u16],
     lists: &[u16],
     lengths: &[u16],
-    k: usize,
+    part: usize,
 ) -> usize
-    requires { ⌜ (pageCount ≤ length (now page)) × (nameCount ≤ length (now names)) × (listCount ≤ length (now lists)) × (lengthCount ≤ length (now lengths)) × (wellFormed (now cells) ≡ true) × (reportPartOk (now cells) (now lists) (now lengths) k ≡ true) ⌝ }
-    ensures { λ end. ⌜ Put (now (page .entry)) (now (page .exit)) 0 (partIn (now (names .entry)) (now (cells .entry)) (now (lists .entry)) (now (lengths .entry)) k) end ⌝ }
+    requires { ⌜ (pageCount ≤ length (now page)) × (nameCount ≤ length (now names)) × (listCount ≤ length (now lists)) × (lengthCount ≤ length (now lengths)) × (wellFormed (now cells) ≡ true) × (reportPartOk (now cells) (now lists) (now lengths) part ≡ true) ⌝ }
+    ensures { λ end. ⌜ Put (now (page .entry)) (now (page .exit)) 0 (partIn (now (names .entry)) (now (cells .entry)) (now (lists .entry)) (now (lengths .entry)) part) end ⌝ }
 {
     let rules = rule_count(cells);
-    if k == 0 {
+    if part == 0 {
         return put_head(page, node_count(cells), fact_count(cells), rules);
     }
-    if rules < k {
+    if rules < part {
         return put_found(page, total(lengths, rules));
     }
-    put_rule(page, names, lists, lengths, k - 1)
+    put_rule(page, names, lists, lengths, part - 1)
 }
 
 // Every number of a list is below n.
@@ -243,8 +243,8 @@ fn row_ok(cells: &[u16], lists: &[u16], lengths: &[u16], r: usize) -> bool
         return false;
     }
     let first = MAX_NODES * r;
-    let last = first + n;
-    all_below(&lists[first..last], node_count(cells))
+    let end = first + n;
+    all_below(&lists[first..end], node_count(cells))
 }
 
 // The lengths of the first n rules are in their limit.
@@ -261,21 +261,21 @@ fn lengths_ok(lengths: &[u16], n: usize) -> bool
 }
 
 // Refusal 9 is for tables and lists of which this is false.
-fn part_ok(cells: &[u16], lists: &[u16], lengths: &[u16], k: usize) -> bool
+fn part_ok(cells: &[u16], lists: &[u16], lengths: &[u16], part: usize) -> bool
     requires { ⌜ (listCount ≤ length (now lists)) × (lengthCount ≤ length (now lengths)) ⌝ }
-    ensures { λ ok. ⌜ ok ≡ partFormed (now (cells .entry)) (now (lists .entry)) (now (lengths .entry)) k ⌝ }
+    ensures { λ ok. ⌜ ok ≡ partFormed (now (cells .entry)) (now (lists .entry)) (now (lengths .entry)) part ⌝ }
 {
     if !well_formed(cells) {
         return false;
     }
-    if k == 0 {
+    if part == 0 {
         return true;
     }
     let rules = rule_count(cells);
-    if k <= rules {
-        return row_ok(cells, lists, lengths, k - 1);
+    if part <= rules {
+        return row_ok(cells, lists, lengths, part - 1);
     }
-    if rules + 1 < k {
+    if rules + 1 < part {
         return true;
     }
     lengths_ok(lengths, rules)
@@ -297,7 +297,7 @@ fn long_enough(
             & ((LENGTH_PLACES <= lengths.len()) & (PAGE_BYTES <= page.len())))
 }
 
-// The operation: part k of the report at the front of a lent page; what lies past it stays. Part 0 is the first line, parts 1
+// The operation: a part of the report at the front of a lent page; what lies past it stays. Part 0 is the first line, parts 1
 // and on the lines of the rules by number, the part after these the last line. Refused: a slice too short, then tables that are
 // not well formed, a list that is too long or not one of their nodes, then a part that the report does not have; nothing
 // changes then.
@@ -307,24 +307,24 @@ pub fn report_part(
     values: &[i64],
     lists: &[u16],
     lengths: &[u16],
-    k: usize,
+    part: usize,
     page: &mut [u8],
 ) -> Page
-    ensures { λ r. ⌜ answerOf r ≡ partAnswer (now (names .entry)) (now (cells .entry)) (now (values .entry)) (now (lists .entry)) (now (lengths .entry)) k (now (page .entry)) ⌝ }
-    ensures { λ _. ⌜ now (page .exit) ≡ partAfter (now (names .entry)) (now (cells .entry)) (now (values .entry)) (now (lists .entry)) (now (lengths .entry)) k (now (page .entry)) ⌝ }
+    ensures { λ r. ⌜ answerOf r ≡ partAnswer (now (names .entry)) (now (cells .entry)) (now (values .entry)) (now (lists .entry)) (now (lengths .entry)) part (now (page .entry)) ⌝ }
+    ensures { λ _. ⌜ now (page .exit) ≡ partAfter (now (names .entry)) (now (cells .entry)) (now (values .entry)) (now (lists .entry)) (now (lengths .entry)) part (now (page .entry)) ⌝ }
     ensures { λ r. ⌜ valueOr 0 (answerOf r) ≤ length (now (page .entry)) ⌝ }
 {
     if !long_enough(names, cells, values, lists, lengths, &page[..]) {
         return Page::Refused(Refusal::Short);
     }
     let cs = &cells[..CELLS];
-    if !part_ok(cs, lists, lengths, k) {
+    if !part_ok(cs, lists, lengths, part) {
         return Page::Refused(Refusal::Malformed);
     }
-    if rule_count(cs) + 1 < k {
+    if rule_count(cs) + 1 < part {
         return Page::Refused(Refusal::Absent);
     }
-    Page::Bytes(put_part(page, names, cs, lists, lengths, k))
+    Page::Bytes(put_part(page, names, cs, lists, lengths, part))
 }
 
 // The operation: the report of a refusal at the front of lent space; what lies past it stays. Refused: space too short, and

@@ -245,7 +245,7 @@ fn keep_ends(rows: &mut [u64], kept: Kept, end: End, cells: &[u16], index: &[u16
     }
 }
 
-// A condition on the ends of path entry p, and the set of step j in the work space.
+// A condition on the ends of a path entry, and the set of a step in the work space.
 pub fn path_set(
     first: &mut [u64],
     kept: Kept,
@@ -253,27 +253,27 @@ pub fn path_set(
     cells: &[u16],
     index: &[u16],
     values: &[i64],
-    p: usize,
+    path: usize,
     work: &[u64],
-    j: usize,
+    step: usize,
 ) -> NodeSet
-    requires { ⌜ Tables (now cells) (now index) × (p < pathCount (now cells)) × (j < 65536) × (conditionOk (now cells) condition ≡ true) × RowsHeld (now cells) kept (now first) ⌝ }
-    ensures { λ r. ⌜ r .words ≡ nodesOf (λ v. holdsOf (now (cells .entry)) (now (values .entry)) condition (from (graphAt (now (cells .entry)) (now (values .entry))) (pathAt (now (cells .entry)) p) v) (has (drop (16 * j) (now (work .entry)))) v) (nodeCount (now (cells .entry))) ⌝ }
-    ensures { λ _. ⌜ RowsHeld (now (cells .entry)) (Kept.RowsOf (End.Path p)) (now (first .exit)) ⌝ }
+    requires { ⌜ Tables (now cells) (now index) × (path < pathCount (now cells)) × (step < 65536) × (conditionOk (now cells) condition ≡ true) × RowsHeld (now cells) kept (now first) ⌝ }
+    ensures { λ r. ⌜ r .words ≡ nodesOf (λ v. holdsOf (now (cells .entry)) (now (values .entry)) condition (from (graphAt (now (cells .entry)) (now (values .entry))) (pathAt (now (cells .entry)) path) v) (has (drop (16 * step) (now (work .entry)))) v) (nodeCount (now (cells .entry))) ⌝ }
+    ensures { λ _. ⌜ RowsHeld (now (cells .entry)) (Kept.RowsOf (End.Path path)) (now (first .exit)) ⌝ }
 {
-    keep_ends(first, kept, End::Path(p), cells, index);
+    keep_ends(first, kept, End::Path(path), cells, index);
     nodes_where(
         condition,
         cells,
         index,
         values,
         &first[..],
-        part(work, 16 * j),
+        part(work, 16 * step),
         false,
     )
 }
 
-// A condition on the ends of path entry p and the nodes that have a language.
+// A condition on the ends of a path entry and the nodes that have a language.
 pub fn lang_set(
     first: &mut [u64],
     kept: Kept,
@@ -281,19 +281,19 @@ pub fn lang_set(
     cells: &[u16],
     index: &[u16],
     values: &[i64],
-    p: usize,
+    path: usize,
 ) -> NodeSet
-    requires { ⌜ Tables (now cells) (now index) × (p < pathCount (now cells)) × (conditionOk (now cells) condition ≡ true) × RowsHeld (now cells) kept (now first) ⌝ }
-    ensures { λ r. ⌜ r .words ≡ nodesOf (λ v. holdsOf (now (cells .entry)) (now (values .entry)) condition (from (graphAt (now (cells .entry)) (now (values .entry))) (pathAt (now (cells .entry)) p) v) (tagged (now (cells .entry))) v) (nodeCount (now (cells .entry))) ⌝ }
-    ensures { λ _. ⌜ RowsHeld (now (cells .entry)) (Kept.RowsOf (End.Path p)) (now (first .exit)) ⌝ }
+    requires { ⌜ Tables (now cells) (now index) × (path < pathCount (now cells)) × (conditionOk (now cells) condition ≡ true) × RowsHeld (now cells) kept (now first) ⌝ }
+    ensures { λ r. ⌜ r .words ≡ nodesOf (λ v. holdsOf (now (cells .entry)) (now (values .entry)) condition (from (graphAt (now (cells .entry)) (now (values .entry))) (pathAt (now (cells .entry)) path) v) (tagged (now (cells .entry))) v) (nodeCount (now (cells .entry))) ⌝ }
+    ensures { λ _. ⌜ RowsHeld (now (cells .entry)) (Kept.RowsOf (End.Path path)) (now (first .exit)) ⌝ }
 {
-    keep_ends(first, kept, End::Path(p), cells, index);
+    keep_ends(first, kept, End::Path(path), cells, index);
     let set = languages(cells);
     let words = set.words;
     nodes_where(condition, cells, index, values, &first[..], &words, false)
 }
 
-// A condition on the ends of END and those of link l.
+// A condition on the ends of END and those of a link.
 pub fn ends_set(
     first: &mut [u64],
     second: &mut [u64],
@@ -304,15 +304,15 @@ pub fn ends_set(
     index: &[u16],
     values: &[i64],
     end: End,
-    l: LinkNo,
+    link: LinkNo,
 ) -> NodeSet
     requires { ⌜ Tables (now cells) (now index) × (endKnown (now cells) end ≡ true) × (conditionOk (now cells) condition ≡ true) × RowsHeld (now cells) kept (now first) × RowsHeld (now cells) links (now second) ⌝ }
-    ensures { λ r. ⌜ r .words ≡ nodesOf (λ v. holdsOf (now (cells .entry)) (now (values .entry)) condition (starts (graphAt (now (cells .entry)) (now (values .entry))) (endIn (now (cells .entry)) end) v) (objects (graphAt (now (cells .entry)) (now (values .entry))) (l .0) v) v) (nodeCount (now (cells .entry))) ⌝ }
+    ensures { λ r. ⌜ r .words ≡ nodesOf (λ v. holdsOf (now (cells .entry)) (now (values .entry)) condition (starts (graphAt (now (cells .entry)) (now (values .entry))) (endIn (now (cells .entry)) end) v) (objects (graphAt (now (cells .entry)) (now (values .entry))) (link .0) v) v) (nodeCount (now (cells .entry))) ⌝ }
     ensures { λ _. ⌜ RowsHeld (now (cells .entry)) (Kept.RowsOf end) (now (first .exit)) ⌝ }
-    ensures { λ _. ⌜ RowsHeld (now (cells .entry)) (Kept.RowsOf (End.Link l)) (now (second .exit)) ⌝ }
+    ensures { λ _. ⌜ RowsHeld (now (cells .entry)) (Kept.RowsOf (End.Link link)) (now (second .exit)) ⌝ }
 {
     keep_ends(first, kept, end, cells, index);
-    keep_ends(second, links, End::Link(l), cells, index);
+    keep_ends(second, links, End::Link(link), cells, index);
     nodes_where(
         condition,
         cells,
@@ -346,13 +346,13 @@ fn chooses(target: Target, cells: &[u16], i: usize) -> bool
     }
 }
 
-// The nodes that the facts of link l pick, where no other fact picks one.
-fn link_set(target: Target, l: LinkNo, cells: &[u16], index: &[u16]) -> NodeSet
-    requires { ⌜ Tables (now cells) (now index) × ByLink (now cells) target (l .0) ⌝ }
+// The nodes that the facts of a link pick, where no other fact picks one.
+fn link_set(target: Target, link: LinkNo, cells: &[u16], index: &[u16]) -> NodeSet
+    requires { ⌜ Tables (now cells) (now index) × ByLink (now cells) target (link .0) ⌝ }
     ensures { λ r. ⌜ r .words ≡ nodesOf (picked (now (cells .entry)) target) (nodeCount (now (cells .entry))) ⌝ }
 {
     let mut words = [0u64; 16];
-    let mut next = last_fact(index, l);
+    let mut next = last_fact(index, link);
     while 0 < next {
         let i = next - 1;
         let v = node_of(target, cells, i);
@@ -374,21 +374,21 @@ pub fn facts_set(target: Target, cells: &[u16], index: &[u16]) -> NodeSet
     }
 }
 
-// The nodes below n in the sets of steps i and j; in one of them.
-pub fn both_set(work: &[u64], i: usize, j: usize, n: usize) -> NodeSet
-    requires { ⌜ (i < 65536) × (j < 65536) ⌝ }
-    ensures { λ r. ⌜ r .words ≡ nodesOf (λ v. has (drop (16 * i) (now (work .entry))) v && has (drop (16 * j) (now (work .entry))) v) n ⌝ }
+// The nodes in the sets of both steps, left and right; in one of them.
+pub fn both_set(work: &[u64], left: usize, right: usize, nodes: usize) -> NodeSet
+    requires { ⌜ (left < 65536) × (right < 65536) ⌝ }
+    ensures { λ r. ⌜ r .words ≡ nodesOf (λ v. has (drop (16 * left) (now (work .entry))) v && has (drop (16 * right) (now (work .entry))) v) nodes ⌝ }
 {
-    let a = load(part(work, 16 * i));
-    let b = load(part(work, 16 * j));
-    NodeSet::whole(n).intersection(a.intersection(b))
+    let a = load(part(work, 16 * left));
+    let b = load(part(work, 16 * right));
+    NodeSet::whole(nodes).intersection(a.intersection(b))
 }
 
-pub fn either_set(work: &[u64], i: usize, j: usize, n: usize) -> NodeSet
-    requires { ⌜ (i < 65536) × (j < 65536) ⌝ }
-    ensures { λ r. ⌜ r .words ≡ nodesOf (λ v. has (drop (16 * i) (now (work .entry))) v || has (drop (16 * j) (now (work .entry))) v) n ⌝ }
+pub fn either_set(work: &[u64], left: usize, right: usize, nodes: usize) -> NodeSet
+    requires { ⌜ (left < 65536) × (right < 65536) ⌝ }
+    ensures { λ r. ⌜ r .words ≡ nodesOf (λ v. has (drop (16 * left) (now (work .entry))) v || has (drop (16 * right) (now (work .entry))) v) nodes ⌝ }
 {
-    let a = load(part(work, 16 * i));
-    let b = load(part(work, 16 * j));
-    NodeSet::whole(n).intersection(a.union(b))
+    let a = load(part(work, 16 * left));
+    let b = load(part(work, 16 * right));
+    NodeSet::whole(nodes).intersection(a.union(b))
 }

@@ -13,11 +13,11 @@ node-at-requires c κs = search needs
 node-at-requires-2 : tie.Need-node-at-requires-2
 node-at-requires-2 c κs = search needs
 
-pick-cell-requires : tie.Need-pick-cell-requires
-pick-cell-requires c κs = search needs
+pick-node-requires : tie.Need-pick-node-requires
+pick-node-requires c κs = search needs
 
-pick-cell-requires-2 : tie.Need-pick-cell-requires-2
-pick-cell-requires-2 c κs = search needs
+pick-node-requires-2 : tie.Need-pick-node-requires-2
+pick-node-requires-2 c κs = search needs
 
 join-requires : tie.Need-join-requires
 join-requires c κs = search needs
@@ -30,7 +30,7 @@ returns c =
     let a = c .before .before .before .before .before .before .before .before .before .before .before .before .args in
     let v = c .before .before .before .before .before .before .before .node-at .ensures in
     let w = c .before .before .before .before .before .before .node-at2 .ensures in
-    c .before .before .join .ensures ∙ ap₂ (λ (near far : ℕ). joinedSets (setCount (a .many)) near far (a .from .now) (a .into .now)) (c .before .before .before .before .pick-cell2 .ensures ∙ ap₂ (cond (a .back)) w v) (c .before .before .before .before .before .pick-cell .ensures ∙ ap₂ (cond (a .back)) v w)
+    c .before .before .join .ensures ∙ ap₂ (λ (near far : ℕ). joinedSets (setCount (a .many)) near far (a .from .now) (a .into .now)) (c .before .before .before .before .pick-node2 .ensures ∙ ap₂ (cond (a .back)) w v) (c .before .before .before .before .before .pick-node .ensures ∙ ap₂ (cond (a .back)) v w)
 
 pub join-fact-spec : {M : Type 1} → statement M
 join-fact-spec =
@@ -38,8 +38,8 @@ join-fact-spec =
     (tie.spec
     node-at-requires
     node-at-requires-2
-    pick-cell-requires
-    pick-cell-requires-2
+    pick-node-requires
+    pick-node-requires-2
     join-requires
     same-length
     returns)

@@ -19,13 +19,13 @@ returns : tie.Need-returns
 returns c =
     let a = c .before .before .before .before .before .args in
     let w = c .before .well-formed in
-    sym (ap (λ (t : Bool). t && reportPartOk (now (a .cells)) (now (a .lists)) (now (a .lengths)) (a .k)) (sym (w .ensures) ∙ not-true (w .result) (c .if1 .taken)))
+    sym (ap (λ (t : Bool). t && reportPartOk (now (a .cells)) (now (a .lists)) (now (a .lengths)) (a .part)) (sym (w .ensures) ∙ not-true (w .result) (c .if1 .taken)))
 
 returns-2 : tie.Need-returns-2
 returns-2 c =
     let a = c .before .before .before .before .before .before .args in
     let w = c .before .before .well-formed in
-    sym (ap (λ (t : Bool). t && reportPartOk (now (a .cells)) (now (a .lists)) (now (a .lengths)) (a .k)) (sym (w .ensures) ∙ not-false (w .result) (c .before .if1 .left)) ∙ ok-head (now (a .cells)) (now (a .lists)) (now (a .lengths)) (a .k) (c .if2 .taken))
+    sym (ap (λ (t : Bool). t && reportPartOk (now (a .cells)) (now (a .lists)) (now (a .lengths)) (a .part)) (sym (w .ensures) ∙ not-false (w .result) (c .before .if1 .left)) ∙ ok-head (now (a .cells)) (now (a .lists)) (now (a .lengths)) (a .part) (c .if2 .taken))
 
 rule-count-requires : tie.Need-rule-count-requires
 rule-count-requires c κs = search needs
@@ -44,9 +44,9 @@ row-ok-requires c κs =
 returns-3 : tie.Need-returns-3
 returns-3 c =
     let a = c .before .before .before .before .before .before .before .before .before .args in
-    let next : a .k ≡ suc (a .k - 1) = omega (arith, c .before .before .before .if2 .left) in
+    let next : a .part ≡ suc (a .part - 1) = omega (arith, c .before .before .before .if2 .left) in
     let w = c .before .before .before .before .before .well-formed in
-    c .row-ok .ensures ∙ sym (ap (λ (t : Bool). t && reportPartOk (now (a .cells)) (now (a .lists)) (now (a .lengths)) (a .k)) (sym (w .ensures) ∙ not-false (w .result) (c .before .before .before .before .if1 .left)) ∙ ok-rule (now (a .cells)) (now (a .lists)) (now (a .lengths)) (a .k) (a .k - 1) next (omega (arith, c .before .if3 .taken, next, c .before .before .rule-count .ensures)))
+    c .row-ok .ensures ∙ sym (ap (λ (t : Bool). t && reportPartOk (now (a .cells)) (now (a .lists)) (now (a .lengths)) (a .part)) (sym (w .ensures) ∙ not-false (w .result) (c .before .before .before .before .if1 .left)) ∙ ok-rule (now (a .cells)) (now (a .lists)) (now (a .lengths)) (a .part) (a .part - 1) next (omega (arith, c .before .if3 .taken, next, c .before .before .rule-count .ensures)))
 
 add-if4 : tie.Need-add-if4
 add-if4 c =
@@ -59,7 +59,7 @@ returns-4 : tie.Need-returns-4
 returns-4 c =
     let a = c .before .before .before .before .before .before .before .before .before .args in
     let w = c .before .before .before .before .before .well-formed in
-    sym (ap (λ (t : Bool). t && reportPartOk (now (a .cells)) (now (a .lists)) (now (a .lengths)) (a .k)) (sym (w .ensures) ∙ not-false (w .result) (c .before .before .before .before .if1 .left)) ∙ ok-past (now (a .cells)) (now (a .lists)) (now (a .lengths)) (a .k) (omega (arith, c .if4 .taken, c .before .before .rule-count .ensures)))
+    sym (ap (λ (t : Bool). t && reportPartOk (now (a .cells)) (now (a .lists)) (now (a .lengths)) (a .part)) (sym (w .ensures) ∙ not-false (w .result) (c .before .before .before .before .if1 .left)) ∙ ok-past (now (a .cells)) (now (a .lists)) (now (a .lengths)) (a .part) (omega (arith, c .if4 .taken, c .before .before .rule-count .ensures)))
 
 lengths-ok-requires : tie.Need-lengths-ok-requires
 lengths-ok-requires c κs =
@@ -73,7 +73,7 @@ returns-5 c =
     let n = c .before .before .before .rule-count in
     let a = c .before .before .before .before .before .before .before .before .before .before .args in
     let w = c .before .before .before .before .before .before .well-formed in
-    c .lengths-ok .ensures ∙ ap (every (lengthOk (now (a .lengths)))) (n .ensures) ∙ sym (ap (λ (t : Bool). t && reportPartOk (now (a .cells)) (now (a .lists)) (now (a .lengths)) (a .k)) (sym (w .ensures) ∙ not-false (w .result) (c .before .before .before .before .before .if1 .left)) ∙ ok-last (now (a .cells)) (now (a .lists)) (now (a .lengths)) (a .k) (omega (arith, c .before .if4 .left, c .before .before .if3 .left, n .ensures)))
+    c .lengths-ok .ensures ∙ ap (every (lengthOk (now (a .lengths)))) (n .ensures) ∙ sym (ap (λ (t : Bool). t && reportPartOk (now (a .cells)) (now (a .lists)) (now (a .lengths)) (a .part)) (sym (w .ensures) ∙ not-false (w .result) (c .before .before .before .before .before .if1 .left)) ∙ ok-last (now (a .cells)) (now (a .lists)) (now (a .lengths)) (a .part) (omega (arith, c .before .if4 .left, c .before .before .if3 .left, n .ensures)))
 
 pub part-ok-spec : {M : Type 1} → statement M
 part-ok-spec =

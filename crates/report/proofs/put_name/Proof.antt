@@ -25,8 +25,8 @@ cast-first c = search needs
 mul-first : tie.Need-mul-first
 mul-first c = search needs
 
-add-last : tie.Need-add-last
-add-last c = search needs
+add-end : tie.Need-add-end
+add-end c = search needs
 
 sub-put-bytes : tie.Need-sub-put-bytes
 sub-put-bytes c = search needs
@@ -62,7 +62,7 @@ put-name-spec =
     name-length-requires
     cast-first
     mul-first
-    add-last
+    add-end
     sub-put-bytes
     part-put-bytes-start
     part-put-bytes-end

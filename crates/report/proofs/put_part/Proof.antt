@@ -34,7 +34,7 @@ returns c =
     let f = c .before .before .before .fact-count in
     let r = c .before .before .before .before .before .before .before .rule-count in
     let head : headLine (n .result) (f .result) (r .result) ≡ headLine (nodeCount (now (c .before .before .before .before .before .before .before .before .before .before .before .before .before .args .cells))) (factCount (now (c .before .before .before .before .before .before .before .before .before .before .before .before .before .args .cells))) (ruleCount (now (c .before .before .before .before .before .before .before .before .before .before .before .before .before .args .cells))) = (λ i. headLine (n .ensures i) (f .ensures i) (r .ensures i)) in
-    put-as (head ∙ part-head (now (c .before .before .before .before .before .before .before .before .before .before .before .before .before .args .names)) (now (c .before .before .before .before .before .before .before .before .before .before .before .before .before .args .cells)) (now (c .before .before .before .before .before .before .before .before .before .before .before .before .before .args .lists)) (now (c .before .before .before .before .before .before .before .before .before .before .before .before .before .args .lengths)) (c .before .before .before .before .before .before .before .before .before .before .before .before .before .args .k) (c .before .before .before .before .before .before .if1 .taken)) (c .before .before .put-head .ensures)
+    put-as (head ∙ part-head (now (c .before .before .before .before .before .before .before .before .before .before .before .before .before .args .names)) (now (c .before .before .before .before .before .before .before .before .before .before .before .before .before .args .cells)) (now (c .before .before .before .before .before .before .before .before .before .before .before .before .before .args .lists)) (now (c .before .before .before .before .before .before .before .before .before .before .before .before .before .args .lengths)) (c .before .before .before .before .before .before .before .before .before .before .before .before .before .args .part) (c .before .before .before .before .before .before .if1 .taken)) (c .before .before .put-head .ensures)
 
 total-requires : tie.Need-total-requires
 total-requires c κs = (omega (arith, tables.sound (now (c .before .before .before .before .before .before .before .before .before .args .cells)) (c .before .before .before .before .before .before .before .before .before .pre .4) .rules, c .before .before .before .rule-count .ensures), c .before .before .before .before .before .before .before .before .before .pre .3)
@@ -49,7 +49,7 @@ returns-2 : tie.Need-returns-2
 returns-2 c =
     let t = c .before .before .before .total in
     let r = c .before .before .before .before .before .before .before .rule-count in
-    put-as (ap foundLine (t .ensures ∙ ap (foundIn (now (c .before .before .before .before .before .before .before .before .before .before .before .before .before .args .lengths))) (r .ensures)) ∙ part-last (now (c .before .before .before .before .before .before .before .before .before .before .before .before .before .args .names)) (now (c .before .before .before .before .before .before .before .before .before .before .before .before .before .args .cells)) (now (c .before .before .before .before .before .before .before .before .before .before .before .before .before .args .lists)) (now (c .before .before .before .before .before .before .before .before .before .before .before .before .before .args .lengths)) (c .before .before .before .before .before .before .before .before .before .before .before .before .before .args .k) (omega (arith, c .before .before .before .before .before .if2 .taken, r .ensures))) (c .before .before .put-found .ensures)
+    put-as (ap foundLine (t .ensures ∙ ap (foundIn (now (c .before .before .before .before .before .before .before .before .before .before .before .before .before .args .lengths))) (r .ensures)) ∙ part-last (now (c .before .before .before .before .before .before .before .before .before .before .before .before .before .args .names)) (now (c .before .before .before .before .before .before .before .before .before .before .before .before .before .args .cells)) (now (c .before .before .before .before .before .before .before .before .before .before .before .before .before .args .lists)) (now (c .before .before .before .before .before .before .before .before .before .before .before .before .before .args .lengths)) (c .before .before .before .before .before .before .before .before .before .before .before .before .before .args .part) (omega (arith, c .before .before .before .before .before .if2 .taken, r .ensures))) (c .before .before .put-found .ensures)
 
 sub-put-rule : tie.Need-sub-put-rule
 sub-put-rule c = search needs
@@ -57,7 +57,7 @@ sub-put-rule c = search needs
 put-rule-requires : tie.Need-put-rule-requires
 put-rule-requires c κs =
     let q = c .before .before .before .before .before .before .before .before .before .pre in
-    let k = c .before .before .before .before .before .before .before .before .before .args .k in
+    let k = c .before .before .before .before .before .before .before .before .before .args .part in
     let wf = tables.sound (now (c .before .before .before .before .before .before .before .before .before .args .cells)) (q .4) in
     let next : k ≡ suc (k - 1) = omega (arith, c .before .before .if1 .left) in
     let low : k - 1 < ruleCount (now (c .before .before .before .before .before .before .before .before .before .args .cells)) = omega (arith, next, c .before .if2 .left, c .before .before .before .rule-count .ensures) in
@@ -69,7 +69,7 @@ same-length-3 c = search needs
 
 returns-3 : tie.Need-returns-3
 returns-3 c =
-    let k = c .before .before .before .before .before .before .before .before .before .before .before .before .args .k in
+    let k = c .before .before .before .before .before .before .before .before .before .before .before .before .args .part in
     let next : k ≡ suc (k - 1) = omega (arith, c .before .before .before .before .before .if1 .left) in
     put-as (part-rule (now (c .before .before .before .before .before .before .before .before .before .before .before .before .args .names)) (now (c .before .before .before .before .before .before .before .before .before .before .before .before .args .cells)) (now (c .before .before .before .before .before .before .before .before .before .before .before .before .args .lists)) (now (c .before .before .before .before .before .before .before .before .before .before .before .before .args .lengths)) k (k - 1) next (omega (arith, next, c .before .before .before .before .if2 .left, c .before .before .before .before .before .before .rule-count .ensures))) (c .before .before .put-rule .ensures)
 

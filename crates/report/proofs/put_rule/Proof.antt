@@ -27,8 +27,8 @@ shared-slice-read-wide c = search needs
 wide-requires : tie.Need-wide-requires
 wide-requires c κs = search needs
 
-add-last : tie.Need-add-last
-add-last c = search needs
+add-end : tie.Need-add-end
+add-end c = search needs
 
 mul-put-breaks : tie.Need-mul-put-breaks
 mul-put-breaks c = search needs
@@ -64,7 +64,7 @@ put-rule-spec =
     mul-wide
     shared-slice-read-wide
     wide-requires
-    add-last
+    add-end
     mul-put-breaks
     sub-put-breaks
     part-put-breaks-start

@@ -29,8 +29,8 @@ returns c =
 mul-first : tie.Need-mul-first
 mul-first c = search needs
 
-add-last : tie.Need-add-last
-add-last c = search needs
+add-end : tie.Need-add-end
+add-end c = search needs
 
 mul-all-below : tie.Need-mul-all-below
 mul-all-below c = search needs
@@ -67,7 +67,7 @@ row-ok-spec =
     wide-requires
     returns
     mul-first
-    add-last
+    add-end
     mul-all-below
     sub-all-below
     part-all-below-start

@@ -41,8 +41,8 @@ returns c =
     let k = c .before .before .before .before .before .before .before .before .before .keep-ends in
     let m = c .before .before .before .before .before .keep-ends2 in (
       c .nodes-where .ensures
-          ∙ where-ext cs vs (sound cs (pre .0 .ok)) (a .condition) (λ v. has (drop (16 * v) (k .last .0))) (starts (graphAt cs vs) (endIn cs (a .end))) (λ v. has (drop (16 * v) (m .last .0))) (objects (graphAt cs vs) (a .l .0))
-          (row-ends cs (a .index .now) (pre .0) (a .end) (k .ensures)) (row-ends cs (a .index .now) (pre .0) (Link (a .l)) (m .ensures)),
+          ∙ where-ext cs vs (sound cs (pre .0 .ok)) (a .condition) (λ v. has (drop (16 * v) (k .last .0))) (starts (graphAt cs vs) (endIn cs (a .end))) (λ v. has (drop (16 * v) (m .last .0))) (objects (graphAt cs vs) (a .link .0))
+          (row-ends cs (a .index .now) (pre .0) (a .end) (k .ensures)) (row-ends cs (a .index .now) (pre .0) (Link (a .link)) (m .ensures)),
       (k .ensures, m .ensures),
     )
 

@@ -22,7 +22,7 @@ use Rattle.stepsets.proofs.lang_set.Tie as tie
 
 keep-ends-requires : tie.Need-keep-ends-requires
 unfolding endKnown
-keep-ends-requires c κs = let pre = c .before .before .before .before .pre in (pre .0, lt-ltb (c .before .before .before .before .args .p) (pathCount (c .before .before .before .before .args .cells .now)) (pre .1), pre .3)
+keep-ends-requires c κs = let pre = c .before .before .before .before .pre in (pre .0, lt-ltb (c .before .before .before .before .args .path) (pathCount (c .before .before .before .before .args .cells .now)) (pre .1), pre .3)
 
 languages-requires : tie.Need-languages-requires
 languages-requires c κs = search needs
@@ -46,8 +46,8 @@ returns c =
     let ws : List ℕ = c .before .before .before .before .languages .result .words in
     let k = c .before .before .before .before .before .before .before .keep-ends in (
       c .nodes-where .ensures
-          ∙ where-ext cs vs (sound cs (pre .0 .ok)) (a .condition) (λ v. has (drop (16 * v) (k .last .0))) (from (graphAt cs vs) (pathAt cs (a .p))) (λ v. has ws) (λ v. tagged cs)
-          (row-ends cs (a .index .now) (pre .0) (Path (a .p)) (k .ensures)) (λ v l w lw. has-of (tagged cs) 16 (c .before .before .before .before .languages .ensures) w lw),
+          ∙ where-ext cs vs (sound cs (pre .0 .ok)) (a .condition) (λ v. has (drop (16 * v) (k .last .0))) (from (graphAt cs vs) (pathAt cs (a .path))) (λ v. has ws) (λ v. tagged cs)
+          (row-ends cs (a .index .now) (pre .0) (Path (a .path)) (k .ensures)) (λ v l w lw. has-of (tagged cs) 16 (c .before .before .before .before .languages .ensures) w lw),
       k .ensures,
     )
 

@@ -26,7 +26,7 @@ loop-holds : tie.Need-loop-holds Inv-loop μ-loop
 loop-holds c =
     let a = c .before .before .before .args in
     let t = c .before .before .before .pre .0 in
-    walk-first (a .cells .now) (a .index .now) t (a .target) (a .l .0) (c .before .before .before .pre .1) (c .last-fact .ensures)
+    walk-first (a .cells .now) (a .index .now) t (a .target) (a .link .0) (c .before .before .before .pre .1) (c .last-fact .ensures)
 
 sub-i : tie.Need-sub-i Inv-loop μ-loop
 sub-i c = search needs

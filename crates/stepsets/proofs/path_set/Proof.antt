@@ -20,7 +20,7 @@ use Rattle.stepsets.proofs.path_set.Tie as tie
 
 keep-ends-requires : tie.Need-keep-ends-requires
 unfolding endKnown
-keep-ends-requires c κs = let pre = c .before .before .before .before .before .pre in (pre .0, lt-ltb (c .before .before .before .before .before .args .p) (pathCount (c .before .before .before .before .before .args .cells .now)) (pre .1), pre .4)
+keep-ends-requires c κs = let pre = c .before .before .before .before .before .pre in (pre .0, lt-ltb (c .before .before .before .before .before .args .path) (pathCount (c .before .before .before .before .before .args .cells .now)) (pre .1), pre .4)
 
 mul-part : tie.Need-mul-part
 mul-part c = search needs
@@ -43,8 +43,8 @@ returns c =
     let vs = a .values .now in
     let k = c .before .before .before .before .before .keep-ends in (
       c .nodes-where .ensures
-          ∙ where-ext cs vs (sound cs (pre .0 .ok)) (a .condition) (λ v. has (drop (16 * v) (k .last .0))) (from (graphAt cs vs) (pathAt cs (a .p))) (λ v. has (c .before .part .result .now)) (λ v. has (drop (16 * a .j) (a .work .now)))
-          (row-ends cs (a .index .now) (pre .0) (Path (a .p)) (k .ensures)) (λ v l w lw. ap (λ (d : List ℕ). has d w) (c .before .part .ensures)),
+          ∙ where-ext cs vs (sound cs (pre .0 .ok)) (a .condition) (λ v. has (drop (16 * v) (k .last .0))) (from (graphAt cs vs) (pathAt cs (a .path))) (λ v. has (c .before .part .result .now)) (λ v. has (drop (16 * a .step) (a .work .now)))
+          (row-ends cs (a .index .now) (pre .0) (Path (a .path)) (k .ensures)) (λ v l w lw. ap (λ (d : List ℕ). has d w) (c .before .part .ensures)),
       k .ensures,
     )
 
