@@ -37,6 +37,7 @@ ghost use Rattle.model.specs.Limits.{maxShapes, maxForms, maxName};
 ghost use Rattle.grammar.specs.Syntax.{linkL, shapeL, lineFamily};
 ghost use Rattle.grammar.specs.Reading.{lineAt};
 ghost use Rattle.tables.specs.Layout.{cellCount, valueCount, nameCount};
+ghost use Rattle.itemreader.specs.Answers.{lineWords};
 ghost use Rattle.itemreader.specs.Held.{Limits, Held, Kinds, Indexed};
 ghost use Rattle.linereader.specs.Storing.{lineEnd, lineBody, Done, CountsFit};
 ghost use Rattle.bodyreader.specs.Storing.{shaped, FormHeld};
@@ -129,7 +130,7 @@ fn read_body(
     book: &[u8],
     at: usize,
 ) -> LineAnswer
-    requires { ⌜ (at ≤ length (now book)) × (k < 11) × (nameCount ≤ length (now names)) × (cellCount ≤ length (now cells)) × (valueCount ≤ length (now values)) × Limits counts × CountsFit counts × ((a : Book) × Held (now names) counts a) × Indexed (now names) counts (now index) ⌝ }
+    requires { ⌜ (at ≤ length (now book)) × (k < lineWords) × (nameCount ≤ length (now names)) × (cellCount ≤ length (now cells)) × (valueCount ≤ length (now values)) × Limits counts × CountsFit counts × ((a : Book) × Held (now names) counts a) × Indexed (now names) counts (now index) ⌝ }
     ensures { λ r. ⌜ ((a : Book) → Held (now (names .entry)) counts a → Kinds (now (cells .entry)) a → Done a counts (lineBody (now (book .entry)) a (getD (lineFamily .codes) k linkL) at) r (now (names .entry)) (now (names .exit)) (now (cells .entry)) (now (cells .exit)) (now (values .entry)) (now (values .exit))) ⌝ }
 {
     match k {

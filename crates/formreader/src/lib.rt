@@ -29,7 +29,7 @@ ghost use Rattle.model.specs.Limits.{maxForms, maxPaths, maxItems};
 ghost use Rattle.grammar.specs.Syntax.{path, form};
 ghost use Rattle.grammar.specs.Reading.{Begun, formBegun, argAt, readersAt};
 ghost use Rattle.tables.specs.Layout.{cellCount, valueCount, nameCount};
-ghost use Rattle.itemreader.specs.Answers.{restAt};
+ghost use Rattle.itemreader.specs.Answers.{formWords, restAt};
 ghost use Rattle.itemreader.specs.Held.{Limits, Held, Indexed};
 ghost use Rattle.leafreader.specs.Forms.{begunOf, FormRead, closedForm, FormsWithin, formBody};
 ghost use Rattle.formreader.specs.Frames.{Quantifier, quantify, codeOf, lowOf, highOf, OpenRead, Opened, putChild};
@@ -138,7 +138,7 @@ fn open_word(
     n: Ended,
     up: usize,
 ) -> Opening
-    requires { ⌜ (at ≤ length (now book)) × (nameCount ≤ length (now names)) × (cellCount ≤ length (now cells)) × (valueCount ≤ length (now values)) × (0 < left) × (n .forms + up < maxForms) × (n .paths ≤ maxPaths) × (n .items ≤ maxItems) × Limits counts × (code < 20) × Indexed (now names) counts (now index) ⌝ }
+    requires { ⌜ (at ≤ length (now book)) × (nameCount ≤ length (now names)) × (cellCount ≤ length (now cells)) × (valueCount ≤ length (now values)) × (0 < left) × (n .forms + up < maxForms) × (n .paths ≤ maxPaths) × (n .items ≤ maxItems) × Limits counts × (code < formWords) × Indexed (now names) counts (now index) ⌝ }
     ensures { λ r. ⌜ ((a : Book) → Held (now (names .entry)) counts a → (b : Begun) → b .paths ≡ n .paths → b .items ≡ n .items → OpenRead (now (book .entry)) a (readersAt (now (book .entry)) a (left - 1)) b (formBody (now (book .entry)) a (left - 1) code b at) (begunOf n) (now (cells .entry)) (now (cells .exit)) (now (values .entry)) (now (values .exit)) r) ⌝ }
     ensures { λ r. ⌜ Opened left up (length (now (book .entry))) n r ⌝ }
     ensures { λ _. ⌜ drop cellCount (now (cells .exit)) ≡ drop cellCount (now (cells .entry)) ⌝ }

@@ -82,6 +82,19 @@ headAt s words deep full at =
     (headed deep full (indexOf words (slice (at + 1) (itemEnd s (at + 1)) s)) (itemEnd s (at + 1)))
     Head.Bare
 
+-- how many words each family has
+abbrev pub pathWords : ℕ
+pathWords = 3
+
+abbrev pub formWords : ℕ
+formWords = 20
+
+abbrev pub targetWords : ℕ
+targetWords = 4
+
+abbrev pub lineWords : ℕ
+lineWords = 11
+
 -- a word's number below a count, brackets left to open, and room for an entry
 abbrev pub Headed : ℕ → ℕ → Bool → ℕ → Head → Type 0
 Headed count left full len Head.Bare = Unit {0}

@@ -48,7 +48,7 @@ ghost use Rattle.model.specs.Valid.{capacity};
 ghost use Rattle.tables.specs.Layout.{cellCount, nameCount};
 ghost use Rattle.encoding.specs.Flatten.{kindCode, upperNumber};
 ghost use Rattle.encoding.specs.Encode.{poolBase};
-ghost use Rattle.itemreader.specs.Answers.{poolOf, same, itemOf, valueOf, Reads, Below, Counted, Inside, itemsAfter, Listed, headAt, Headed, wordsOf};
+ghost use Rattle.itemreader.specs.Answers.{poolOf, same, itemOf, valueOf, Reads, Below, Counted, Inside, itemsAfter, Listed, headAt, Headed, wordsOf, pathWords, formWords, targetWords, lineWords};
 ghost use Rattle.itemreader.specs.Held.{countOf, Limits, Held, Kinds, Indexed};
 
 pub enum Pool {
@@ -400,11 +400,11 @@ fn head_at(words: &[u8], count: usize, book: &[u8], at: usize, left: usize, full
 pub fn path_head(book: &[u8], at: usize, left: usize, full: bool) -> Head
     requires { ⌜ at ≤ length (now book) ⌝ }
     ensures { λ r. ⌜ r ≡ headAt (now (book .entry)) (wordsOf pathFamily) (eqb left 0) full at ⌝ }
-    ensures { λ r. ⌜ Headed 3 left full (length (now (book .entry))) r ⌝ }
+    ensures { λ r. ⌜ Headed pathWords left full (length (now (book .entry))) r ⌝ }
 {
     head_at(
         b"inv\0\0\0\0\0\0\0\0\0\0\0\0\0\0\0\0\0\0\0\0\0\0\0\0\0\0\0\0\0seq\0\0\0\0\0\0\0\0\0\0\0\0\0\0\0\0\0\0\0\0\0\0\0\0\0\0\0\0\0alt\0\0\0\0\0\0\0\0\0\0\0\0\0\0\0\0\0\0\0\0\0\0\0\0\0\0\0\0\0",
-        3,
+        words::PATH_FAMILY,
         book,
         at,
         left,
@@ -415,11 +415,11 @@ pub fn path_head(book: &[u8], at: usize, left: usize, full: bool) -> Head
 pub fn form_head(book: &[u8], at: usize, left: usize, full: bool) -> Head
     requires { ⌜ at ≤ length (now book) ⌝ }
     ensures { λ r. ⌜ r ≡ headAt (now (book .entry)) (wordsOf formFamily) (eqb left 0) full at ⌝ }
-    ensures { λ r. ⌜ Headed 20 left full (length (now (book .entry))) r ⌝ }
+    ensures { λ r. ⌜ Headed formWords left full (length (now (book .entry))) r ⌝ }
 {
     head_at(
         b"is\0\0\0\0\0\0\0\0\0\0\0\0\0\0\0\0\0\0\0\0\0\0\0\0\0\0\0\0\0\0shape\0\0\0\0\0\0\0\0\0\0\0\0\0\0\0\0\0\0\0\0\0\0\0\0\0\0\0and\0\0\0\0\0\0\0\0\0\0\0\0\0\0\0\0\0\0\0\0\0\0\0\0\0\0\0\0\0or\0\0\0\0\0\0\0\0\0\0\0\0\0\0\0\0\0\0\0\0\0\0\0\0\0\0\0\0\0\0not\0\0\0\0\0\0\0\0\0\0\0\0\0\0\0\0\0\0\0\0\0\0\0\0\0\0\0\0\0kind\0\0\0\0\0\0\0\0\0\0\0\0\0\0\0\0\0\0\0\0\0\0\0\0\0\0\0\0datatype\0\0\0\0\0\0\0\0\0\0\0\0\0\0\0\0\0\0\0\0\0\0\0\0lang\0\0\0\0\0\0\0\0\0\0\0\0\0\0\0\0\0\0\0\0\0\0\0\0\0\0\0\0from\0\0\0\0\0\0\0\0\0\0\0\0\0\0\0\0\0\0\0\0\0\0\0\0\0\0\0\0above\0\0\0\0\0\0\0\0\0\0\0\0\0\0\0\0\0\0\0\0\0\0\0\0\0\0\0to\0\0\0\0\0\0\0\0\0\0\0\0\0\0\0\0\0\0\0\0\0\0\0\0\0\0\0\0\0\0below\0\0\0\0\0\0\0\0\0\0\0\0\0\0\0\0\0\0\0\0\0\0\0\0\0\0\0count\0\0\0\0\0\0\0\0\0\0\0\0\0\0\0\0\0\0\0\0\0\0\0\0\0\0\0all\0\0\0\0\0\0\0\0\0\0\0\0\0\0\0\0\0\0\0\0\0\0\0\0\0\0\0\0\0equal\0\0\0\0\0\0\0\0\0\0\0\0\0\0\0\0\0\0\0\0\0\0\0\0\0\0\0apart\0\0\0\0\0\0\0\0\0\0\0\0\0\0\0\0\0\0\0\0\0\0\0\0\0\0\0closed\0\0\0\0\0\0\0\0\0\0\0\0\0\0\0\0\0\0\0\0\0\0\0\0\0\0less\0\0\0\0\0\0\0\0\0\0\0\0\0\0\0\0\0\0\0\0\0\0\0\0\0\0\0\0lesseq\0\0\0\0\0\0\0\0\0\0\0\0\0\0\0\0\0\0\0\0\0\0\0\0\0\0onelang\0\0\0\0\0\0\0\0\0\0\0\0\0\0\0\0\0\0\0\0\0\0\0\0\0",
-        20,
+        words::FORM_FAMILY,
         book,
         at,
         left,
@@ -430,11 +430,11 @@ pub fn form_head(book: &[u8], at: usize, left: usize, full: bool) -> Head
 pub fn target_head(book: &[u8], at: usize, left: usize, full: bool) -> Head
     requires { ⌜ at ≤ length (now book) ⌝ }
     ensures { λ r. ⌜ r ≡ headAt (now (book .entry)) (wordsOf targetFamily) (eqb left 0) full at ⌝ }
-    ensures { λ r. ⌜ Headed 4 left full (length (now (book .entry))) r ⌝ }
+    ensures { λ r. ⌜ Headed targetWords left full (length (now (book .entry))) r ⌝ }
 {
     head_at(
         b"node\0\0\0\0\0\0\0\0\0\0\0\0\0\0\0\0\0\0\0\0\0\0\0\0\0\0\0\0subjects\0\0\0\0\0\0\0\0\0\0\0\0\0\0\0\0\0\0\0\0\0\0\0\0objects\0\0\0\0\0\0\0\0\0\0\0\0\0\0\0\0\0\0\0\0\0\0\0\0\0class\0\0\0\0\0\0\0\0\0\0\0\0\0\0\0\0\0\0\0\0\0\0\0\0\0\0\0",
-        4,
+        words::TARGET_FAMILY,
         book,
         at,
         left,
@@ -445,11 +445,11 @@ pub fn target_head(book: &[u8], at: usize, left: usize, full: bool) -> Head
 pub fn line_head(book: &[u8], at: usize, left: usize, full: bool) -> Head
     requires { ⌜ at ≤ length (now book) ⌝ }
     ensures { λ r. ⌜ r ≡ headAt (now (book .entry)) (wordsOf lineFamily) (eqb left 0) full at ⌝ }
-    ensures { λ r. ⌜ Headed 11 left full (length (now (book .entry))) r ⌝ }
+    ensures { λ r. ⌜ Headed lineWords left full (length (now (book .entry))) r ⌝ }
 {
     head_at(
         b"link\0\0\0\0\0\0\0\0\0\0\0\0\0\0\0\0\0\0\0\0\0\0\0\0\0\0\0\0type\0\0\0\0\0\0\0\0\0\0\0\0\0\0\0\0\0\0\0\0\0\0\0\0\0\0\0\0lang\0\0\0\0\0\0\0\0\0\0\0\0\0\0\0\0\0\0\0\0\0\0\0\0\0\0\0\0thing\0\0\0\0\0\0\0\0\0\0\0\0\0\0\0\0\0\0\0\0\0\0\0\0\0\0\0blank\0\0\0\0\0\0\0\0\0\0\0\0\0\0\0\0\0\0\0\0\0\0\0\0\0\0\0number\0\0\0\0\0\0\0\0\0\0\0\0\0\0\0\0\0\0\0\0\0\0\0\0\0\0text\0\0\0\0\0\0\0\0\0\0\0\0\0\0\0\0\0\0\0\0\0\0\0\0\0\0\0\0words\0\0\0\0\0\0\0\0\0\0\0\0\0\0\0\0\0\0\0\0\0\0\0\0\0\0\0fact\0\0\0\0\0\0\0\0\0\0\0\0\0\0\0\0\0\0\0\0\0\0\0\0\0\0\0\0shape\0\0\0\0\0\0\0\0\0\0\0\0\0\0\0\0\0\0\0\0\0\0\0\0\0\0\0rule\0\0\0\0\0\0\0\0\0\0\0\0\0\0\0\0\0\0\0\0\0\0\0\0\0\0\0\0",
-        11,
+        words::LINE_FAMILY,
         book,
         at,
         left,

@@ -1,4 +1,5 @@
-// The words after an opening bracket, by their number in the table of words that they are looked up in.
+// The words after an opening bracket, by their number in the family that they are looked up in, and how many words
+// each family has.
 
 // of paths
 pub const PATH_INV: usize = 0;
@@ -6,6 +7,8 @@ pub const PATH_INV: usize = 0;
 pub const PATH_SEQ: usize = 1;
 
 pub const PATH_ALT: usize = 2;
+
+pub const PATH_FAMILY: usize = PATH_ALT + 1;
 
 // of forms: one less than the code of its entry, since `true` has no bracket
 pub const IS: usize = 0;
@@ -48,6 +51,8 @@ pub const LESSEQ: usize = 18;
 
 pub const ONELANG: usize = 19;
 
+pub const FORM_FAMILY: usize = ONELANG + 1;
+
 // of targets
 pub const TARGET_NODE: usize = 0;
 
@@ -56,6 +61,8 @@ pub const TARGET_SUBJECTS: usize = 1;
 pub const TARGET_OBJECTS: usize = 2;
 
 pub const TARGET_CLASS: usize = 3;
+
+pub const TARGET_FAMILY: usize = TARGET_CLASS + 1;
 
 // of lines
 pub const LINE_LINK: usize = 0;
@@ -79,3 +86,5 @@ pub const LINE_FACT: usize = 8;
 pub const LINE_SHAPE: usize = 9;
 
 pub const LINE_RULE: usize = 10;
+
+pub const LINE_FAMILY: usize = LINE_RULE + 1;

@@ -39,7 +39,7 @@ ghost use Rattle.grammar.specs.Syntax.{used, value, path, end, list};
 ghost use Rattle.grammar.specs.Reading.{Readers, Begun, trueAt, readersAt};
 ghost use Rattle.tables.specs.Layout.{cellCount, valueCount, nameCount};
 ghost use Rattle.stores.specs.Entries.{putForm};
-ghost use Rattle.itemreader.specs.Answers.{poolOf, Below, restAt};
+ghost use Rattle.itemreader.specs.Answers.{poolOf, Below, formWords, restAt};
 ghost use Rattle.itemreader.specs.Held.{Limits, Held, Indexed};
 ghost use Rattle.leafreader.specs.Forms.{begunOf, FormRead, closedForm, FormsWithin, childrenOf, formBody, putItem, ItemForm, UsedShape, ListShape, ValueShape, EndShape, PathShape, endNumber};
 
@@ -392,7 +392,7 @@ pub fn read_leaf(
     n: Ended,
     up: usize,
 ) -> Form
-    requires { ⌜ (at ≤ length (now book)) × (nameCount ≤ length (now names)) × (cellCount ≤ length (now cells)) × (valueCount ≤ length (now values)) × (n .forms + up < maxForms) × (n .paths ≤ maxPaths) × (n .items ≤ maxItems) × Limits counts × (code < 20) × (childrenOf code ≡ 0) × Indexed (now names) counts (now index) ⌝ }
+    requires { ⌜ (at ≤ length (now book)) × (nameCount ≤ length (now names)) × (cellCount ≤ length (now cells)) × (valueCount ≤ length (now values)) × (n .forms + up < maxForms) × (n .paths ≤ maxPaths) × (n .items ≤ maxItems) × Limits counts × (code < formWords) × (childrenOf code ≡ 0) × Indexed (now names) counts (now index) ⌝ }
     ensures { λ r. ⌜ ((a : Book) → Held (now (names .entry)) counts a → (b : Begun) → b .paths ≡ n .paths → b .items ≡ n .items → FormRead (formBody (now (book .entry)) a left code b at) (begunOf n) (now (cells .entry)) (now (cells .exit)) (now (values .entry)) (now (values .exit)) r) ⌝ }
     ensures { λ r. ⌜ FormsWithin (n .forms) up (length (now (book .entry))) r ⌝ }
     ensures { λ _. ⌜ drop cellCount (now (cells .exit)) ≡ drop cellCount (now (cells .entry)) ⌝ }

@@ -1,9 +1,9 @@
-// The ends of paths, over facts in three lent columns: their subjects, predicates and objects.
+// The ends of paths, over facts in three lent columns: s, p and o hold the subjects, predicates and objects of len facts.
 //
 // Sets of nodes stand side by side in the words that are lent: one set alone (node v at bit v), or where `many` 64 sets, one word
 // for each node (node v of set k at bit k of word v). What is done for one set is done for each of the 64, so one function serves both.
 //
-// For the crates above, which show that the facts lie between the nodes and that the path entries' tables are well formed:
+// For the crates above, which show that the facts lie between n nodes and that the path entries' tables are well formed:
 //   add_ends         a set gains all ends from the members of another set
 //   add_table_ends   the same over the facts of the tables
 //   follow           the same for sets side by side
@@ -103,11 +103,11 @@ fn join(into: &mut [u64], far: NodeNo, many: bool, from: &[u64], near: NodeNo)
 
 // The facts join the chains of their keys, which stand in a column; of the slots' chains none has begun. Where they begin stands
 // from heads on, and behind that what follows each fact.
-pub fn index_facts(index: &mut [u16], heads: usize, slots: usize, keys: &[u16], facts: usize)
-    requires { ⌜ (heads + slots + facts ≤ length (now index)) × (length (now index) ≤ 65536) × (facts ≤ maxFacts) × (facts ≤ length (now keys)) × (every (λ i. ltb (getD (now keys) i 0) slots) facts ≡ true) × ((h : ℕ) → h < slots → getD (now index) (heads + h) 0 ≡ 0) ⌝ }
-    ensures { λ _. ⌜ Made (now (keys .entry)) facts slots heads (heads + slots) (now (index .entry)) (now (index .exit)) ⌝ }
+pub fn index_facts(index: &mut [u16], heads: usize, slots: usize, keys: &[u16], len: usize)
+    requires { ⌜ (heads + slots + len ≤ length (now index)) × (length (now index) ≤ 65536) × (len ≤ maxFacts) × (len ≤ length (now keys)) × (every (λ i. ltb (getD (now keys) i 0) slots) len ≡ true) × ((h : ℕ) → h < slots → getD (now index) (heads + h) 0 ≡ 0) ⌝ }
+    ensures { λ _. ⌜ Made (now (keys .entry)) len slots heads (heads + slots) (now (index .entry)) (now (index .exit)) ⌝ }
 {
-    for i in 0..facts {
+    for i in 0..len {
         link(index, heads, heads + slots, wide(keys[i]), i);
     }
 }
@@ -117,14 +117,14 @@ pub fn index_table(index: &mut [u16], cells: &[u16])
     requires { ⌜ (now index ≡ replicate indexCount 0) × (cellCount ≤ length (now cells)) × (wellFormed (now cells) ≡ true) ⌝ }
     ensures { λ _. ⌜ TableIndexed (now (cells .entry)) (now (index .exit)) × SubjectIndexed (now (cells .entry)) (now (index .exit)) ⌝ }
 {
-    let facts = fact_count(cells);
-    index_facts(index, 0, MAX_LINKS, &cells[PREDICATES..OBJECTS], facts);
+    let len = fact_count(cells);
+    index_facts(index, 0, MAX_LINKS, &cells[PREDICATES..OBJECTS], len);
     index_facts(
         index,
         SUBJECT_HEADS,
         MAX_NODES,
         &cells[SUBJECTS..PREDICATES],
-        facts,
+        len,
     );
 }
 
@@ -168,47 +168,39 @@ pub fn next_out(index: &[u16], i: usize) -> usize
 }
 
 // The object of fact i joins each set that its subject is in; read backwards where back.
-fn join_fact(
-    into: &mut [u64],
-    i: usize,
-    back: bool,
-    many: bool,
-    from: &[u64],
-    subjects: &[u16],
-    objects: &[u16],
-)
-    requires { ⌜ (i < length (now subjects)) × (i < length (now objects)) ⌝ }
-    ensures { λ _. ⌜ now (into .exit) ≡ joinedSets (setCount many) (cond back (getD (now (objects .entry)) i 0) (getD (now (subjects .entry)) i 0)) (cond back (getD (now (subjects .entry)) i 0) (getD (now (objects .entry)) i 0)) (now (from .entry)) (now (into .entry)) ⌝ }
+fn join_fact(into: &mut [u64], i: usize, back: bool, many: bool, from: &[u64], s: &[u16], o: &[u16])
+    requires { ⌜ (i < length (now s)) × (i < length (now o)) ⌝ }
+    ensures { λ _. ⌜ now (into .exit) ≡ joinedSets (setCount many) (cond back (getD (now (o .entry)) i 0) (getD (now (s .entry)) i 0)) (cond back (getD (now (s .entry)) i 0) (getD (now (o .entry)) i 0)) (now (from .entry)) (now (into .entry)) ⌝ }
 {
-    let subject = node_at(subjects, i);
-    let object = node_at(objects, i);
-    let far = pick_node(back, subject, object);
-    let near = pick_node(back, object, subject);
+    let v = node_at(s, i);
+    let w = node_at(o, i);
+    let far = pick_node(back, v, w);
+    let near = pick_node(back, w, v);
     join(into, far, many, from, near);
 }
 
-// What the facts of link l add; read backwards where back. Only these are looked at: the predicates, of which the index
-// is made, are there for the promise alone.
+// What the facts of link l add; read backwards where back. Only these are looked at: p, of which the index is made, is there
+// for the promise alone.
 fn join_link(
     into: &mut [u64],
     l: LinkNo,
     back: bool,
     many: bool,
     from: &[u64],
-    subjects: &[u16],
-    predicates: &[u16],
-    objects: &[u16],
+    s: &[u16],
+    p: &[u16],
+    o: &[u16],
     index: &[u16],
-    facts: usize,
-    nodes: usize,
+    len: usize,
+    n: usize,
 )
-    requires { ⌜ FactsOk (now subjects) (now predicates) (now objects) (now index) facts nodes ⌝ }
-    ensures { λ _. ⌜ now (into .exit) ≡ withImages (setCount many) nodes (edges (now (subjects .entry)) (now (predicates .entry)) (now (objects .entry)) (l .0) back facts) (now (from .entry)) (now (into .entry)) ⌝ }
+    requires { ⌜ FactsOk (now s) (now p) (now o) (now index) len n ⌝ }
+    ensures { λ _. ⌜ now (into .exit) ≡ withImages (setCount many) n (edges (now (s .entry)) (now (p .entry)) (now (o .entry)) (l .0) back len) (now (from .entry)) (now (into .entry)) ⌝ }
 {
     let mut next = last_fact(index, l);
     while 0 < next {
         let i = next - 1;
-        join_fact(into, i, back, many, from, subjects, objects);
+        join_fact(into, i, back, many, from, s, o);
         next = next_fact(index, i);
     }
 }
@@ -221,15 +213,15 @@ fn spread(
     many: bool,
     from: &[u64],
     cells: &[u16],
-    subjects: &[u16],
-    predicates: &[u16],
-    objects: &[u16],
+    s: &[u16],
+    p: &[u16],
+    o: &[u16],
     index: &[u16],
-    facts: usize,
-    nodes: usize,
+    len: usize,
+    n: usize,
 )
-    requires { ⌜ FactsOk (now subjects) (now predicates) (now objects) (now index) facts nodes × (wellFormed (now cells) ≡ true) × (e < pathCount (now cells)) ⌝ }
-    ensures { λ _. ⌜ now (into .exit) ≡ withEnds (setCount many) nodes (triplesOf (now (subjects .entry)) (now (predicates .entry)) (now (objects .entry)) facts) (pathAt (now (cells .entry)) e) back (now (from .entry)) (now (into .entry)) ⌝ }
+    requires { ⌜ FactsOk (now s) (now p) (now o) (now index) len n × (wellFormed (now cells) ≡ true) × (e < pathCount (now cells)) ⌝ }
+    ensures { λ _. ⌜ now (into .exit) ≡ withEnds (setCount many) n (triplesOf (now (s .entry)) (now (p .entry)) (now (o .entry)) len) (pathAt (now (cells .entry)) e) back (now (from .entry)) (now (into .entry)) ⌝ }
 {
     let a = path_first(cells, e);
     let b = path_second(cells, e);
@@ -240,99 +232,35 @@ fn spread(
             back,
             many,
             from,
-            subjects,
-            predicates,
-            objects,
+            s,
+            p,
+            o,
             index,
-            facts,
-            nodes,
+            len,
+            n,
         ),
-        codes::PATH_INV => spread(
-            into,
-            a,
-            !back,
-            many,
-            from,
-            cells,
-            subjects,
-            predicates,
-            objects,
-            index,
-            facts,
-            nodes,
-        ),
+        codes::PATH_INV => spread(into, a, !back, many, from, cells, s, p, o, index, len, n),
         codes::PATH_SEQ => {
             let x = pick(back, b, a);
             let y = pick(back, a, b);
             let mut mid = [0u64; MAX_NODES];
-            spread(
-                &mut mid,
-                x,
-                back,
-                many,
-                from,
-                cells,
-                subjects,
-                predicates,
-                objects,
-                index,
-                facts,
-                nodes,
-            );
-            spread(
-                into,
-                y,
-                back,
-                many,
-                &mid,
-                cells,
-                subjects,
-                predicates,
-                objects,
-                index,
-                facts,
-                nodes,
-            );
+            spread(&mut mid, x, back, many, from, cells, s, p, o, index, len, n);
+            spread(into, y, back, many, &mid, cells, s, p, o, index, len, n);
         }
+        // alt
         _ => {
-            spread(
-                into,
-                a,
-                back,
-                many,
-                from,
-                cells,
-                subjects,
-                predicates,
-                objects,
-                index,
-                facts,
-                nodes,
-            );
-            spread(
-                into,
-                b,
-                back,
-                many,
-                from,
-                cells,
-                subjects,
-                predicates,
-                objects,
-                index,
-                facts,
-                nodes,
-            );
+            spread(into, a, back, many, from, cells, s, p, o, index, len, n);
+            spread(into, b, back, many, from, cells, s, p, o, index, len, n);
         }
     }
 }
 
 // Each node joins the sets that it is in already.
-fn join_itself(into: &mut [u64], many: bool, from: &[u64], nodes: usize)
-    requires { ⌜ nodes ≤ maxNodes ⌝ }
-    ensures { λ _. ⌜ now (into .exit) ≡ withImages (setCount many) nodes eqb (now (from .entry)) (now (into .entry)) ⌝ }
+fn join_itself(into: &mut [u64], many: bool, from: &[u64], n: usize)
+    requires { ⌜ n ≤ maxNodes ⌝ }
+    ensures { λ _. ⌜ now (into .exit) ≡ withImages (setCount many) n eqb (now (from .entry)) (now (into .entry)) ⌝ }
 {
-    for x in 0..nodes {
+    for x in 0..n {
         let v = NodeNo(x as u16);
         join(into, v, many, from, v);
     }
@@ -346,45 +274,20 @@ pub fn follow(
     many: bool,
     from: &[u64],
     cells: &[u16],
-    subjects: &[u16],
-    predicates: &[u16],
-    objects: &[u16],
+    s: &[u16],
+    p: &[u16],
+    o: &[u16],
     index: &[u16],
-    facts: usize,
-    nodes: usize,
+    len: usize,
+    n: usize,
 )
-    requires { ⌜ FactsOk (now subjects) (now predicates) (now objects) (now index) facts nodes × (wellFormed (now cells) ≡ true) × (endKnown (now cells) end ≡ true) ⌝ }
-    ensures { λ _. ⌜ now (into .exit) ≡ withImages (setCount many) nodes (converseIf back (endsOf nodes (triplesOf (now (subjects .entry)) (now (predicates .entry)) (now (objects .entry)) facts) (endIn (now (cells .entry)) end))) (now (from .entry)) (now (into .entry)) ⌝ }
+    requires { ⌜ FactsOk (now s) (now p) (now o) (now index) len n × (wellFormed (now cells) ≡ true) × (endKnown (now cells) end ≡ true) ⌝ }
+    ensures { λ _. ⌜ now (into .exit) ≡ withImages (setCount many) n (converseIf back (endsOf n (triplesOf (now (s .entry)) (now (p .entry)) (now (o .entry)) len) (endIn (now (cells .entry)) end))) (now (from .entry)) (now (into .entry)) ⌝ }
 {
     match end {
-        End::Itself => join_itself(into, many, from, nodes),
-        End::Link(l) => join_link(
-            into,
-            l,
-            back,
-            many,
-            from,
-            subjects,
-            predicates,
-            objects,
-            index,
-            facts,
-            nodes,
-        ),
-        End::Path(e) => spread(
-            into,
-            e,
-            back,
-            many,
-            from,
-            cells,
-            subjects,
-            predicates,
-            objects,
-            index,
-            facts,
-            nodes,
-        ),
+        End::Itself => join_itself(into, many, from, n),
+        End::Link(l) => join_link(into, l, back, many, from, s, p, o, index, len, n),
+        End::Path(e) => spread(into, e, back, many, from, cells, s, p, o, index, len, n),
     }
 }
 
@@ -395,30 +298,17 @@ pub fn add_ends(
     back: bool,
     from: &[u64],
     cells: &[u16],
-    subjects: &[u16],
-    predicates: &[u16],
-    objects: &[u16],
+    s: &[u16],
+    p: &[u16],
+    o: &[u16],
     index: &[u16],
-    facts: usize,
-    nodes: usize,
+    len: usize,
+    n: usize,
 )
-    requires { ⌜ FactsOk (now subjects) (now predicates) (now objects) (now index) facts nodes × (wellFormed (now cells) ≡ true) × (endKnown (now cells) end ≡ true) ⌝ }
-    ensures { λ _. ⌜ now (into .exit) ≡ withImage nodes (converseIf back (endsOf nodes (triplesOf (now (subjects .entry)) (now (predicates .entry)) (now (objects .entry)) facts) (endIn (now (cells .entry)) end))) (now (from .entry)) (now (into .entry)) ⌝ }
+    requires { ⌜ FactsOk (now s) (now p) (now o) (now index) len n × (wellFormed (now cells) ≡ true) × (endKnown (now cells) end ≡ true) ⌝ }
+    ensures { λ _. ⌜ now (into .exit) ≡ withImage n (converseIf back (endsOf n (triplesOf (now (s .entry)) (now (p .entry)) (now (o .entry)) len) (endIn (now (cells .entry)) end))) (now (from .entry)) (now (into .entry)) ⌝ }
 {
-    follow(
-        into,
-        end,
-        back,
-        false,
-        from,
-        cells,
-        subjects,
-        predicates,
-        objects,
-        index,
-        facts,
-        nodes,
-    );
+    follow(into, end, back, false, from, cells, s, p, o, index, len, n);
 }
 
 // The same over the facts of the tables.
@@ -433,22 +323,10 @@ pub fn add_table_ends(
     requires { ⌜ Tables (now cells) (now index) × (endKnown (now cells) end ≡ true) ⌝ }
     ensures { λ _. ⌜ now (into .exit) ≡ withImage (nodeCount (now (cells .entry))) (converseIf back (endsOf (nodeCount (now (cells .entry))) (triplesAt (now (cells .entry))) (endIn (now (cells .entry)) end))) (now (from .entry)) (now (into .entry)) ⌝ }
 {
-    let nodes = node_count(cells);
-    let facts = fact_count(cells);
-    let subjects = &cells[SUBJECTS..PREDICATES];
-    let predicates = &cells[PREDICATES..OBJECTS];
-    let objects = &cells[OBJECTS..PATH_CODES];
-    add_ends(
-        into,
-        end,
-        back,
-        from,
-        cells,
-        subjects,
-        predicates,
-        objects,
-        index,
-        facts,
-        nodes,
-    );
+    let n = node_count(cells);
+    let len = fact_count(cells);
+    let s = &cells[SUBJECTS..PREDICATES];
+    let p = &cells[PREDICATES..OBJECTS];
+    let o = &cells[OBJECTS..PATH_CODES];
+    add_ends(into, end, back, from, cells, s, p, o, index, len, n);
 }

@@ -30,6 +30,7 @@ use conditions::subset_holds;
 use conditions::test_fails;
 use conditions::test_holds;
 use entries::between;
+use model::LINK_A;
 use model::LinkNo;
 use model::NodeNo;
 use nodeset::NodeSet;
@@ -370,7 +371,7 @@ pub fn facts_set(target: Target, cells: &[u16], index: &[u16]) -> NodeSet
     match target {
         Target::From(l) => link_set(target, l, cells, index),
         Target::Into(l) => link_set(target, l, cells, index),
-        Target::Typed(_) => link_set(target, LinkNo(0), cells, index),
+        Target::Typed(_) => link_set(target, LinkNo(LINK_A), cells, index),
     }
 }
 

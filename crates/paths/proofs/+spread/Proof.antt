@@ -66,7 +66,7 @@ spread-spread-requires : (t : ℕ) → spread-lts.Need-spread-requires (calls t)
 spread-spread-requires t c κs =
     let a = c .before .before .before .before .before .before .before .before .before .before .before .before .args in
     let pre = c .before .before .before .before .before .before .before .before .before .before .before .before .pre .1 in
-    lower (a .subjects .now) (a .predicates .now) (a .objects .now) (a .index .now) (a .facts) (a .nodes) (a .cells .now) (c .before .before .before .before .before .before .before .before .before .before .before .before .pre .0) pre (omega (arith, c .before .before .before .before .path-first .ensures, inv-below (a .cells .now) (pre .1) (a .e) (pre .2) (sym (c .before .before .path-code .ensures) ∙ c .before .match .keys2)))
+    lower (a .s .now) (a .p .now) (a .o .now) (a .index .now) (a .len) (a .n) (a .cells .now) (c .before .before .before .before .before .before .before .before .before .before .before .before .pre .0) pre (omega (arith, c .before .before .before .before .path-first .ensures, inv-below (a .cells .now) (pre .1) (a .e) (pre .2) (sym (c .before .before .path-code .ensures) ∙ c .before .match .keys2)))
 
 spread-pick-requires : (t : ℕ) → spread-lts.Need-pick-requires (calls t) (spread-at t) spread.Post
 spread-pick-requires t c κs = search needs
@@ -82,7 +82,7 @@ spread-spread-requires-2 t c κs =
     let a = c .before .before .before .before .before .before .before .before .before .before .before .before .before .before .args in
     let pre = c .before .before .before .before .before .before .before .before .before .before .before .before .before .before .pre .1 in
     let h = seq-below (a .cells .now) (pre .1) (a .e) (pre .2) (sym (c .before .before .before .before .path-code .ensures) ∙ c .before .before .before .match .keys3) in
-    lower (a .subjects .now) (a .predicates .now) (a .objects .now) (a .index .now) (a .facts) (a .nodes) (a .cells .now) (c .before .before .before .before .before .before .before .before .before .before .before .before .before .before .pre .0) pre (picked (a .back) (c .before .before .pick .ensures) (omega (arith, c .before .before .before .before .before .before .path-first .ensures, c .before .before .before .before .before .path-second .ensures, h .0, h .1)) (omega (arith, c .before .before .before .before .before .before .path-first .ensures, c .before .before .before .before .before .path-second .ensures, h .0, h .1)))
+    lower (a .s .now) (a .p .now) (a .o .now) (a .index .now) (a .len) (a .n) (a .cells .now) (c .before .before .before .before .before .before .before .before .before .before .before .before .before .before .pre .0) pre (picked (a .back) (c .before .before .pick .ensures) (omega (arith, c .before .before .before .before .before .before .path-first .ensures, c .before .before .before .before .before .path-second .ensures, h .0, h .1)) (omega (arith, c .before .before .before .before .before .before .path-first .ensures, c .before .before .before .before .before .path-second .ensures, h .0, h .1)))
 
 spread-slice-aggregate-spread-2 : (t : ℕ) → spread-lts.Need-slice-aggregate-spread-2 (calls t) (spread-at t) spread.Post
 spread-slice-aggregate-spread-2 t c = search needs
@@ -92,7 +92,7 @@ spread-spread-requires-3 t c κs =
     let a = c .before .before .before .before .before .before .before .before .before .before .before .before .before .before .before .before .before .before .args in
     let pre = c .before .before .before .before .before .before .before .before .before .before .before .before .before .before .before .before .before .before .pre .1 in
     let h = seq-below (a .cells .now) (pre .1) (a .e) (pre .2) (sym (c .before .before .before .before .before .before .before .before .path-code .ensures) ∙ c .before .before .before .before .before .before .before .match .keys3) in
-    lower (a .subjects .now) (a .predicates .now) (a .objects .now) (a .index .now) (a .facts) (a .nodes) (a .cells .now) (c .before .before .before .before .before .before .before .before .before .before .before .before .before .before .before .before .before .before .pre .0) pre (picked (a .back) (c .before .before .before .before .before .pick2 .ensures) (omega (arith, c .before .before .before .before .before .before .before .before .before .before .path-first .ensures, c .before .before .before .before .before .before .before .before .before .path-second .ensures, h .0, h .1)) (omega (arith, c .before .before .before .before .before .before .before .before .before .before .path-first .ensures, c .before .before .before .before .before .before .before .before .before .path-second .ensures, h .0, h .1)))
+    lower (a .s .now) (a .p .now) (a .o .now) (a .index .now) (a .len) (a .n) (a .cells .now) (c .before .before .before .before .before .before .before .before .before .before .before .before .before .before .before .before .before .before .pre .0) pre (picked (a .back) (c .before .before .before .before .before .pick2 .ensures) (omega (arith, c .before .before .before .before .before .before .before .before .before .before .path-first .ensures, c .before .before .before .before .before .before .before .before .before .path-second .ensures, h .0, h .1)) (omega (arith, c .before .before .before .before .before .before .before .before .before .before .path-first .ensures, c .before .before .before .before .before .before .before .before .before .path-second .ensures, h .0, h .1)))
 
 spread-spread-requires-4 : (t : ℕ) → spread-lts.Need-spread-requires-4 (calls t) (spread-at t) spread.Post
 spread-spread-requires-4 t c κs =
@@ -100,7 +100,7 @@ spread-spread-requires-4 t c κs =
     let pre = c .before .before .before .before .before .before .before .before .before .before .before .before .pre .1 in
     let q : 3 ≤ pathCodeAt (a .cells .now) (a .e) = omega (arith, c .before .before .path-code .ensures, c .before .match .rest) in
     let h = alt-below (a .cells .now) (pre .1) (a .e) (pre .2) q in
-    lower (a .subjects .now) (a .predicates .now) (a .objects .now) (a .index .now) (a .facts) (a .nodes) (a .cells .now) (c .before .before .before .before .before .before .before .before .before .before .before .before .pre .0) pre (omega (arith, c .before .before .before .before .path-first .ensures, c .before .before .before .path-second .ensures, h .0, h .1))
+    lower (a .s .now) (a .p .now) (a .o .now) (a .index .now) (a .len) (a .n) (a .cells .now) (c .before .before .before .before .before .before .before .before .before .before .before .before .pre .0) pre (omega (arith, c .before .before .before .before .path-first .ensures, c .before .before .before .path-second .ensures, h .0, h .1))
 
 spread-spread-requires-5 : (t : ℕ) → spread-lts.Need-spread-requires-5 (calls t) (spread-at t) spread.Post
 spread-spread-requires-5 t c κs =
@@ -108,7 +108,7 @@ spread-spread-requires-5 t c κs =
     let pre = c .before .before .before .before .before .before .before .before .before .before .before .before .before .before .before .before .pre .1 in
     let q : 3 ≤ pathCodeAt (a .cells .now) (a .e) = omega (arith, c .before .before .before .before .before .before .path-code .ensures, c .before .before .before .before .before .match .rest) in
     let h = alt-below (a .cells .now) (pre .1) (a .e) (pre .2) q in
-    lower (a .subjects .now) (a .predicates .now) (a .objects .now) (a .index .now) (a .facts) (a .nodes) (a .cells .now) (c .before .before .before .before .before .before .before .before .before .before .before .before .before .before .before .before .pre .0) pre (omega (arith, c .before .before .before .before .before .before .before .before .path-first .ensures, c .before .before .before .before .before .before .before .path-second .ensures, h .0, h .1))
+    lower (a .s .now) (a .p .now) (a .o .now) (a .index .now) (a .len) (a .n) (a .cells .now) (c .before .before .before .before .before .before .before .before .before .before .before .before .before .before .before .before .pre .0) pre (omega (arith, c .before .before .before .before .before .before .before .before .path-first .ensures, c .before .before .before .before .before .before .before .path-second .ensures, h .0, h .1))
 
 spread-same-length : (t : ℕ) → spread-lts.Need-same-length (calls t) (spread-at t) spread.Post
 spread-same-length t c = search needs
@@ -117,8 +117,8 @@ spread-returns : (t : ℕ) → spread-lts.Need-returns (calls t) (spread-at t) s
 spread-returns t c =
     let a = c .before .before .before .before .before .before .before .before .before .before .before .before .before .before .before .before .args in
     let pre = c .before .before .before .before .before .before .before .before .before .before .before .before .before .before .before .before .pre .1 in
-    c .before .before .join-link .ensures ∙ ap (λ (l : ℕ). withImages (setCount (a .many)) (a .nodes) (edges (a .subjects .now) (a .predicates .now) (a .objects .now) l (a .back) (a .facts)) (a .from .now) (a .into .now)) (c .before .before .before .path-link .ensures)
-    ∙ spread-link (a .cells .now) (pre .1) (a .e) (pre .2) (a .many) (a .nodes) (a .back) (a .from .now) (a .into .now) (a .subjects .now) (a .predicates .now) (a .objects .now) (a .facts) (sym (c .before .before .before .before .before .before .path-code .ensures) ∙ c .before .before .before .before .before .match .keys1)
+    c .before .before .join-link .ensures ∙ ap (λ (l : ℕ). withImages (setCount (a .many)) (a .n) (edges (a .s .now) (a .p .now) (a .o .now) l (a .back) (a .len)) (a .from .now) (a .into .now)) (c .before .before .before .path-link .ensures)
+    ∙ spread-link (a .cells .now) (pre .1) (a .e) (pre .2) (a .many) (a .n) (a .back) (a .from .now) (a .into .now) (a .s .now) (a .p .now) (a .o .now) (a .len) (sym (c .before .before .before .before .before .before .path-code .ensures) ∙ c .before .before .before .before .before .match .keys1)
 
 spread-same-length-2 : (t : ℕ) → spread-lts.Need-same-length-2 (calls t) (spread-at t) spread.Post
 spread-same-length-2 t c = search needs
@@ -127,8 +127,8 @@ spread-returns-2 : (t : ℕ) → spread-lts.Need-returns-2 (calls t) (spread-at 
 spread-returns-2 t c =
     let a = c .before .before .before .before .before .before .before .before .before .before .before .before .before .before .before .args in
     let pre = c .before .before .before .before .before .before .before .before .before .before .before .before .before .before .before .pre .1 in
-    let ts = triplesOf (a .subjects .now) (a .predicates .now) (a .objects .now) (a .facts) in
-    c .before .before .spread .ensures ∙ ap (λ (x : ℕ). withEnds (setCount (a .many)) (a .nodes) ts (pathAt (a .cells .now) x) (not (a .back)) (a .from .now) (a .into .now)) (c .before .before .before .before .before .before .before .path-first .ensures) ∙ spread-inv (a .cells .now) (pre .1) (a .e) (pre .2) (a .many) (a .nodes) (a .back) (a .from .now) (a .into .now) ts (sym (c .before .before .before .before .before .path-code .ensures) ∙ c .before .before .before .before .match .keys2)
+    let ts = triplesOf (a .s .now) (a .p .now) (a .o .now) (a .len) in
+    c .before .before .spread .ensures ∙ ap (λ (x : ℕ). withEnds (setCount (a .many)) (a .n) ts (pathAt (a .cells .now) x) (not (a .back)) (a .from .now) (a .into .now)) (c .before .before .before .before .before .before .before .path-first .ensures) ∙ spread-inv (a .cells .now) (pre .1) (a .e) (pre .2) (a .many) (a .n) (a .back) (a .from .now) (a .into .now) ts (sym (c .before .before .before .before .before .path-code .ensures) ∙ c .before .before .before .before .match .keys2)
 
 spread-same-length-3 : (t : ℕ) → spread-lts.Need-same-length-3 (calls t) (spread-at t) spread.Post
 spread-same-length-3 t c = search needs
@@ -137,9 +137,9 @@ spread-returns-3 : (t : ℕ) → spread-lts.Need-returns-3 (calls t) (spread-at 
 spread-returns-3 t c =
     let a = c .before .before .before .before .before .before .before .before .before .before .before .before .before .before .before .before .before .before .before .before .before .args in
     let pre = c .before .before .before .before .before .before .before .before .before .before .before .before .before .before .before .before .before .before .before .before .before .pre .1 in
-    let ts = triplesOf (a .subjects .now) (a .predicates .now) (a .objects .now) (a .facts) in
-    c .before .before .spread3 .ensures ∙ ap (λ (m : List ℕ). withEnds (setCount (a .many)) (a .nodes) ts (pathAt (a .cells .now) (c .before .before .before .before .before .before .before .before .pick2 .result)) (a .back) m (a .into .now)) (c .before .before .before .before .before .before .spread2 .ensures)
-    ∙ spread-seq (a .cells .now) (pre .1) (a .e) (pre .2) (a .many) (a .nodes) (a .back) (a .from .now) (a .into .now) ts (pre .0 .nodes) (sym (c .before .before .before .before .before .before .before .before .before .before .before .path-code .ensures) ∙ c .before .before .before .before .before .before .before .before .before .before .match .keys3) (c .before .before .before .before .before .before .before .before .before .pick .result) (c .before .before .before .before .before .before .before .before .pick2 .result)
+    let ts = triplesOf (a .s .now) (a .p .now) (a .o .now) (a .len) in
+    c .before .before .spread3 .ensures ∙ ap (λ (m : List ℕ). withEnds (setCount (a .many)) (a .n) ts (pathAt (a .cells .now) (c .before .before .before .before .before .before .before .before .pick2 .result)) (a .back) m (a .into .now)) (c .before .before .before .before .before .before .spread2 .ensures)
+    ∙ spread-seq (a .cells .now) (pre .1) (a .e) (pre .2) (a .many) (a .n) (a .back) (a .from .now) (a .into .now) ts (pre .0 .nodes) (sym (c .before .before .before .before .before .before .before .before .before .before .before .path-code .ensures) ∙ c .before .before .before .before .before .before .before .before .before .before .match .keys3) (c .before .before .before .before .before .before .before .before .before .pick .result) (c .before .before .before .before .before .before .before .before .pick2 .result)
     (c .before .before .before .before .before .before .before .before .before .pick .ensures ∙ ap₂ (cond (a .back)) (c .before .before .before .before .before .before .before .before .before .before .before .before .path-second .ensures) (c .before .before .before .before .before .before .before .before .before .before .before .before .before .path-first .ensures)) (c .before .before .before .before .before .before .before .before .pick2 .ensures ∙ ap₂ (cond (a .back)) (c .before .before .before .before .before .before .before .before .before .before .before .before .before .path-first .ensures) (c .before .before .before .before .before .before .before .before .before .before .before .before .path-second .ensures))
 
 spread-same-length-4 : (t : ℕ) → spread-lts.Need-same-length-4 (calls t) (spread-at t) spread.Post
@@ -149,11 +149,11 @@ spread-returns-4 : (t : ℕ) → spread-lts.Need-returns-4 (calls t) (spread-at 
 spread-returns-4 t c =
     let a = c .before .before .before .before .before .before .before .before .before .before .before .before .before .before .before .before .before .before .before .args in
     let pre = c .before .before .before .before .before .before .before .before .before .before .before .before .before .before .before .before .before .before .before .pre .1 in
-    let ts = triplesOf (a .subjects .now) (a .predicates .now) (a .objects .now) (a .facts) in
+    let ts = triplesOf (a .s .now) (a .p .now) (a .o .now) (a .len) in
     let q : 3 ≤ pathCodeAt (a .cells .now) (a .e) = omega (arith, c .before .before .before .before .before .before .before .before .before .path-code .ensures, c .before .before .before .before .before .before .before .before .match .rest) in
     c .before .before .spread5 .ensures
-    ∙ ap₂ (λ (x : ℕ) (m : List ℕ). withEnds (setCount (a .many)) (a .nodes) ts (pathAt (a .cells .now) x) (a .back) (a .from .now) m) (c .before .before .before .before .before .before .before .before .before .before .path-second .ensures) (c .before .before .before .before .before .before .spread4 .ensures ∙ ap (λ (x : ℕ). withEnds (setCount (a .many)) (a .nodes) ts (pathAt (a .cells .now) x) (a .back) (a .from .now) (a .into .now)) (c .before .before .before .before .before .before .before .before .before .before .before .path-first .ensures))
-    ∙ spread-alt (a .cells .now) (pre .1) (a .e) (pre .2) (a .many) (a .nodes) (a .back) (a .from .now) (a .into .now) ts q
+    ∙ ap₂ (λ (x : ℕ) (m : List ℕ). withEnds (setCount (a .many)) (a .n) ts (pathAt (a .cells .now) x) (a .back) (a .from .now) m) (c .before .before .before .before .before .before .before .before .before .before .path-second .ensures) (c .before .before .before .before .before .before .spread4 .ensures ∙ ap (λ (x : ℕ). withEnds (setCount (a .many)) (a .n) ts (pathAt (a .cells .now) x) (a .back) (a .from .now) (a .into .now)) (c .before .before .before .before .before .before .before .before .before .before .before .path-first .ensures))
+    ∙ spread-alt (a .cells .now) (pre .1) (a .e) (pre .2) (a .many) (a .n) (a .back) (a .from .now) (a .into .now) ts q
 
 pub +spread-spec : {M : Type 1} → statement M
 +spread-spec = close μ-spread λ t. spread-lts.spec (calls t)

@@ -18,7 +18,7 @@ same-length c = search needs
 returns : tie.Need-returns
 returns c =
     let a = c .before .before .before .before .before .before .before .before .before .before .before .args in
-    c .before .before .follow .ensures ∙ one-set (a .nodes) (converseIf (a .back) (endsOf (a .nodes) (triplesOf (a .subjects .now) (a .predicates .now) (a .objects .now) (a .facts)) (endIn (a .cells .now) (a .end)))) (a .from .now) (a .into .now)
+    c .before .before .follow .ensures ∙ one-set (a .n) (converseIf (a .back) (endsOf (a .n) (triplesOf (a .s .now) (a .p .now) (a .o .now) (a .len)) (endIn (a .cells .now) (a .end)))) (a .from .now) (a .into .now)
 
 pub add-ends-spec : {M : Type 1} → statement M
 add-ends-spec = tie.close (tie.spec follow-requires same-length returns)

@@ -34,7 +34,7 @@ same-length c = search needs
 returns : tie.Need-returns
 returns c =
     let a = c .before .before .before .before .before .before .before .before .before .before .before .before .before .args in
-    c .before .before .join-itself .ensures ∙ end-itself (setCount (a .many)) (a .nodes) (a .cells .now) (a .back) (a .from .now) (a .into .now) (triplesOf (a .subjects .now) (a .predicates .now) (a .objects .now) (a .facts)) (c .before .before .before .before .enum-told .given .1)
+    c .before .before .join-itself .ensures ∙ end-itself (setCount (a .many)) (a .n) (a .cells .now) (a .back) (a .from .now) (a .into .now) (triplesOf (a .s .now) (a .p .now) (a .o .now) (a .len)) (c .before .before .before .before .enum-told .given .1)
 
 same-length-2 : tie.Need-same-length-2
 same-length-2 c = search needs
@@ -42,7 +42,7 @@ same-length-2 c = search needs
 returns-2 : tie.Need-returns-2
 returns-2 c =
     let a = c .before .before .before .before .before .before .before .before .before .before .before .before .before .before .args in
-    c .before .before .join-link .ensures ∙ end-link (setCount (a .many)) (a .nodes) (a .cells .now) (a .back) (a .from .now) (a .into .now) (a .subjects .now) (a .predicates .now) (a .objects .now) (a .facts) (c .before .before .before .before .before .end .given .1)
+    c .before .before .join-link .ensures ∙ end-link (setCount (a .many)) (a .n) (a .cells .now) (a .back) (a .from .now) (a .into .now) (a .s .now) (a .p .now) (a .o .now) (a .len) (c .before .before .before .before .before .end .given .1)
 
 same-length-3 : tie.Need-same-length-3
 same-length-3 c = search needs
@@ -50,7 +50,7 @@ same-length-3 c = search needs
 returns-3 : tie.Need-returns-3
 returns-3 c =
     let a = c .before .before .before .before .before .before .before .before .before .before .before .before .before .before .args in
-    c .before .before .spread .ensures ∙ end-path (setCount (a .many)) (a .nodes) (a .cells .now) (a .back) (a .from .now) (a .into .now) (triplesOf (a .subjects .now) (a .predicates .now) (a .objects .now) (a .facts)) (c .before .before .before .before .before .end2 .given .1)
+    c .before .before .spread .ensures ∙ end-path (setCount (a .many)) (a .n) (a .cells .now) (a .back) (a .from .now) (a .into .now) (triplesOf (a .s .now) (a .p .now) (a .o .now) (a .len)) (c .before .before .before .before .before .end2 .given .1)
 
 pub follow-spec : {M : Type 1} → statement M
 follow-spec =

@@ -39,8 +39,8 @@ link-requires c κs =
     let a = c .before .before .before .before .before .before .before .args in
     let pre = c .before .before .before .before .before .before .before .pre in
     let t = c .before .before .before .before .loop in
-    let h : getD (a .keys .now) (t .i) 0 < a .slots = ltb-true (getD (a .keys .now) (t .i) 0) (a .slots) (every-at (λ i. ltb (getD (a .keys .now) i 0) (a .slots)) (a .facts) (pre .4) (t .i) (c .before .before .before .loop-test .taken)) in
-    let l : t .i < a .facts = c .before .before .before .loop-test .taken in
+    let h : getD (a .keys .now) (t .i) 0 < a .slots = ltb-true (getD (a .keys .now) (t .i) 0) (a .slots) (every-at (λ i. ltb (getD (a .keys .now) i 0) (a .slots)) (a .len) (pre .4) (t .i) (c .before .before .before .loop-test .taken)) in
+    let l : t .i < a .len = c .before .before .before .loop-test .taken in
     (omega (arith, t .inv .1, h, c .wide .ensures, pre .0), omega (arith, t .inv .1, l, pre .0), omega (arith, l, pre .2))
 
 add-i : tie.Need-add-i Inv-loop μ-loop
@@ -54,15 +54,15 @@ loop-again c =
     let a = c .before .before .before .before .before .before .before .before .before .before .args in
     let pre = c .before .before .before .before .before .before .before .before .before .before .pre in
     let t = c .before .before .before .before .before .before .before .loop in
-    let h : getD (a .keys .now) (t .i) 0 < a .slots = ltb-true (getD (a .keys .now) (t .i) 0) (a .slots) (every-at (λ i. ltb (getD (a .keys .now) i 0) (a .slots)) (a .facts) (pre .4) (t .i) (c .before .before .before .before .before .before .loop-test .taken)) in
-    let l : t .i < a .facts = c .before .before .before .before .before .before .loop-test .taken in
+    let h : getD (a .keys .now) (t .i) 0 < a .slots = ltb-true (getD (a .keys .now) (t .i) 0) (a .slots) (every-at (λ i. ltb (getD (a .keys .now) i 0) (a .slots)) (a .len) (pre .4) (t .i) (c .before .before .before .before .before .before .loop-test .taken)) in
+    let l : t .i < a .len = c .before .before .before .before .before .before .loop-test .taken in
     (omega arith, c .before .before .link .kept .0 ∙ t .inv .1, subst (Made (a .keys .now) (t .i + 1) (a .slots) (a .heads) (a .heads + a .slots) (a .index .now)) (sym (c .before .before .link .ensures ∙ ap (λ (k : ℕ). linked (t .index) (a .heads) (a .heads + a .slots) k (t .i)) (c .before .before .before .wide .ensures))) (made-more (a .keys .now) (a .slots) (a .heads) (t .i) h (omega (arith, t .inv .1, l, pre .0)) (t .inv .2)))
 
 same-length : tie.Need-same-length Inv-loop μ-loop
 same-length c = c .before .loop .inv .1
 
 returns : tie.Need-returns Inv-loop μ-loop
-returns c = let a = c .before .before .before .before .args in let e : c .before .loop .i ≡ a .facts = omega (arith, c .before .loop .inv .0, c .loop-test .left) in subst (λ (k : ℕ). Made (a .keys .now) k (a .slots) (a .heads) (a .heads + a .slots) (a .index .now) (c .before .loop .index)) e (c .before .loop .inv .2)
+returns c = let a = c .before .before .before .before .args in let e : c .before .loop .i ≡ a .len = omega (arith, c .before .loop .inv .0, c .loop-test .left) in subst (λ (k : ℕ). Made (a .keys .now) k (a .slots) (a .heads) (a .heads + a .slots) (a .index .now) (c .before .loop .index)) e (c .before .loop .inv .2)
 
 pub index-facts-spec : {M : Type 1} → statement M
 index-facts-spec =

@@ -16,7 +16,7 @@ abbrev μ-loop : tie.MeasureT-loop
 μ-loop into₀ many from n x₀ into x = n - x
 
 loop-holds : tie.Need-loop-holds Inv-loop μ-loop
-loop-holds c = let a = c .before .before .args in (search needs, refl, itself-none (setCount (a .many)) (a .nodes) (a .from .now) (a .into .now) (λ i. c .before .slice-known .given i .fits))
+loop-holds c = let a = c .before .before .args in (search needs, refl, itself-none (setCount (a .many)) (a .n) (a .from .now) (a .into .now) (λ i. c .before .slice-known .given i .fits))
 
 cast-t8 : tie.Need-cast-t8 Inv-loop μ-loop
 cast-t8 c = search needs
@@ -34,13 +34,13 @@ loop-again : tie.Need-loop-again Inv-loop μ-loop
 loop-again c =
     let a = c .before .before .before .before .before .before .before .before .args in
     let t = c .before .before .before .before .before .loop in
-    (search needs, c .before .before .join .kept .0 ∙ t .inv .1, c .before .before .join .ensures ∙ itself-more (setCount (a .many)) (a .nodes) (a .from .now) (a .into .now) (t .x) (search needs) (t .inv .2))
+    (search needs, c .before .before .join .kept .0 ∙ t .inv .1, c .before .before .join .ensures ∙ itself-more (setCount (a .many)) (a .n) (a .from .now) (a .into .now) (t .x) (search needs) (t .inv .2))
 
 same-length : tie.Need-same-length Inv-loop μ-loop
 same-length c = search needs
 
 returns : tie.Need-returns Inv-loop μ-loop
-returns c = let a = c .before .before .before .before .args in itself-all (setCount (a .many)) (a .nodes) (a .from .now) (a .into .now) (c .before .loop .x) (omega arith) (c .before .loop .inv .2)
+returns c = let a = c .before .before .before .before .args in itself-all (setCount (a .many)) (a .n) (a .from .now) (a .into .now) (c .before .loop .x) (omega arith) (c .before .loop .inv .2)
 
 pub join-itself-spec : {M : Type 1} → statement M
 join-itself-spec =

@@ -27,12 +27,12 @@ last-fact-requires c κs = search needs
 loop-holds : tie.Need-loop-holds Inv-loop μ-loop
 loop-holds c =
     let a = c .before .before .before .before .before .before .before .args in
-    let key : ℕ → ℕ = λ i. getD (a .predicates .now) i 0 in
-    let e = chain-begins (a .subjects .now) (a .predicates .now) (a .objects .now) (a .index .now) (a .facts) (a .nodes) (c .before .before .before .before .before .before .before .pre) (a .l .0) (c .last-fact .ensures) in (
-      subst (λ (k : ℕ). k ≤ a .facts) (sym e) (last-le key (a .l .0) (a .facts)),
+    let key : ℕ → ℕ = λ i. getD (a .p .now) i 0 in
+    let e = chain-begins (a .s .now) (a .p .now) (a .o .now) (a .index .now) (a .len) (a .n) (c .before .before .before .before .before .before .before .pre) (a .l .0) (c .last-fact .ensures) in (
+      subst (λ (k : ℕ). k ≤ a .len) (sym e) (last-le key (a .l .0) (a .len)),
       refl,
       λ i. c .before .before .before .before .before .before .slice-known .given i .fits,
-      λ l q. (λ i f. last-key key l (a .facts) i (sym q ∙ f), chain-rest (a .subjects .now) (a .predicates .now) (a .objects .now) (a .index .now) (a .facts) (a .nodes) (c .before .before .before .before .before .before .before .pre) (setCount (a .many)) l (a .back) (a .from .now) (a .into .now) (a .facts) q),
+      λ l q. (λ i f. last-key key l (a .len) i (sym q ∙ f), chain-rest (a .s .now) (a .p .now) (a .o .now) (a .index .now) (a .len) (a .n) (c .before .before .before .before .before .before .before .pre) (setCount (a .many)) l (a .back) (a .from .now) (a .into .now) (a .len) q),
     )
 
 sub-i : tie.Need-sub-i Inv-loop μ-loop
@@ -51,8 +51,8 @@ loop-less c =
     let a = c .before .before .before .before .before .before .before .before .before .before .before .before .before .before .args in
     let t = c .before .before .before .before .before .before .loop in
     let i : ℕ = t .next - 1 in
-    let l : i < a .facts = omega (arith, t .inv .0, c .before .before .before .before .before .loop-test .taken) in
-    let h : c .next-fact .result ≤ i = walk-falls (λ k. getD (a .predicates .now) k 0) (a .facts) maxLinks 0 maxLinks (c .before .before .before .before .before .before .before .before .before .before .before .before .before .before .pre .indexed) i l (c .next-fact .ensures) in
+    let l : i < a .len = omega (arith, t .inv .0, c .before .before .before .before .before .loop-test .taken) in
+    let h : c .next-fact .result ≤ i = walk-falls (λ k. getD (a .p .now) k 0) (a .len) maxLinks 0 maxLinks (c .before .before .before .before .before .before .before .before .before .before .before .before .before .before .pre .indexed) i l (c .next-fact .ensures) in
     omega (arith, h, c .before .before .before .before .before .loop-test .taken)
 
 loop-again : tie.Need-loop-again Inv-loop μ-loop
@@ -60,18 +60,18 @@ loop-again c =
     let a = c .before .before .before .before .before .before .before .before .before .before .before .before .before .before .args in
     let t = c .before .before .before .before .before .before .loop in
     let i : ℕ = t .next - 1 in
-    let l : i < a .facts = omega (arith, t .inv .0, c .before .before .before .before .before .loop-test .taken) in
+    let l : i < a .len = omega (arith, t .inv .0, c .before .before .before .before .before .loop-test .taken) in
     let q : t .next ≡ suc i = omega (arith, c .before .before .before .before .before .loop-test .taken) in
     let step = c .next-fact .ensures in
-    let h : c .next-fact .result ≤ i = walk-falls (λ k. getD (a .predicates .now) k 0) (a .facts) maxLinks 0 maxLinks (c .before .before .before .before .before .before .before .before .before .before .before .before .before .before .pre .indexed) i l step in (
+    let h : c .next-fact .result ≤ i = walk-falls (λ k. getD (a .p .now) k 0) (a .len) maxLinks 0 maxLinks (c .before .before .before .before .before .before .before .before .before .before .before .before .before .before .pre .indexed) i l step in (
       omega (arith, h, l),
       c .before .before .before .join-fact .kept .0 ∙ t .inv .1,
-      joined-small (setCount (a .many)) (cond (a .back) (getD (a .objects .now) i 0) (getD (a .subjects .now) i 0)) (cond (a .back) (getD (a .subjects .now) i 0) (getD (a .objects .now) i 0)) (a .from .now) (t .into) (c .before .before .before .join-fact .ensures),
+      joined-small (setCount (a .many)) (cond (a .back) (getD (a .o .now) i 0) (getD (a .s .now) i 0)) (cond (a .back) (getD (a .s .now) i 0) (getD (a .o .now) i 0)) (a .from .now) (t .into) (c .before .before .before .join-fact .ensures),
       λ p e.
           let own = t .inv .3 p e in
           let k = own .0 i q in
-          let after = walk-next (λ k. getD (a .predicates .now) k 0) (a .facts) maxLinks 0 maxLinks (c .before .before .before .before .before .before .before .before .before .before .before .before .before .before .pre .indexed) p i l k step in
-          (λ j f. last-key (λ i. getD (a .predicates .now) i 0) p i j (sym after ∙ f), chain-more (a .subjects .now) (a .predicates .now) (a .objects .now) (a .index .now) (a .facts) (a .nodes) (c .before .before .before .before .before .before .before .before .before .before .before .before .before .before .pre) (setCount (a .many)) p (a .back) (a .from .now) (t .into) i l k (c .before .before .before .join-fact .ensures) after ∙ ap (λ (k : ℕ). withImages (setCount (a .many)) (a .nodes) (edges (a .subjects .now) (a .predicates .now) (a .objects .now) p (a .back) k) (a .from .now) (t .into)) (sym q) ∙ own .1),
+          let after = walk-next (λ k. getD (a .p .now) k 0) (a .len) maxLinks 0 maxLinks (c .before .before .before .before .before .before .before .before .before .before .before .before .before .before .pre .indexed) p i l k step in
+          (λ j f. last-key (λ i. getD (a .p .now) i 0) p i j (sym after ∙ f), chain-more (a .s .now) (a .p .now) (a .o .now) (a .index .now) (a .len) (a .n) (c .before .before .before .before .before .before .before .before .before .before .before .before .before .before .pre) (setCount (a .many)) p (a .back) (a .from .now) (t .into) i l k (c .before .before .before .join-fact .ensures) after ∙ ap (λ (k : ℕ). withImages (setCount (a .many)) (a .n) (edges (a .s .now) (a .p .now) (a .o .now) p (a .back) k) (a .from .now) (t .into)) (sym q) ∙ own .1),
     )
 
 same-length : tie.Need-same-length Inv-loop μ-loop
@@ -82,9 +82,9 @@ returns c =
     let a = c .before .before .before .before .before .before .before .before .before .args in
     let t = c .before .loop in
     let z : 0 ≡ t .next = omega (arith, c .loop-test .left) in
-    chain-ends (a .subjects .now) (a .predicates .now) (a .objects .now) (a .index .now) (a .facts) (a .nodes) (c .before .before .before .before .before .before .before .before .before .pre) (setCount (a .many)) (a .l .0) (a .back) (a .from .now) (t .into) (t .inv .2)
-    ∙ ap (λ (k : ℕ). withImages (setCount (a .many)) (a .nodes) (edges (a .subjects .now) (a .predicates .now) (a .objects .now) (a .l .0) (a .back) k) (a .from .now) (t .into)) z
-    ∙ t .inv .3 (a .l .0) (chain-begins (a .subjects .now) (a .predicates .now) (a .objects .now) (a .index .now) (a .facts) (a .nodes) (c .before .before .before .before .before .before .before .before .before .pre) (a .l .0) (c .before .before .last-fact .ensures)) .1
+    chain-ends (a .s .now) (a .p .now) (a .o .now) (a .index .now) (a .len) (a .n) (c .before .before .before .before .before .before .before .before .before .pre) (setCount (a .many)) (a .l .0) (a .back) (a .from .now) (t .into) (t .inv .2)
+    ∙ ap (λ (k : ℕ). withImages (setCount (a .many)) (a .n) (edges (a .s .now) (a .p .now) (a .o .now) (a .l .0) (a .back) k) (a .from .now) (t .into)) z
+    ∙ t .inv .3 (a .l .0) (chain-begins (a .s .now) (a .p .now) (a .o .now) (a .index .now) (a .len) (a .n) (c .before .before .before .before .before .before .before .before .before .pre) (a .l .0) (c .before .before .last-fact .ensures)) .1
 
 pub join-link-spec : {M : Type 1} → statement M
 join-link-spec =

@@ -41,8 +41,8 @@ returns c =
     let a = c .before .before .before .before .before .before .before .before .before .before .before .before .before .before .before .before .before .before .args in
     let ok = c .before .before .before .before .before .before .before .before .before .before .before .before .before .before .before .before .before .before .pre .0 in
     c .before .before .store-column .ensures
-    ∙ ap (λ (m : List ℕ). withColumn (a .rows .now) (a .j) m (a .nodes))
-    (column-of (a .nodes) (endsOf (a .nodes) (triplesOf (a .subjects .now) (a .predicates .now) (a .objects .now) (a .facts)) (endIn (a .cells .now) (a .end))) (a .j) (ok .nodes) (starts-node (a .subjects .now) (a .predicates .now) (a .objects .now) (a .index .now) (a .facts) (a .nodes) ok (endIn (a .cells .now) (a .end))) (c .before .before .before .before .before .before .before .before .before .before .identity .ensures) (c .before .before .before .before .before .before .follow .ensures))
+    ∙ ap (λ (m : List ℕ). withColumn (a .rows .now) (a .j) m (a .n))
+    (column-of (a .n) (endsOf (a .n) (triplesOf (a .s .now) (a .p .now) (a .o .now) (a .len)) (endIn (a .cells .now) (a .end))) (a .j) (ok .nodes) (starts-node (a .s .now) (a .p .now) (a .o .now) (a .index .now) (a .len) (a .n) ok (endIn (a .cells .now) (a .end))) (c .before .before .before .before .before .before .before .before .before .before .identity .ensures) (c .before .before .before .before .before .before .follow .ensures))
 
 pub pass-spec : {M : Type 1} → statement M
 pass-spec =

@@ -17,7 +17,7 @@ abbrev μ-loop : tie.MeasureT-loop
 μ-loop rows₀ j m n v₀ rows v = n - v
 
 loop-holds : tie.Need-loop-holds Inv-loop μ-loop
-loop-holds c = let a = c .before .before .args in (search needs, refl, stored-none (a .rows .now) (a .j) (a .column .now) (λ i. c .before .slice-known .given i .fits))
+loop-holds c = let a = c .before .before .args in (search needs, refl, stored-none (a .rows .now) (a .j) (a .m .now) (λ i. c .before .slice-known .given i .fits))
 
 mul-put-word : tie.Need-mul-put-word Inv-loop μ-loop
 mul-put-word c = search needs
@@ -41,13 +41,13 @@ loop-again : tie.Need-loop-again Inv-loop μ-loop
 loop-again c =
     let a = c .before .before .before .before .before .before .before .before .before .args in
     let t = c .before .before .before .before .before .before .loop in
-    (search needs, c .before .before .put-word .kept .0 ∙ t .inv .1, c .before .before .put-word .ensures ∙ ap (set (t .rows) (16 * t .v + a .j)) (c .before .before .before .word .ensures) ∙ stored-more (a .rows .now) (a .j) (a .column .now) (t .v) (c .before .before .before .before .before .before .before .before .before .pre .0) (c .before .before .before .before .before .before .before .shared-slice-known .given (t .v) .fits) (t .inv .2))
+    (search needs, c .before .before .put-word .kept .0 ∙ t .inv .1, c .before .before .put-word .ensures ∙ ap (set (t .rows) (16 * t .v + a .j)) (c .before .before .before .word .ensures) ∙ stored-more (a .rows .now) (a .j) (a .m .now) (t .v) (c .before .before .before .before .before .before .before .before .before .pre .0) (c .before .before .before .before .before .before .before .shared-slice-known .given (t .v) .fits) (t .inv .2))
 
 same-length : tie.Need-same-length Inv-loop μ-loop
 same-length c = search needs
 
 returns : tie.Need-returns Inv-loop μ-loop
-returns c = let a = c .before .before .before .before .args in stored-all (a .rows .now) (a .j) (a .column .now) (c .before .loop .v) (a .nodes) (omega arith) (c .before .loop .inv .2)
+returns c = let a = c .before .before .before .before .args in stored-all (a .rows .now) (a .j) (a .m .now) (c .before .loop .v) (a .n) (omega arith) (c .before .loop .inv .2)
 
 pub store-column-spec : {M : Type 1} → statement M
 store-column-spec =
