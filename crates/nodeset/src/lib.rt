@@ -12,12 +12,12 @@
 //   load, store           the first sixteen words as a node set, and a node set over the first sixteen words
 //
 // Operations on a node set, sixteen words by value:
-//   NodeSet::EMPTY, empty the empty set
+//   NodeSet::EMPTY        the empty set
 //   NodeSet::whole        the numbers below n
 //   test, with            n is in the set; the set with n
 //   union, intersection, difference, count
 ghost use mathlib.Core.Path.{_≡_};
-ghost use mathlib.Core.Bool.{false, not, _&&_};
+ghost use mathlib.Core.Bool.{not, _&&_};
 ghost use Prim.Native.Nat.{ℕ, _+_, _*_, _≤_, _<_};
 ghost use lib.ListN.{getD, set};
 ghost use lib.Dec.{ltb};
@@ -201,13 +201,6 @@ pub struct NodeSet {
     pub words: [u64; 16],
 }
 
-// The empty set.
-pub fn empty() -> NodeSet
-    ensures { λ r. ⌜ r .words ≡ wordsOf (λ m. false) 16 ⌝ }
-{
-    NodeSet::EMPTY
-}
-
 // The first sixteen words.
 pub fn load(words: &[u64]) -> NodeSet
     ensures { λ r. ⌜ r .words ≡ wordsOf (has (now (words .entry))) 16 ⌝ }
@@ -241,6 +234,7 @@ fn word_below(n: usize, i: usize) -> u64
 }
 
 impl NodeSet {
+    // The empty set.
     pub const EMPTY: NodeSet = NodeSet { words: [0; 16] };
 
     // The numbers below n, up to 1,024.
