@@ -1,6 +1,6 @@
 -- Searches: the first number that has a property, the first pair of numbers, and what the answers of the code say was found.
 use Prim.Native.Nat.{ℕ, zero, suc, _≤_, _<_}
-use mathlib.Core.Bool.{Bool, true, false, not, cond, _&&_, _||_}
+use mathlib.Core.Bool.{Bool, true, false, cond, _&&_}
 use mathlib.Core.List.{List}
 use mathlib.Core.Option.{Option, Option·map, orElse}
 use mathlib.Core.Path.{_≡_}

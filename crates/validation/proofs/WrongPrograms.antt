@@ -1,12 +1,12 @@
 -- Document 01's wrong programs of demand 3: each with the claim is absurd. A program that answers 8 always; one whose runner
 -- touches no work space; one whose compiler has None for every rule but the first.
-use Prim.Native.Nat.{ℕ, zero, suc, _+_, _*_, _/_, _%_, _<_}
+use Prim.Native.Nat.{ℕ, _+_, _*_, _/_, _%_, _<_}
 use mathlib.Core.Path.{_≡_, refl, sym, ap, subst, _∙_}
 use mathlib.Core.List.{List, [], _∷_, _++_}
 use mathlib.Core.Bool.{Bool, true, false, _&&_, and-false}
 use native.Mathlib.Omega.{arith}
 use lib.Dec.{ltb}
-use lib.ListN.{length, drop, getD, replicate}
+use lib.ListN.{length, drop, replicate}
 use Rattle.base.proofs.Lists.{zeros-at}
 use Rattle.base.specs.Range.{inRange}
 use Rattle.base.specs.Bytes.{eql}

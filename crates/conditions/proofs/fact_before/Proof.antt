@@ -1,8 +1,7 @@
 -- `fact_before` meets its contract.
-use Prim.Native.Nat.{ℕ, suc, _-_}
+use Prim.Native.Nat.{suc, _-_}
 use mathlib.Core.Path.{_≡_, sym, ap}
 use native.Mathlib.Omega.{arith}
-use borrow.Author.Needs.{needs}
 use Rattle.conditions.specs.Searches.{before}
 use Rattle.conditions.proofs.fact_before.Statement.{statement}
 use Rattle.conditions.proofs.fact_before.Tie as tie

@@ -10,7 +10,7 @@ use lib.Seq.{take-all}
 use borrow.Author.Tests.{ltb-true}
 use Rattle.base.proofs.Lists.{allb-at}
 use Rattle.model.specs.Limits.{maxNodes}
-use Rattle.report.specs.Report.{breakLine, breakLines}
+use Rattle.report.specs.Report.{breakLines}
 use Rattle.report.specs.Pages.{nameIn, Put, breakBytes}
 use Rattle.report.proofs.Writing.{put-none, put-then, put-as, put-length}
 use Rattle.report.proofs.Parts.{lines-none, lines-more}
