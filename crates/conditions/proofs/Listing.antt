@@ -15,7 +15,7 @@ use Rattle.base.proofs.Bools.{bool-cases, never-both, and-left, and-right, and-
 use Rattle.base.proofs.Bounded.{every-at, every-all, every-more}
 use Rattle.nodeset.specs.Members.{nextFrom}
 use Rattle.nodeset.proofs.Members.{Next, next-found}
-use Rattle.conditions.specs.Searches.{firstPair, among, Listed}
+use Rattle.conditions.specs.Searches.{firstPair, among, MembersListed}
 use Rattle.conditions.proofs.Members.{Passed}
 use Rattle.conditions.proofs.Searches.{FirstPair, pair-none, pair-at, search-pair}
 
@@ -77,7 +77,7 @@ module _ (p : ℕ → Bool) (n : ℕ) where
           all = λ z k h. bool-cases (λ b. ltb z (x + 1) ≡ b → (j : ℕ) × (j < count + 1) × (getD (set xs count x) j 0 ≡ z)) (ltb z (x + 1)) (λ _ q. new-all z (ltb-true z (x + 1) q) h) (λ _ q. absurd (never-both h (f .none z (ltb-false z (x + 1) q) k))) refl;
         })
 
-  pub gathering-done : {xs : List ℕ} {count x : ℕ} → Gathering p n xs count x → n ≤ x → Listed p n xs count
+  pub gathering-done : {xs : List ℕ} {count x : ℕ} → Gathering p n xs count x → n ≤ x → MembersListed p n xs count
   gathering-done {xs} {count} {x} g l = record {
     few = omega (arith, g .few, g .within);
     inside = λ j k. let t = g .inside j k in (omega (arith, t .0, g .within), t .1);
@@ -86,7 +86,7 @@ module _ (p : ℕ → Bool) (n : ℕ) where
   }
 
 -- a set taken twice
-pub listed-once : {p : ℕ → Bool} {n : ℕ} {xs : List ℕ} {count : ℕ} → Listed (λ m. p m && p m) n xs count → Listed p n xs count
+pub listed-once : {p : ℕ → Bool} {n : ℕ} {xs : List ℕ} {count : ℕ} → MembersListed (λ m. p m && p m) n xs count → MembersListed p n xs count
 listed-once {p} {n} {xs} s = record {
   few = s .few;
   inside = λ j l. let t = s .inside j l in (t .0, and-left (p (getD xs j 0)) (p (getD xs j 0)) (t .1));
@@ -95,7 +95,7 @@ listed-once {p} {n} {xs} s = record {
 }
 
 -- ---- members before one of the list
-module _ {p : ℕ → Bool} {n : ℕ} {xs : List ℕ} {count : ℕ} (s : Listed p n xs count) where
+module _ {p : ℕ → Bool} {n : ℕ} {xs : List ℕ} {count : ℕ} (s : MembersListed p n xs count) where
   -- the lower of two stands first
   place-lt : (i j : ℕ) → i < count → j < count → getD xs i 0 < getD xs j 0 → i < j
   place-lt i j a b l = bool-cases (λ t. ltb i j ≡ t → i < j) (ltb i j) (λ _ q. ltb-true i j q)
@@ -131,7 +131,7 @@ module _ (a b : ℕ → Bool) (f : ℕ → ℕ → Bool) (n : ℕ) where
   pub pair-miss : every (λ x. a x ⇒ quiet b f n x) n ≡ true → firstPair (among a b f) n ≡ Option.none
   pair-miss e = pair-none (among a b f) n (all-quiet n e)
 
-  module _ {ys : List ℕ} {count : ℕ} (s : Listed b n ys count) where
+  module _ {ys : List ℕ} {count : ℕ} (s : MembersListed b n ys count) where
     pub row-quiet : (x : ℕ) → passedBy f x ys count ≡ true → quiet b f n x ≡ true
     row-quiet x e = every-all (λ y. b y ⇒ not (f x y)) n (λ y l. true-implies (b y) (not (f x y)) (λ h. let t = s .all y l h in subst (λ (y : ℕ). not (f x y) ≡ true) (t .2) (every-at (λ j. not (f x (getD ys j 0))) count e (t .0) (t .1))))
 
@@ -164,7 +164,7 @@ module _ (s : ℕ → ℕ → Bool) (ys : List ℕ) (i : ℕ) where
   pub clear-rest : (k m : ℕ) → m ≤ k → clearOf s ys i k ≡ true → clearOf s ys i m ≡ true
   clear-rest k m l e = every-all (λ j. ltb i j ⇒ not (s (getD ys i 0) (getD ys j 0))) m (λ j h. every-at (λ j. ltb i j ⇒ not (s (getD ys i 0) (getD ys j 0))) k e j (omega arith))
 
-module _ (w : ℕ → Bool) (s : ℕ → ℕ → Bool) (n : ℕ) {ys : List ℕ} {count : ℕ} (t : Listed w n ys count) where
+module _ (w : ℕ → Bool) (s : ℕ → ℕ → Bool) (n : ℕ) {ys : List ℕ} {count : ℕ} (t : MembersListed w n ys count) where
   -- two places with the lower first, of which the pairs are known
   apart : (i j k : ℕ) → i < j → j < k → clearOf s ys i k ≡ true → s (getD ys i 0) (getD ys j 0) ≡ true → ⊥
   apart i j k a b e h = never-both h (not-true (s (getD ys i 0) (getD ys j 0)) (implies-true (ltb i j) (not (s (getD ys i 0) (getD ys j 0))) (every-at (λ j. ltb i j ⇒ not (s (getD ys i 0) (getD ys j 0))) k e j b) (lt-ltb i j a)))

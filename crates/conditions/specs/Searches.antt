@@ -70,7 +70,7 @@ factFound (Fact i) = Option.some i
 factFound NoFact = Option.none
 
 -- the first count places of a list have the members of p below n, lowest first
-pub record Listed (p : ℕ → Bool) (n : ℕ) (xs : List ℕ) (count : ℕ) : Type 0 where
+pub record MembersListed (p : ℕ → Bool) (n : ℕ) (xs : List ℕ) (count : ℕ) : Type 0 where
   pub few : count ≤ n
   pub inside : (j : ℕ) → j < count → (getD xs j 0 < n) × (p (getD xs j 0) ≡ true)
   pub rising : (i j : ℕ) → i < j → j < count → getD xs i 0 < getD xs j 0

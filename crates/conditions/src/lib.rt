@@ -18,7 +18,7 @@
 //   equal_holds, equal_fails, apart_holds, apart_fails
 //                                      two sets with the same members, with none in common
 //   languages                          the nodes that have a language
-//   insert_if                          a number joins a set, or not
+//   insert_if                          a node joins a set, or not
 use base::pick;
 use model::MAX_LINKS;
 use model::MAX_NODES;
@@ -66,7 +66,7 @@ ghost use Rattle.paths.specs.Facts.{Tables};
 ghost use Rattle.plan.specs.Sets.{testOf};
 ghost use Rattle.plan.specs.Conditions.{failsTest, notLess, notLessEq, someInOne, someShared, somePair, clash, someUnlisted};
 ghost use Rattle.conditions.specs.Pairs.{linkWords, unlisted, unordered, comesBack};
-ghost use Rattle.conditions.specs.Searches.{first, firstPair, before, among, firstInOne, found, nothing, nodeFound, pairFound, sideFound, factFound, Listed};
+ghost use Rattle.conditions.specs.Searches.{first, firstPair, before, among, firstInOne, found, nothing, nodeFound, pairFound, sideFound, factFound, MembersListed};
 
 // A set of links, a bit for each: link l is at bit l mod 64 of word l div 64.
 pub struct LinkSet {
@@ -383,7 +383,7 @@ fn breaks_order(
 // The numbers below n in both sets, lowest first, at the beginning of a list; how many there are.
 fn gather(into: &mut [u16], a: &[u64], b: &[u64], n: usize) -> usize
     requires { ⌜ (n ≤ maxNodes) × (maxNodes ≤ length (now into)) ⌝ }
-    ensures { λ r. ⌜ Listed (λ m. has (now (a .entry)) m && has (now (b .entry)) m) n (now (into .exit)) r ⌝ }
+    ensures { λ r. ⌜ MembersListed (λ m. has (now (a .entry)) m && has (now (b .entry)) m) n (now (into .exit)) r ⌝ }
 {
     let mut count = 0;
     let mut x = next_shared(a, b, 0, n);

@@ -7,8 +7,8 @@ use lib.ListN.{getD}
 use Rattle.tables.specs.Layout.{linkCount, langCount, pathCount, formCount, shapeCount, ruleCount, rootAt}
 use Rattle.tables.specs.Decode.{pathEntryAt, entryAt}
 use Rattle.tables.specs.WellFormed.{pathEntryOk, entryOk, ruleOk}
-use Rattle.tablecheck.specs.declared.Listed.{Listed}
-use Rattle.tablecheck.specs.declared.Listed.the-variants.{Langs, Links}
+use Rattle.tablecheck.specs.declared.ItemsOf.{ItemsOf}
+use Rattle.tablecheck.specs.declared.ItemsOf.the-variants.{Langs, Links}
 use Rattle.tablecheck.specs.declared.Part.{Part}
 use Rattle.tablecheck.specs.declared.Part.the-variants.{Paths, Forms, Shapes, Rules}
 
@@ -17,7 +17,7 @@ abbrev pub placeBelow : List ℕ → ℕ → ℕ → ℕ → Bool
 placeBelow cs base bound i = ltb (getD cs (base + i) 0) bound
 
 -- what an item must be below
-unfoldable pub itemBound : List ℕ → Listed → ℕ
+unfoldable pub itemBound : List ℕ → ItemsOf → ℕ
 itemBound cs Langs = langCount cs
 itemBound cs Links = linkCount cs
 

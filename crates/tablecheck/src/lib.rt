@@ -133,24 +133,24 @@ fn path_ok(cells: &[u16], e: usize) -> bool
 }
 
 // What a list's items are: languages (`lang`), links (`closed`).
-enum Listed {
+enum ItemsOf {
     Langs,
     Links,
 }
 
 // Item i is there, and the tables have what it names.
-fn item_ok(cells: &[u16], listed: Listed, i: usize) -> bool
+fn item_ok(cells: &[u16], listed: ItemsOf, i: usize) -> bool
     ensures { λ r. ⌜ r ≡ itemOk (now (cells .entry)) (itemBound (now (cells .entry)) listed) i ⌝ }
 {
     let there = i < reads::item_count(cells);
     match listed {
-        Listed::Langs => there & below(reads::item(cells, i), reads::lang_count(cells)),
-        Listed::Links => there & link_there(cells, reads::item_link(cells, i)),
+        ItemsOf::Langs => there & below(reads::item(cells, i), reads::lang_count(cells)),
+        ItemsOf::Links => there & link_there(cells, reads::item_link(cells, i)),
     }
 }
 
 // n items from number i on.
-fn items_ok(cells: &[u16], listed: Listed, i: u16, n: u16) -> bool
+fn items_ok(cells: &[u16], listed: ItemsOf, i: u16, n: u16) -> bool
     ensures { λ r. ⌜ r ≡ itemsOk (now (cells .entry)) (itemBound (now (cells .entry)) listed) i n ⌝ }
 {
     let from = reads::wide(i);
@@ -199,7 +199,7 @@ fn entry_ok(cells: &[u16], e: usize) -> bool
         codes::FORM_NOT => below(a, e),
         codes::FORM_KIND => a < codes::KIND_UNKNOWN,
         codes::FORM_DATATYPE => below(a, reads::type_count(cells)),
-        codes::FORM_LANG => items_ok(cells, Listed::Langs, a, b),
+        codes::FORM_LANG => items_ok(cells, ItemsOf::Langs, a, b),
         codes::FORM_FROM..=codes::FORM_BELOW => true,
         codes::FORM_COUNT => count_ok(
             cells,
@@ -212,7 +212,7 @@ fn entry_ok(cells: &[u16], e: usize) -> bool
         codes::FORM_ALL => below(a, reads::path_count(cells)) & below(b, e),
         codes::FORM_EQUAL | codes::FORM_APART => end_ok(cells, reads::wide(a))
             & link_there(cells, reads::form_link(cells, e)),
-        codes::FORM_CLOSED => items_ok(cells, Listed::Links, a, b),
+        codes::FORM_CLOSED => items_ok(cells, ItemsOf::Links, a, b),
         codes::FORM_LESS | codes::FORM_LESSEQ => below(a, reads::path_count(cells))
             & link_there(cells, reads::form_link(cells, e)),
         codes::FORM_ONELANG => below(a, reads::path_count(cells)),

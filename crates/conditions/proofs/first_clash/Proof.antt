@@ -15,7 +15,7 @@ use Rattle.nodeset.specs.Words.{has}
 use Rattle.model.specs.Limits.{maxNodes}
 use Rattle.tables.specs.Codes as codes
 use Rattle.tables.specs.Layout.{nodeCount, kindAt, langAt}
-use Rattle.conditions.specs.Searches.{firstPair, among, pairFound, Listed}
+use Rattle.conditions.specs.Searches.{firstPair, among, pairFound, MembersListed}
 use Rattle.conditions.specs.declared.FoundPair.the-variants.{NoPair}
 use Rattle.conditions.proofs.Terms.{lang-test}
 use Rattle.conditions.proofs.Listing.{ordered, clearOf, clear-begins, clear-more, clear-rest, clash-miss, clash-hit}
@@ -30,7 +30,7 @@ abbrev μ-loop : tie.MeasureT-loop
 μ-loop cells a b n answer₀ ends count i first known lang k₀ answer k = count - k
 
 abbrev Inv-search : tie.InvT-search
-Inv-search cells a b n answer₀ ends count i₀ answer i = (answer ≡ NoPair) × (n ≡ nodeCount cells) × Listed (λ w. has a w && has b w) n ends count × (i ≤ count) × ((vs : List ℤ) → every (λ j. clearOf (alike cells vs) ends j count) i ≡ true)
+Inv-search cells a b n answer₀ ends count i₀ answer i = (answer ≡ NoPair) × (n ≡ nodeCount cells) × MembersListed (λ w. has a w && has b w) n ends count × (i ≤ count) × ((vs : List ℤ) → every (λ j. clearOf (alike cells vs) ends j count) i ≡ true)
 
 abbrev μ-search : tie.MeasureT-search
 μ-search cells a b n answer₀ ends count i₀ answer i = count - i

@@ -15,7 +15,7 @@ use Rattle.tables.specs.Codes as codes
 use Rattle.tables.specs.Layout.{nodeCount, kindAt, numberAt}
 use Rattle.tables.specs.Decode.{termAt}
 use Rattle.conditions.specs.Pairs.{unordered, comesBack}
-use Rattle.conditions.specs.Searches.{firstPair, among, pairFound, Listed}
+use Rattle.conditions.specs.Searches.{firstPair, among, pairFound, MembersListed}
 use Rattle.conditions.specs.declared.FoundPair.the-variants.{NoPair}
 use Rattle.conditions.proofs.Members.{Passed, passed-none, passed-more, passed-all, next-after}
 use Rattle.conditions.proofs.Listing.{listed-once, quiet, passedBy, pair-miss, row-quiet, pair-hit}
@@ -31,7 +31,7 @@ abbrev μ-loop : tie.MeasureT-loop
 μ-loop order cells values a b n answer₀ x seconds count first known value k₀ answer k = count - k
 
 abbrev Inv-search : tie.InvT-search
-Inv-search order cells values a b n answer₀ x₀ seconds count answer x = (answer ≡ NoPair) × (n ≡ nodeCount cells) × Listed (has b) n seconds count × Passed (has a) (quiet (has b) (λ x y. unordered order (termAt cells values x) (termAt cells values y)) n) n x
+Inv-search order cells values a b n answer₀ x₀ seconds count answer x = (answer ≡ NoPair) × (n ≡ nodeCount cells) × MembersListed (has b) n seconds count × Passed (has a) (quiet (has b) (λ x y. unordered order (termAt cells values x) (termAt cells values y)) n) n x
 
 abbrev μ-search : tie.MeasureT-search
 μ-search order cells values a b n answer₀ x₀ seconds count answer x = n - x
