@@ -94,7 +94,7 @@ unfoldable pub sameLang : Term → Term → Bool
 sameLang a b = holds₂ eqb (languageOf a) (languageOf b)
 
 -- ---- what rows of Table 1 ask of sets of nodes below n, given the nodes' terms: the same members; each first value < (≤) each
--- second; no two different members with the same language tag. And of triples: each one out of v has one of the predicates ps
+-- second; no two different members with the same language tag. And of triples: each one out of v has a listed predicate
 abbrev pub sameMembers : ℕ → (ℕ → Bool) → (ℕ → Bool) → Bool
 sameMembers n a b = subset n a b && subset n b a
 

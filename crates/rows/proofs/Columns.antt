@@ -15,7 +15,7 @@ use Rattle.nodeset.proofs.Sets.{has-at, own, wordsOf-ext, has-of, has-zeros, ze
 use Rattle.model.specs.Limits.{maxNodes}
 use Rattle.paths.specs.Images.{converseIf, image, withImages}
 use Rattle.paths.proofs.Joins.{eqb-comm}
-use Rattle.rows.specs.Rows.{inColumn, columnOf, identityColumn, stored, withColumn}
+use Rattle.rows.specs.Rows.{inColumn, columnOf, identityColumn, inStored, withColumn}
 
 -- ---- the targets: set k is the node 64 * j + k alone, for k below i
 abbrev pub targets : ℕ → ℕ → ℕ → Bool
@@ -39,13 +39,13 @@ targets-all j i q e = e ∙ wordsOf-ext (targets j i) (λ x. eqb (x / 64) (64 * 
 
 -- ---- a column stored: word j of the rows below v is that of the column m
 module _ (rows : List ℕ) (j : ℕ) (m : List ℕ) where
-  pub stored-none : ((i : ℕ) → getD rows i 0 < 2 ^ 64) → rows ≡ wordsOf (stored rows j m 0) (length rows)
-  stored-none small = own rows small ∙ wordsOf-ext (has rows) (stored rows j m 0) (length rows) (λ x l. ap (λ (b : Bool). cond b (has m (x / maxNodes * 64 + x % 64)) (has rows x)) (sym (ap (λ (b : Bool). eqb (x / 64 % 16) j && b) (le-ltb (x / maxNodes) 0 (omega arith)) ∙ and-false (eqb (x / 64 % 16) j))))
+  pub stored-none : ((i : ℕ) → getD rows i 0 < 2 ^ 64) → rows ≡ wordsOf (inStored rows j m 0) (length rows)
+  stored-none small = own rows small ∙ wordsOf-ext (has rows) (inStored rows j m 0) (length rows) (λ x l. ap (λ (b : Bool). cond b (has m (x / maxNodes * 64 + x % 64)) (has rows x)) (sym (ap (λ (b : Bool). eqb (x / 64 % 16) j && b) (le-ltb (x / maxNodes) 0 (omega arith)) ∙ and-false (eqb (x / 64 % 16) j))))
 
-  pub stored-more : {ws : List ℕ} (v : ℕ) → j < 16 → getD m v 0 < 2 ^ 64 → ws ≡ wordsOf (stored rows j m v) (length rows) → set ws (16 * v + j) (getD m v 0) ≡ wordsOf (stored rows j m (v + 1)) (length rows)
-  stored-more v l small e = set-words (stored rows j m v) (stored rows j m (v + 1)) (length rows) (16 * v + j) (getD m v 0) e small here (λ x lx ne. ap (λ (b : Bool). cond b (has m (x / maxNodes * 64 + x % 64)) (has rows x)) (other x ne (eqb (x / 64 % 16) j) refl))
+  pub stored-more : {ws : List ℕ} (v : ℕ) → j < 16 → getD m v 0 < 2 ^ 64 → ws ≡ wordsOf (inStored rows j m v) (length rows) → set ws (16 * v + j) (getD m v 0) ≡ wordsOf (inStored rows j m (v + 1)) (length rows)
+  stored-more v l small e = set-words (inStored rows j m v) (inStored rows j m (v + 1)) (length rows) (16 * v + j) (getD m v 0) e small here (λ x lx ne. ap (λ (b : Bool). cond b (has m (x / maxNodes * 64 + x % 64)) (has rows x)) (other x ne (eqb (x / 64 % 16) j) refl))
     where
-      here : (x : ℕ) → x < 64 * length rows → x / 64 ≡ 16 * v + j → bit (getD m v 0) (x % 64) ≡ stored rows j m (v + 1) x
+      here : (x : ℕ) → x < 64 * length rows → x / 64 ≡ 16 * v + j → bit (getD m v 0) (x % 64) ≡ inStored rows j m (v + 1) x
       here x lx q =
           let r : x / maxNodes ≡ v = omega arith in
           sym (ap (λ (b : Bool). cond b (has m (x / maxNodes * 64 + x % 64)) (has rows x)) (and-both (eqb (x / 64 % 16) j) (ltb (x / maxNodes) (v + 1)) (eq-eqb (x / 64 % 16) j (omega arith)) (lt-ltb (x / maxNodes) (v + 1) (omega arith))) ∙ ap (λ (y : ℕ). has m (y * 64 + x % 64)) r ∙ has-at m v (x % 64) (omega arith))
@@ -56,9 +56,9 @@ module _ (rows : List ℕ) (j : ℕ) (m : List ℕ) where
           (λ h. let a : x / maxNodes < v = ltb-true (x / maxNodes) v h in lt-ltb (x / maxNodes) (v + 1) (omega arith))
           (λ h. let a : x / maxNodes < v + 1 = ltb-true (x / maxNodes) (v + 1) h in let c : x / 64 % 16 ≡ j = eqb-true (x / 64 % 16) j q in lt-ltb (x / maxNodes) v (omega arith))
 
-  pub stored-all : {ws : List ℕ} (v n : ℕ) → v ≡ n → ws ≡ wordsOf (stored rows j m v) (length rows) → ws ≡ withColumn rows j m n
+  pub stored-all : {ws : List ℕ} (v n : ℕ) → v ≡ n → ws ≡ wordsOf (inStored rows j m v) (length rows) → ws ≡ withColumn rows j m n
   unfolding withColumn
-  stored-all v n q e = e ∙ ap (λ (v : ℕ). wordsOf (stored rows j m v) (length rows)) q
+  stored-all v n q e = e ∙ ap (λ (v : ℕ). wordsOf (inStored rows j m v) (length rows)) q
 
 -- ---- from the targets back: each gives the column of those that lead to it
 pub column-of : (n : ℕ) (r : ℕ → ℕ → Bool) (j : ℕ) {t m : List ℕ} → n ≤ maxNodes → ((v w : ℕ) → r v w ≡ true → w < n → v < n) → t ≡ identityColumn j → m ≡ withImages 64 n (converseIf true r) t (replicate maxNodes 0) → m ≡ columnOf n r j

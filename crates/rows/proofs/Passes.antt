@@ -10,7 +10,7 @@ use borrow.Author.Tests.{eqb-true, eqb-false, lt-ltb, le-ltb, ltb-true, ltb-fals
 use Rattle.nodeset.specs.Words.{has, wordsOf}
 use Rattle.nodeset.proofs.Sets.{length-wordsOf, wordsOf-ext, has-of, has-wordsOf, has-drop, length-of, zeros}
 use Rattle.model.specs.Limits.{maxNodes}
-use Rattle.rows.specs.Rows.{between, inRows, rowsOf, leads, Within, inColumn, columnOf, stored, withColumn}
+use Rattle.rows.specs.Rows.{between, inRows, rowsOf, leads, Within, inColumn, columnOf, inStored, withColumn}
 
 -- ---- rows
 pub rows-ext : (n : ℕ) (r q : ℕ → ℕ → Bool) (words : ℕ) → ((v w : ℕ) → w < n → r v w ≡ q v w) → rowsOf n r words ≡ rowsOf n q words
@@ -55,8 +55,8 @@ module _ (n : ℕ) (r q : ℕ → ℕ → Bool) (words : ℕ) where
     pub passed-more : n ≤ maxNodes → j < 16 → withColumn ws j (columnOf n r j) n ≡ rowsOf n (passed r q (j + 1)) words
     unfolding withColumn rowsOf columnOf
     passed-more few low =
-        ap (wordsOf (stored ws j (columnOf n r j) n)) (length-of (inRows n (passed r q j)) words e)
-        ∙ wordsOf-ext (stored ws j (columnOf n r j) n) (inRows n (passed r q (j + 1))) words (λ x l. go x l (eqb (x / 64 % 16) j) refl (ltb (x / maxNodes) n) refl)
+        ap (wordsOf (inStored ws j (columnOf n r j) n)) (length-of (inRows n (passed r q j)) words e)
+        ∙ wordsOf-ext (inStored ws j (columnOf n r j) n) (inRows n (passed r q (j + 1))) words (λ x l. go x l (eqb (x / 64 % 16) j) refl (ltb (x / maxNodes) n) refl)
       where
         old : (x : ℕ) → x < 64 * words → has ws x ≡ inRows n (passed r q j) x
         old x l = has-of (inRows n (passed r q j)) words e x l

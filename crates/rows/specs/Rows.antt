@@ -40,8 +40,8 @@ unfoldable pub identityColumn : ℕ → List ℕ
 identityColumn j = wordsOf (λ x. eqb (x / 64) (64 * j + x % 64)) maxNodes
 
 -- the rows with word j of the first n taken from the column m
-abbrev pub stored : List ℕ → ℕ → List ℕ → ℕ → ℕ → Bool
-stored rows j m n x = cond (eqb (x / 64 % 16) j && ltb (x / maxNodes) n) (has m (x / maxNodes * 64 + x % 64)) (has rows x)
+abbrev pub inStored : List ℕ → ℕ → List ℕ → ℕ → ℕ → Bool
+inStored rows j m n x = cond (eqb (x / 64 % 16) j && ltb (x / maxNodes) n) (has m (x / maxNodes * 64 + x % 64)) (has rows x)
 
 unfoldable pub withColumn : List ℕ → ℕ → List ℕ → ℕ → List ℕ
-withColumn rows j m n = wordsOf (stored rows j m n) (length rows)
+withColumn rows j m n = wordsOf (inStored rows j m n) (length rows)

@@ -5,13 +5,13 @@ use native.Mathlib.Omega.{arith}
 use lib.ListN.{length, set}
 use borrow.Author.Needs.{needs}
 use Rattle.nodeset.specs.Words.{wordsOf}
-use Rattle.rows.specs.Rows.{stored}
+use Rattle.rows.specs.Rows.{inStored}
 use Rattle.rows.proofs.Columns.{stored-none, stored-more, stored-all}
 use Rattle.rows.proofs.store_column.Statement.{statement}
 use Rattle.rows.proofs.store_column.Tie as tie
 
 abbrev Inv-loop : tie.InvT-loop
-Inv-loop rows₀ j m n v₀ rows v = (v ≤ n) × (length rows ≡ length rows₀) × (rows ≡ wordsOf (stored rows₀ j m v) (length rows₀))
+Inv-loop rows₀ j m n v₀ rows v = (v ≤ n) × (length rows ≡ length rows₀) × (rows ≡ wordsOf (inStored rows₀ j m v) (length rows₀))
 
 abbrev μ-loop : tie.MeasureT-loop
 μ-loop rows₀ j m n v₀ rows v = n - v
