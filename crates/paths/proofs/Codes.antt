@@ -17,7 +17,7 @@ use Rattle.paths.specs.Images.{setCount, withImages, withEnds}
 use Rattle.paths.proofs.Paths.{ends-predicate, ends-inverse, ends-alternative, ends-sequence}
 use Rattle.paths.proofs.Entries.{path-link, path-inv, path-seq, path-alt}
 
-pos : (many : Bool) → 0 < setCount many
+pub pos : (many : Bool) → 0 < setCount many
 pos true = omega arith
 pos false = omega arith
 

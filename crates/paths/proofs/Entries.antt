@@ -25,6 +25,15 @@ known cs e (suc (suc zero)) a b h = omega arith
 known cs e (suc (suc (suc zero))) a b h = omega arith
 known cs e (suc (suc (suc (suc code)))) a b h = absurd (true≢false (sym h))
 
+-- from seq on it has two parts, which stand before it
+two-parts : (cs : List ℕ) (e code a b : ℕ) → 2 ≤ code → pathEntryOk cs e (pathEntryOf code a b) ≡ true → (ltb a e && ltb b e) ≡ true
+unfolding pathEntryOk pathEntryOf
+two-parts cs e zero a b l h = absurd (let f : ⊥ = omega arith in f)
+two-parts cs e (suc zero) a b l h = absurd (let f : ⊥ = omega arith in f)
+two-parts cs e (suc (suc zero)) a b l h = h
+two-parts cs e (suc (suc (suc zero))) a b l h = h
+two-parts cs e (suc (suc (suc (suc code)))) a b l h = absurd (true≢false (sym h))
+
 module _ (cs : List ℕ) (ok : wellFormed cs ≡ true) (e : ℕ) (l : e < pathCount cs) where
   -- the entry of code k: right, and the path that it makes of its parts
   coded : (k : ℕ) → pathCodeAt cs e ≡ k → (x : PathEntry) → pathEntryOf k (pathFirstAt cs e) (pathSecondAt cs e) ≡ x → (pathEntryOk cs e x ≡ true) × (pathAt cs e ≡ pathOf x (pathAt cs))
@@ -48,16 +57,14 @@ module _ (cs : List ℕ) (ok : wellFormed cs ≡ true) (e : ℕ) (l : e < pathCo
   unfolding pathOf pathEntryOf
   path-inv q = coded 1 q (inv (pathFirstAt cs e)) refl .1
 
-  -- both parts of seq and of alt
-  both : (ltb (pathFirstAt cs e) e && ltb (pathSecondAt cs e) e) ≡ true → (pathFirstAt cs e < e) × (pathSecondAt cs e < e)
-  both h = (
-    ltb-true (pathFirstAt cs e) e (and-left (ltb (pathFirstAt cs e) e) (ltb (pathSecondAt cs e) e) h),
-    ltb-true (pathSecondAt cs e) e (and-right (ltb (pathFirstAt cs e) e) (ltb (pathSecondAt cs e) e) h),
-  )
-
-  pub seq-below : pathCodeAt cs e ≡ codes.pathSeq → (pathFirstAt cs e < e) × (pathSecondAt cs e < e)
-  unfolding pathEntryOk pathEntryOf
-  seq-below q = both (coded 2 q (seq (pathFirstAt cs e) (pathSecondAt cs e)) refl .0)
+  -- seq and alt: both parts
+  pub parts-below : 2 ≤ pathCodeAt cs e → (pathFirstAt cs e < e) × (pathSecondAt cs e < e)
+  unfolding pathEntryAt
+  parts-below h =
+      let q = two-parts cs e (pathCodeAt cs e) (pathFirstAt cs e) (pathSecondAt cs e) h (sound cs ok .path e l) in (
+        ltb-true (pathFirstAt cs e) e (and-left (ltb (pathFirstAt cs e) e) (ltb (pathSecondAt cs e) e) q),
+        ltb-true (pathSecondAt cs e) e (and-right (ltb (pathFirstAt cs e) e) (ltb (pathSecondAt cs e) e) q),
+      )
 
   pub path-seq : pathCodeAt cs e ≡ codes.pathSeq → pathAt cs e ≡ sequence (pathAt cs (pathFirstAt cs e)) (pathAt cs (pathSecondAt cs e))
   unfolding pathOf pathEntryOf
@@ -67,10 +74,6 @@ module _ (cs : List ℕ) (ok : wellFormed cs ≡ true) (e : ℕ) (l : e < pathCo
   last : 3 ≤ pathCodeAt cs e → pathCodeAt cs e ≡ codes.pathAlt
   unfolding pathEntryAt
   last h = omega (arith, known cs e (pathCodeAt cs e) (pathFirstAt cs e) (pathSecondAt cs e) (sound cs ok .path e l))
-
-  pub alt-below : 3 ≤ pathCodeAt cs e → (pathFirstAt cs e < e) × (pathSecondAt cs e < e)
-  unfolding pathEntryOk pathEntryOf
-  alt-below h = both (coded 3 (last h) (alt (pathFirstAt cs e) (pathSecondAt cs e)) refl .0)
 
   pub path-alt : 3 ≤ pathCodeAt cs e → pathAt cs e ≡ alternative (pathAt cs (pathFirstAt cs e)) (pathAt cs (pathSecondAt cs e))
   unfolding pathOf pathEntryOf

@@ -55,7 +55,7 @@ module _ (width n : ℕ) where
   unfolding withImages
   length-images r from into = length-wordsOf (λ x. has into x || image n r (λ v. has from (v * width + x % width)) (x / width)) (length into)
 
-  has-images : (r : ℕ → ℕ → Bool) (from into : List ℕ) (x : ℕ) → x < 64 * length into → has (withImages width n r from into) x ≡ (has into x || image n r (λ v. has from (v * width + x % width)) (x / width))
+  pub has-images : (r : ℕ → ℕ → Bool) (from into : List ℕ) (x : ℕ) → x < 64 * length into → has (withImages width n r from into) x ≡ (has into x || image n r (λ v. has from (v * width + x % width)) (x / width))
   unfolding withImages
   has-images r from into x l = has-wordsOf (λ x. has into x || image n r (λ v. has from (v * width + x % width)) (x / width)) (length into) x l
 

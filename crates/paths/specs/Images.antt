@@ -1,7 +1,9 @@
 -- Where a relation between nodes leads from the members of a set, and sets of nodes side by side in words.
-use Prim.Native.Nat.{ℕ, _+_, _*_, _/_, _%_}
+use Prim.Native.Nat.{ℕ, _+_, _*_, _/_, _%_, _<_}
 use mathlib.Core.List.{List}
 use mathlib.Core.Bool.{Bool, true, false, _&&_, _||_, cond}
+use mathlib.Core.Logic.{_⊎_, _↔_}
+use mathlib.Core.Path.{_≡_}
 use lib.Dec.{eqb}
 use lib.ListN.{length}
 use Rattle.base.specs.Bounded.{some}
@@ -37,3 +39,10 @@ setCount many = cond many 64 1
 -- the sets of `into` with the ends of a path, read backwards where back, over n nodes and the triples ts
 unfoldable pub withEnds : ℕ → ℕ → List Triple → Path → Bool → List ℕ → List ℕ → List ℕ
 withEnds width n ts p back from into = withImages width n (converseIf back (ends n ts p)) from into
+
+-- document 02, Job 3, in words of logic: `after` is exactly what `into` held and what r leads to. Node w is in set k of it where it
+-- was there already, or where r leads to it from a node of set k of `from`
+pub record Added (width n : ℕ) (r : ℕ → ℕ → Bool) (from into after : List ℕ) : Type 0 where
+  pub long : length after ≡ length into
+  pub those : (k w : ℕ) → k < width → w * width + k < 64 * length into
+      → (has after (w * width + k) ≡ true) ↔ ((has into (w * width + k) ≡ true) ⊎ ((v : ℕ) × (v < n) × (has from (v * width + k) ≡ true) × (r v w ≡ true)))

@@ -13,7 +13,7 @@ use Rattle.tables.specs.WellFormed.{wellFormed}
 use Rattle.paths.specs.Facts.{FactsOk, triplesOf, edges}
 use Rattle.paths.specs.Images.{setCount, withImages, withEnds}
 use Rattle.paths.proofs.Joins.{cond-lt}
-use Rattle.paths.proofs.Entries.{inv-below, seq-below, alt-below}
+use Rattle.paths.proofs.Entries.{inv-below, parts-below}
 use Rattle.paths.proofs.Codes.{spread-link, spread-inv, spread-alt, spread-seq}
 use Rattle.paths.proofs.spread.Reads as spread
 use Rattle.paths.proofs.spread.Kinds as spread-kinds
@@ -81,7 +81,8 @@ spread-spread-requires-2 : (t : ℕ) → spread-lts.Need-spread-requires-2 (call
 spread-spread-requires-2 t c κs =
     let a = c .before .before .before .before .before .before .before .before .before .before .before .before .before .before .args in
     let pre = c .before .before .before .before .before .before .before .before .before .before .before .before .before .before .pre .1 in
-    let h = seq-below (a .cells .now) (pre .1) (a .e) (pre .2) (sym (c .before .before .before .before .path-code .ensures) ∙ c .before .before .before .match .keys3) in
+    let q : 2 ≤ pathCodeAt (a .cells .now) (a .e) = omega (arith, c .before .before .before .before .path-code .ensures, c .before .before .before .match .keys3) in
+    let h = parts-below (a .cells .now) (pre .1) (a .e) (pre .2) q in
     lower (a .s .now) (a .p .now) (a .o .now) (a .index .now) (a .len) (a .n) (a .cells .now) (c .before .before .before .before .before .before .before .before .before .before .before .before .before .before .pre .0) pre (picked (a .back) (c .before .before .pick .ensures) (omega (arith, c .before .before .before .before .before .before .path-first .ensures, c .before .before .before .before .before .path-second .ensures, h .0, h .1)) (omega (arith, c .before .before .before .before .before .before .path-first .ensures, c .before .before .before .before .before .path-second .ensures, h .0, h .1)))
 
 spread-slice-aggregate-spread-2 : (t : ℕ) → spread-lts.Need-slice-aggregate-spread-2 (calls t) (spread-at t) spread.Post
@@ -91,23 +92,24 @@ spread-spread-requires-3 : (t : ℕ) → spread-lts.Need-spread-requires-3 (call
 spread-spread-requires-3 t c κs =
     let a = c .before .before .before .before .before .before .before .before .before .before .before .before .before .before .before .before .before .before .args in
     let pre = c .before .before .before .before .before .before .before .before .before .before .before .before .before .before .before .before .before .before .pre .1 in
-    let h = seq-below (a .cells .now) (pre .1) (a .e) (pre .2) (sym (c .before .before .before .before .before .before .before .before .path-code .ensures) ∙ c .before .before .before .before .before .before .before .match .keys3) in
+    let q : 2 ≤ pathCodeAt (a .cells .now) (a .e) = omega (arith, c .before .before .before .before .before .before .before .before .path-code .ensures, c .before .before .before .before .before .before .before .match .keys3) in
+    let h = parts-below (a .cells .now) (pre .1) (a .e) (pre .2) q in
     lower (a .s .now) (a .p .now) (a .o .now) (a .index .now) (a .len) (a .n) (a .cells .now) (c .before .before .before .before .before .before .before .before .before .before .before .before .before .before .before .before .before .before .pre .0) pre (picked (a .back) (c .before .before .before .before .before .pick2 .ensures) (omega (arith, c .before .before .before .before .before .before .before .before .before .before .path-first .ensures, c .before .before .before .before .before .before .before .before .before .path-second .ensures, h .0, h .1)) (omega (arith, c .before .before .before .before .before .before .before .before .before .before .path-first .ensures, c .before .before .before .before .before .before .before .before .before .path-second .ensures, h .0, h .1)))
 
 spread-spread-requires-4 : (t : ℕ) → spread-lts.Need-spread-requires-4 (calls t) (spread-at t) spread.Post
 spread-spread-requires-4 t c κs =
     let a = c .before .before .before .before .before .before .before .before .before .before .before .before .args in
     let pre = c .before .before .before .before .before .before .before .before .before .before .before .before .pre .1 in
-    let q : 3 ≤ pathCodeAt (a .cells .now) (a .e) = omega (arith, c .before .before .path-code .ensures, c .before .match .rest) in
-    let h = alt-below (a .cells .now) (pre .1) (a .e) (pre .2) q in
+    let q : 2 ≤ pathCodeAt (a .cells .now) (a .e) = omega (arith, c .before .before .path-code .ensures, c .before .match .rest) in
+    let h = parts-below (a .cells .now) (pre .1) (a .e) (pre .2) q in
     lower (a .s .now) (a .p .now) (a .o .now) (a .index .now) (a .len) (a .n) (a .cells .now) (c .before .before .before .before .before .before .before .before .before .before .before .before .pre .0) pre (omega (arith, c .before .before .before .before .path-first .ensures, c .before .before .before .path-second .ensures, h .0, h .1))
 
 spread-spread-requires-5 : (t : ℕ) → spread-lts.Need-spread-requires-5 (calls t) (spread-at t) spread.Post
 spread-spread-requires-5 t c κs =
     let a = c .before .before .before .before .before .before .before .before .before .before .before .before .before .before .before .before .args in
     let pre = c .before .before .before .before .before .before .before .before .before .before .before .before .before .before .before .before .pre .1 in
-    let q : 3 ≤ pathCodeAt (a .cells .now) (a .e) = omega (arith, c .before .before .before .before .before .before .path-code .ensures, c .before .before .before .before .before .match .rest) in
-    let h = alt-below (a .cells .now) (pre .1) (a .e) (pre .2) q in
+    let q : 2 ≤ pathCodeAt (a .cells .now) (a .e) = omega (arith, c .before .before .before .before .before .before .path-code .ensures, c .before .before .before .before .before .match .rest) in
+    let h = parts-below (a .cells .now) (pre .1) (a .e) (pre .2) q in
     lower (a .s .now) (a .p .now) (a .o .now) (a .index .now) (a .len) (a .n) (a .cells .now) (c .before .before .before .before .before .before .before .before .before .before .before .before .before .before .before .before .pre .0) pre (omega (arith, c .before .before .before .before .before .before .before .before .path-first .ensures, c .before .before .before .before .before .before .before .path-second .ensures, h .0, h .1))
 
 spread-same-length : (t : ℕ) → spread-lts.Need-same-length (calls t) (spread-at t) spread.Post
