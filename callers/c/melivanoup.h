@@ -9,7 +9,7 @@
  *   A number behind a pointer is written on every call, a refusal included; the pointer is never NULL.
  *
  * What comes back
- *   0, or the number of a refusal. Order: 8, then 1, 9, 10; in a book the leftmost fault of the first faulty line.
+ *   0, or the number of a refusal. Order: 8, then 1, 9, 10, 11; in a book the leftmost fault of the first faulty line.
  *   A refused book (1 to 7) leaves its three tables filled with zeros and changes nothing else; every other refusal changes
  *   nothing that is lent as a slice.
  *
@@ -36,6 +36,7 @@ extern "C" {
 #define MELIVANOUP_LISTS 32768   /* uint16_t: the lists of all rules, a row for each          */
 #define MELIVANOUP_LENGTHS 32    /* uint16_t: how many nodes each rule lists                  */
 #define MELIVANOUP_PAGE 45056    /* uint8_t:  a part of the report                            */
+#define MELIVANOUP_TALLIES 8     /* uint32_t: the answers given to each console               */
 
 /* The longest book, in bytes: one byte more is refused (1). */
 #define MELIVANOUP_BOOK 65536
@@ -63,7 +64,7 @@ extern "C" {
 /* What the verdict writes of a node that meets the shape; 0 of one that does not. */
 #define MELIVANOUP_CONFORMS 1
 
-/* Why a call was refused. 1 to 7 are the book writer's: 2 to 7 come with a line, counted from 1. 8 to 10 are the caller's. */
+/* Why a call was refused. 1 to 7 are the book writer's: 2 to 7 come with a line, counted from 1. 8 to 11 are the caller's. */
 enum melivanoup_refusal {
   MELIVANOUP_NONE = 0,
   MELIVANOUP_TOO_LONG = 1,  /* the book has more than 65,536 bytes */
@@ -75,7 +76,8 @@ enum melivanoup_refusal {
   MELIVANOUP_LIMIT = 7,     /* another limit is passed */
   MELIVANOUP_SHORT = 8,     /* a lent slice is shorter than its size */
   MELIVANOUP_MALFORMED = 9, /* tables, plan or lists that are not well formed; those of an accepted book always are */
-  MELIVANOUP_ABSENT = 10    /* a node, shape, rule or part of the report that the book does not have */
+  MELIVANOUP_ABSENT = 10,   /* a node, shape, rule or part of the report that the book does not have */
+  MELIVANOUP_CONSOLE = 11   /* a console number above 7 */
 };
 
 /* The tables of a book. Accepted exactly when the bytes are a book of document 01; the tables then hold what it says, in its
@@ -84,11 +86,13 @@ uint32_t melivanoup_read(const uint8_t *book, size_t book_len, uint8_t *names, s
                          size_t cells_len, int64_t *values, size_t values_len, size_t *line, size_t *nodes, size_t *facts,
                          size_t *rules);
 
-/* Whether a node meets a shape, by Table 1 of "Compiling SHACL Into SQL". *conforms: 1 yes, 0 no or refused. *tally counts
- * the verdicts given: one more on an answer, at most 4,294,967,295; a refusal (8, 9, 10) leaves it. */
+/* Whether a node meets a shape, by Table 1 of "Compiling SHACL Into SQL": a question of one of the consoles 0 to 7. *conforms:
+ * 1 yes, 0 no or refused. tallies[console] counts the verdicts given to the console: one more on an answer, at most
+ * 4,294,967,295; the others stay, and on a refusal (8, 9, 10, 11) all do. Begin with eight zeros and hand on what was left: then
+ * a console's answers and its tally depend on the tables and on its own questions only. */
 uint32_t melivanoup_verdict(const uint8_t *names, size_t names_len, const uint16_t *cells, size_t cells_len,
-                            const int64_t *values, size_t values_len, size_t node, size_t shape, uint32_t *conforms,
-                            uint32_t *tally);
+                            const int64_t *values, size_t values_len, size_t console, size_t node, size_t shape,
+                            uint32_t *tallies, size_t tallies_len, uint32_t *conforms);
 
 /* The plan of the tables, by document 01's table of steps. *steps: how many it has, at most four for each form entry and two
  * for each rule; 0 on a refusal (8, 9). */

@@ -24,7 +24,7 @@ mod raw;
 mod refusal;
 mod validator;
 
-pub use operations::{Counts, Plan, Tables, Work};
+pub use operations::{Counts, Plan, Tables, Tallies, Work};
 pub use refusal::{Ground, Refusal};
 pub use validator::{Report, Rule, Validator};
 
@@ -44,6 +44,8 @@ pub mod sizes {
     pub const LENGTHS: usize = 32;
     /// a part of the report
     pub const PAGE: usize = 45_056;
+    /// a tally for each console
+    pub const TALLIES: usize = 8;
 }
 
 /// The stack that a call may use, in bytes: measured, not proved. Books need at most 0.6 MB, tables from elsewhere 1.4. Where there

@@ -22,6 +22,12 @@ pub struct Work {
     pub words: Vec<u64>,
 }
 
+/// How many of each console's questions were answered, from eight zeros on. A tally stays at its greatest value.
+#[derive(Clone, Copy, Debug, Default, PartialEq, Eq)]
+pub struct Tallies {
+    pub counts: [u32; sizes::TALLIES],
+}
+
 /// How much a book has.
 #[derive(Clone, Copy, Debug, PartialEq, Eq)]
 pub struct Counts {
@@ -65,14 +71,16 @@ impl Tables {
         Ok(Counts { nodes, facts, rules })
     }
 
-    /// Whether a node meets a shape. The tally goes up by one on an answer, and stays at its greatest; a refusal leaves it.
-    pub fn verdict(&self, node: usize, shape: usize, tally: &mut u32) -> Result<bool, Refusal> {
+    /// Whether a node meets a shape: a question of one of the consoles 0 to 7. The console's tally goes up by one on an answer;
+    /// the others stay, and on a refusal all do. So a console's answers and its tally depend on the tables and on its own
+    /// questions only, whatever questions the others put in between.
+    pub fn verdict(&self, console: usize, node: usize, shape: usize, tallies: &mut Tallies) -> Result<bool, Refusal> {
         let mut conforms = 0;
         // SAFETY: as in `read`.
         let number = unsafe {
             raw::melivanoup_verdict(
                 self.names.as_ptr(), self.names.len(), self.cells.as_ptr(), self.cells.len(), self.values.as_ptr(),
-                self.values.len(), node, shape, &mut conforms, tally,
+                self.values.len(), console, node, shape, tallies.counts.as_mut_ptr(), tallies.counts.len(), &mut conforms,
             )
         };
         Refusal::check(number, 0)?;
@@ -178,6 +186,13 @@ impl Work {
     /// Zeros: every set empty.
     pub fn new() -> Work {
         Work { words: vec![0; sizes::WORK] }
+    }
+}
+
+impl Tallies {
+    /// Zeros: no question was answered.
+    pub fn new() -> Tallies {
+        Tallies::default()
     }
 }
 

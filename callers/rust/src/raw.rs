@@ -7,7 +7,7 @@ unsafe extern "C" {
     ) -> u32;
     pub fn melivanoup_verdict(
         names: *const u8, names_len: usize, cells: *const u16, cells_len: usize, values: *const i64, values_len: usize,
-        node: usize, shape: usize, conforms: *mut u32, tally: *mut u32,
+        console: usize, node: usize, shape: usize, tallies: *mut u32, tallies_len: usize, conforms: *mut u32,
     ) -> u32;
     pub fn melivanoup_compile(
         names: *const u8, names_len: usize, cells: *const u16, cells_len: usize, values: *const i64, values_len: usize,

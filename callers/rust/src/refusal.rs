@@ -1,8 +1,8 @@
-//! The ten refusals.
+//! The eleven refusals.
 
 use std::fmt;
 
-/// Why something was turned down. The numbers are document 01's.
+/// Why something was turned down. The numbers are those of documents 01 and 02.
 #[derive(Clone, Copy, Debug, PartialEq, Eq, Hash)]
 pub enum Ground {
     TooLong = 1,
@@ -15,6 +15,7 @@ pub enum Ground {
     Short = 8,
     Malformed = 9,
     Absent = 10,
+    Console = 11,
 }
 
 /// the number for no refusal
@@ -34,7 +35,7 @@ impl Ground {
 
     fn by_number(number: u32) -> Ground {
         use Ground::*;
-        let all = [TooLong, Grammar, Range, Nesting, Undefined, Taken, Limit, Short, Malformed, Absent];
+        let all = [TooLong, Grammar, Range, Nesting, Undefined, Taken, Limit, Short, Malformed, Absent, Console];
         all.into_iter().find(|ground| ground.number() == number).expect("every refusal has its ground")
     }
 }
@@ -52,6 +53,7 @@ impl fmt::Display for Ground {
             Ground::Short => "a lent buffer is too short",
             Ground::Malformed => "the tables, the plan or the lists are not well formed",
             Ground::Absent => "the book has no such node, shape or rule",
+            Ground::Console => "the consoles have the numbers 0 to 7",
         })
     }
 }

@@ -1,6 +1,6 @@
 //! The example books against their reports, the single operations against the whole run, and the refusals.
 
-use melivanoup::{sizes, Ground, Plan, Refusal, Tables, Validator, Work};
+use melivanoup::{sizes, Ground, Plan, Refusal, Tables, Tallies, Validator, Work};
 use std::path::PathBuf;
 
 const B: &[u8] = include_bytes!("../../../examples/book-b.book");
@@ -62,9 +62,10 @@ fn the_single_operations_give_the_same_lists() {
             assert_eq!(names, rule.breaks, "{file}, rule {r}");
             let shape = tables.rule_shape(r).unwrap();
             assert_eq!(tables.shape_name(shape), Some(&rule.shape[..]));
-            let mut tally = 0;
-            assert!(list.iter().all(|&v| !tables.verdict(v.into(), shape, &mut tally).unwrap()));
-            assert_eq!(tally as usize, list.len());
+            let mut tallies = Tallies::new();
+            assert!(list.iter().all(|&v| !tables.verdict(r % 8, v.into(), shape, &mut tallies).unwrap()));
+            let counts = [0, 1, 2, 3, 4, 5, 6, 7].map(|c| if c == r % 8 { list.len() as u32 } else { 0 });
+            assert_eq!(tallies.counts, counts);
         }
     }
 }
@@ -74,12 +75,14 @@ fn verdicts_on_book_b() {
     let mut tables = Tables::new();
     tables.read(B).unwrap();
     let level = tables.shape("level").unwrap();
-    let mut tally = u32::MAX - 2;
-    let mut verdict = |name| tables.verdict(tables.node(name).unwrap(), level, &mut tally);
+    let mut tallies = Tallies { counts: [0, 0, 0, 0, 0, 0, 0, u32::MAX - 1] };
+    let mut verdict = |name| tables.verdict(7, tables.node(name).unwrap(), level, &mut tallies);
     assert_eq!([verdict("left"), verdict("right"), verdict("h240")], [Ok(false), Ok(false), Ok(true)]);
-    assert_eq!(tally, u32::MAX);
-    assert_eq!(tables.verdict(4, level, &mut tally), Err(refused(Ground::Absent, 0)));
-    assert_eq!(tables.verdict(0, 1, &mut tally), Err(refused(Ground::Absent, 0)));
+    assert_eq!(tallies.counts, [0, 0, 0, 0, 0, 0, 0, u32::MAX], "a tally stays at its greatest value");
+    assert_eq!(tables.verdict(0, 4, level, &mut tallies), Err(refused(Ground::Absent, 0)));
+    assert_eq!(tables.verdict(8, 0, 1, &mut tallies), Err(refused(Ground::Absent, 0)), "10 comes before 11");
+    assert_eq!(tables.verdict(8, 0, level, &mut tallies), Err(refused(Ground::Console, 0)));
+    assert_eq!(tallies.counts, [0, 0, 0, 0, 0, 0, 0, u32::MAX], "a refusal moves no tally");
 }
 
 #[test]
@@ -111,7 +114,7 @@ fn short_buffers_and_strange_tables_are_refused() {
     let strange = Err(refused(Ground::Malformed, 0));
     let empty = Tables { names: vec![], cells: vec![], values: vec![] };
     assert_eq!(empty.clone().read(B).map(|_| ()), short);
-    assert_eq!(empty.verdict(0, 0, &mut 0).map(|_| ()), short);
+    assert_eq!(empty.verdict(0, 0, 0, &mut Tallies::new()).map(|_| ()), short);
     let mut tables = Tables::new();
     tables.read(B).unwrap();
     assert_eq!(tables.compile(&mut Plan { cells: vec![] }).map(|_| ()), short);

@@ -5,6 +5,9 @@
 // melivanoup_report.
 use compiler::Compiled;
 use compiler::compile;
+use consoles::CONSOLES;
+use consoles::load;
+use consoles::store;
 use lists::Listed;
 use lists::list;
 use model::Refusal;
@@ -24,7 +27,7 @@ ghost use mathlib.Core.Bool.{false};
 ghost use Rattle.model.specs.Refusals.{codeOf, lineOf};
 ghost use Rattle.model.specs.Answers.{refusalNumber, refusalLine, valueOr};
 ghost use Rattle.reader.specs.Answers.{noCounts, readAnswer, namesOf, cellsOf, valuesOf};
-ghost use Rattle.verdict.specs.Answers.{verdictAnswer, tallied};
+ghost use Rattle.verdict.specs.Answers.{question, reply};
 ghost use Rattle.compiler.specs.Answers.{compileAnswer, planAfter};
 ghost use Rattle.runner.specs.Run.{runAnswer, workAfter};
 ghost use Rattle.lists.specs.Answers.{listAnswer, rowAfter};
@@ -90,37 +93,37 @@ pub extern "C" fn melivanoup_read(
     }
 }
 
-// The direct verdict: 1 where the node conforms to the shape, else 0; and the tally, which comes in and goes out.
+// The direct verdict: 1 where the node conforms to the shape, else 0; and the tallies, which come in and go out.
 #[no_mangle]
 pub extern "C" fn melivanoup_verdict(
     names: &[u8],
     cells: &[u16],
     values: &[i64],
+    console: usize,
     node: usize,
     shape: usize,
+    tallies: &mut [u32],
     conforms: &mut u32,
-    tally: &mut u32,
 ) -> u32
-    ensures { λ r. ⌜ r ≡ refusalNumber (verdictAnswer (now (names .entry)) (now (cells .entry)) (now (values .entry)) node shape) ⌝ }
-    ensures { λ _. ⌜ now (conforms .exit) ≡ oneIf (valueOr false (verdictAnswer (now (names .entry)) (now (cells .entry)) (now (values .entry)) node shape)) ⌝ }
-    ensures { λ _. ⌜ now (tally .exit) ≡ tallied (verdictAnswer (now (names .entry)) (now (cells .entry)) (now (values .entry)) node shape) (now (tally .entry)) ⌝ }
+    ensures { λ r. ⌜ r ≡ refusalNumber (reply (now (names .entry)) (now (cells .entry)) (now (values .entry)) (now (tallies .entry)) (question console node shape) .answer) ⌝ }
+    ensures { λ _. ⌜ now (conforms .exit) ≡ oneIf (valueOr false (reply (now (names .entry)) (now (cells .entry)) (now (values .entry)) (now (tallies .entry)) (question console node shape) .answer)) ⌝ }
+    ensures { λ _. ⌜ now (tallies .exit) ≡ reply (now (names .entry)) (now (cells .entry)) (now (values .entry)) (now (tallies .entry)) (question console node shape) .tallies ⌝ }
 {
-    let outcome = verdict(names, cells, values, node, shape, *tally);
-    *tally = outcome.tally;
+    *conforms = 0;
+    if tallies.len() < CONSOLES {
+        return number(Refusal::Short);
+    }
+    let held = load(tallies);
+    let outcome = verdict(names, cells, values, console, node, shape, held);
+    store(tallies, outcome.tallies);
     let answer = outcome.answer;
     match answer {
         Judged::Yes => {
             *conforms = 1;
             0
         }
-        Judged::No => {
-            *conforms = 0;
-            0
-        }
-        Judged::Refused(r) => {
-            *conforms = 0;
-            number(r)
-        }
+        Judged::No => 0,
+        Judged::Refused(r) => number(r),
     }
 }
 

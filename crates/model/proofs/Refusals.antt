@@ -2,11 +2,11 @@
 use Prim.Native.Nat.{_≤_}
 use native.Mathlib.Omega.{arith}
 use Rattle.model.specs.declared.Refusal.{Refusal}
-use Rattle.model.specs.declared.Refusal.the-variants.{TooLong, Grammar, Range, Nesting, Undefined, Repeated, Limit, Short, Malformed, Absent}
+use Rattle.model.specs.declared.Refusal.the-variants.{TooLong, Grammar, Range, Nesting, Undefined, Repeated, Limit, Short, Malformed, Absent, Console}
 use Rattle.model.specs.Refusals.{codeOf}
 
--- there are ten numbers
-pub code-range : (r : Refusal) → (1 ≤ codeOf r) × (codeOf r ≤ 10)
+-- there are eleven numbers
+pub code-range : (r : Refusal) → (1 ≤ codeOf r) × (codeOf r ≤ 11)
 code-range TooLong = (omega arith, omega arith)
 code-range (Grammar at) = (omega arith, omega arith)
 code-range (Range at) = (omega arith, omega arith)
@@ -17,3 +17,4 @@ code-range (Limit at) = (omega arith, omega arith)
 code-range Short = (omega arith, omega arith)
 code-range Malformed = (omega arith, omega arith)
 code-range Absent = (omega arith, omega arith)
+code-range Console = (omega arith, omega arith)

@@ -20,9 +20,13 @@ module _ {A : Type 0} where
   isGiven (refusal number line) = false
 
   -- the refusals by the caller, none of which has a line, in their order: 8 unless what is lent is long enough, 9 unless it is
-  -- well formed, 10 unless what is asked for is there
+  -- well formed, 10 unless what is asked for is there; then the answer x
+  abbrev pub checkedThen : (long formed there : Bool) → Answer A → Answer A
+  checkedThen long formed there x = cond long (cond formed (cond there x (refusal 10 0)) (refusal 9 0)) (refusal 8 0)
+
+  -- the same where no other refusal follows
   abbrev pub checked : (long formed there : Bool) → A → Answer A
-  checked long formed there a = cond long (cond formed (cond there (value a) (refusal 10 0)) (refusal 9 0)) (refusal 8 0)
+  checked long formed there a = checkedThen long formed there (value a)
 
   -- what stands afterwards in something lent: a refusal changes nothing
   abbrev pub unlessRefused : {B : Type 0} → Answer A → (new old : B) → B

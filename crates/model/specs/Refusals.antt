@@ -1,7 +1,7 @@
--- What document 01 says of each refusal: its number, and its line (0 for 1, 8, 9 and 10).
+-- What document 01 says of each refusal, and document 02 of the eleventh: its number, and its line (0 for 1 and from 8 on).
 use Prim.Native.Nat.{ℕ}
 use Rattle.model.specs.declared.Refusal.{Refusal}
-use Rattle.model.specs.declared.Refusal.the-variants.{TooLong, Grammar, Range, Nesting, Undefined, Repeated, Limit, Short, Malformed, Absent}
+use Rattle.model.specs.declared.Refusal.the-variants.{TooLong, Grammar, Range, Nesting, Undefined, Repeated, Limit, Short, Malformed, Absent, Console}
 
 abbrev pub codeOf : Refusal → ℕ
 codeOf TooLong = 1
@@ -14,6 +14,7 @@ codeOf (Limit at) = 7
 codeOf Short = 8
 codeOf Malformed = 9
 codeOf Absent = 10
+codeOf Console = 11
 
 abbrev pub lineOf : Refusal → ℕ
 lineOf TooLong = 0
@@ -26,3 +27,4 @@ lineOf (Limit at) = at
 lineOf Short = 0
 lineOf Malformed = 0
 lineOf Absent = 0
+lineOf Console = 0

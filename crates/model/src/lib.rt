@@ -74,9 +74,10 @@ pub enum Refusal {
     Short,
     Malformed,
     Absent,
+    Console,
 }
 
-// The number of document 01.
+// The number of document 01; 11 of document 02.
 pub fn code(r: Refusal) -> usize
     ensures { λ n. ⌜ n ≡ codeOf r ⌝ }
 {
@@ -91,6 +92,7 @@ pub fn code(r: Refusal) -> usize
         Refusal::Short => 8,
         Refusal::Malformed => 9,
         Refusal::Absent => 10,
+        Refusal::Console => 11,
     }
 }
 
@@ -109,5 +111,6 @@ pub fn line(r: Refusal) -> usize
         Refusal::Short => 0,
         Refusal::Malformed => 0,
         Refusal::Absent => 0,
+        Refusal::Console => 0,
     }
 }

@@ -9,7 +9,7 @@ use lib.IntN.{ℤ}
 use lib.ListN.{length, take}
 use Rattle.text.specs.Decimals.{decimal}
 use Rattle.model.specs.declared.Refusal.{Refusal}
-use Rattle.model.specs.declared.Refusal.the-variants.{TooLong, Grammar, Range, Nesting, Undefined, Repeated, Limit, Short, Malformed, Absent}
+use Rattle.model.specs.declared.Refusal.the-variants.{TooLong, Grammar, Range, Nesting, Undefined, Repeated, Limit, Short, Malformed, Absent, Console}
 use Rattle.model.specs.Refusals.{codeOf, lineOf}
 use Rattle.model.specs.Answers.{Answer, value, refusal}
 use Rattle.model.proofs.Answers.{Answering, done}
@@ -55,6 +55,7 @@ refusal-fits (Limit at) h = with-line 7 at (omega arith) h
 refusal-fits Short h = with-line 8 0 (omega arith) h
 refusal-fits Malformed h = with-line 9 0 (omega arith) h
 refusal-fits Absent h = omega (arith, two-digits 10 (omega arith), two-digits 0 (omega arith))
+refusal-fits Console h = omega (arith, two-digits 11 (omega arith), two-digits 0 (omega arith))
 
 module _ (number at : ℕ) (page : List ℕ) where
   pub refusal-answers : Answering (leb refusalCount (length page)) true true (length (refusalReport number at)) (over (refusalReport number at) page) page (refusalAnswer number at page) (refusalAfter number at page)

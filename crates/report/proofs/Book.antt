@@ -214,7 +214,7 @@ module _ (b : Book) (v : valid b ≡ true) where
       pub report-read : partsJoined (partIn (encodeNames b ++ t) (encodeCells b) ls ks) (length (rules b) + 2) ≡ report b
       report-read = joined-same (partIn (encodeNames b ++ t) (encodeCells b) ls ks) (part b) part-read (length (rules b) + 2) ∙ parts-joined b
 
-      -- ---- what the operation answers: of the ten refusals 8 alone
+      -- ---- what the operation answers: of all refusals 8 alone
       module _ (past : List ℕ) (vs : List ℤ) (k : ℕ) (page : List ℕ) (inside : k ≤ length (rules b) + 1) where
         abbrev Cs : List ℕ
         Cs = encodeCells b ++ past

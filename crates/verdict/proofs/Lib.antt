@@ -4,3 +4,5 @@ pub mod Holds
 pub mod Along
 pub mod Settling
 pub mod Answers
+pub mod Sessions
+pub mod Calls

@@ -1,6 +1,7 @@
 // The direct verdict: whether a node conforms to a shape, over lent tables.
 //
-// Operations: verdict. It answers for any tables and numbers, with refusal 8, 9 or 10 where document 01 asks for one.
+// Operations: verdict. It answers for any tables and numbers, with refusal 8, 9, 10 or 11 where documents 01 and 02 ask for
+// one, and hands back the consoles' tallies.
 //
 // No pair of a form entry and a node is decided twice: settle calls itself on entries before its own, for sets of nodes, and
 // what is known is kept. Few nodes are decided one by one, each from its own ends; many from the ends of all nodes at once. Of
@@ -8,6 +9,8 @@
 use base::pick;
 use conditions::insert_if;
 use conditions::test_holds;
+use consoles::Tallies;
+use consoles::is_console;
 use entries::all_holds;
 use entries::count_holds;
 use entries::end_at;
@@ -49,7 +52,6 @@ use tables::reads::wide;
 ghost use mathlib.Core.Path.{_≡_};
 ghost use mathlib.Core.Bool.{true, not, cond, _&&_};
 ghost use Prim.Native.Nat.{ℕ, _+_, _*_, _<_, _≤_};
-ghost use lib.Dec.{eqb};
 ghost use lib.ListN.{length};
 ghost use Rattle.base.specs.Bounded.{every};
 ghost use Rattle.nodeset.specs.Words.{has, wordsOf, with};
@@ -62,7 +64,7 @@ ghost use Rattle.tables.specs.Decode.{graphAt, shapeAt};
 ghost use Rattle.tables.specs.WellFormed.{wellFormed};
 ghost use Rattle.paths.specs.Facts.{Tables};
 ghost use Rattle.stepsets.specs.Ends.{RowsFor};
-ghost use Rattle.verdict.specs.Answers.{answerOf, answerOn, verdictAnswer, tallied};
+ghost use Rattle.verdict.specs.Answers.{question, answerOf, replyOf, answerOn, replied, reply};
 ghost use Rattle.verdict.specs.Memo.{yesPlace, noPlace, Ready, Decided, Settled, memoCount};
 ghost use Rattle.verdict.specs.Parts.{looksAtEnds, hasParts, firstPart, secondPart, looksAt, PartsKnown, ConformingSet, Enough};
 
@@ -373,16 +375,16 @@ pub enum Judged {
     Refused(Refusal),
 }
 
-// An answer, and the tally of verdicts given.
+// An answer, and the tallies afterwards.
 pub struct Outcome {
     pub answer: Judged,
-    pub tally: u32,
+    pub tallies: Tallies,
 }
 
-// The answer on tables in their limits: 9 comes before 10.
-fn answer_on(cells: &[u16], values: &[i64], node: usize, shape: usize) -> Judged
+// The answer on tables in their limits: 9 comes before 10, and 10 before 11.
+fn answer_on(cells: &[u16], values: &[i64], console: usize, node: usize, shape: usize) -> Judged
     requires { ⌜ cellCount ≤ length (now cells) ⌝ }
-    ensures { λ r. ⌜ answerOf r ≡ answerOn (now (cells .entry)) (now (values .entry)) node shape ⌝ }
+    ensures { λ r. ⌜ answerOf r ≡ answerOn (now (cells .entry)) (now (values .entry)) (question console node shape) ⌝ }
 {
     let ok = tablecheck::well_formed(cells);
     let there = (node < node_count(cells)) & (shape < shape_count(cells));
@@ -391,6 +393,9 @@ fn answer_on(cells: &[u16], values: &[i64], node: usize, shape: usize) -> Judged
     }
     if !there {
         return Judged::Refused(Refusal::Absent);
+    }
+    if !is_console(console) {
+        return Judged::Refused(Refusal::Console);
     }
     if !conforming(cells, values, root(cells, shape), NodeNo(node as u16)) {
         return Judged::No;
@@ -409,48 +414,38 @@ fn is_given(answer: Judged) -> bool
     }
 }
 
-// One more for a verdict given, up to the greatest number of 32 bits.
-fn counted(given: bool, tally: u32) -> u32
-    ensures { λ r. ⌜ r ≡ cond given (cond (eqb tally 4294967295) tally (tally + 1)) tally ⌝ }
+// The answer with the tallies afterwards.
+fn with_tallies(answer: Judged, console: usize, tallies: Tallies) -> Outcome
+    ensures { λ r. ⌜ replyOf r ≡ replied (answerOf answer) console (tallies .counts) ⌝ }
 {
-    if !given {
-        return tally;
-    }
-    if tally == 4294967295 {
-        return 4294967295;
-    }
-    tally + 1
-}
-
-// The answer with the tally afterwards.
-fn with_tally(answer: Judged, tally: u32) -> Outcome
-    ensures { λ r. ⌜ (r .answer ≡ answer) × (r .tally ≡ tallied (answerOf answer) tally) ⌝ }
-{
-    let after = counted(is_given(answer), tally);
+    let after = tallies.after(console, is_given(answer));
     Outcome {
         answer,
-        tally: after,
+        tallies: after,
     }
 }
 
-// Whether a node conforms to a shape, both by number, over lent tables; and the tally of verdicts given, which is handed back.
-// Refusal 8 where a table is shorter than its limit, 9 where the tables are not well formed, 10 where node or shape is not there.
+// The reply to a direct question: whether a node conforms to a shape, both by number, over lent tables; and the tallies of the
+// consoles, which are handed back with one more for the console that asked.
+// Refusal 8 where a table is shorter than its limit, 9 where the tables are not well formed, 10 where node or shape is not there,
+// 11 where there is no such console; then no tally moves.
 pub fn verdict(
     names: &[u8],
     cells: &[u16],
     values: &[i64],
+    console: usize,
     node: usize,
     shape: usize,
-    tally: u32,
+    tallies: Tallies,
 ) -> Outcome
-    ensures answer { λ r. ⌜ answerOf (r .answer) ≡ verdictAnswer (now (names .entry)) (now (cells .entry)) (now (values .entry)) node shape ⌝ }
-    ensures counted { λ r. ⌜ r .tally ≡ tallied (verdictAnswer (now (names .entry)) (now (cells .entry)) (now (values .entry)) node shape) tally ⌝ }
+    ensures { λ r. ⌜ replyOf r ≡ reply (now (names .entry)) (now (cells .entry)) (now (values .entry)) (tallies .counts) (question console node shape) ⌝ }
 {
     if !tables::lent::enough(names, cells, values) {
-        return with_tally(Judged::Refused(Refusal::Short), tally);
+        return with_tallies(Judged::Refused(Refusal::Short), console, tallies);
     }
-    with_tally(
-        answer_on(&cells[..CELLS], &values[..VALUES], node, shape),
-        tally,
+    with_tallies(
+        answer_on(&cells[..CELLS], &values[..VALUES], console, node, shape),
+        console,
+        tallies,
     )
 }

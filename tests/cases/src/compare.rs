@@ -33,15 +33,19 @@ fn difference(expected: &Written, got: &Written) -> String {
     format!("{}\n  expected {}\n  got      {}", title.trim_start(), line(expected, k), line(got, k))
 }
 
-/// Fails with a list of the cases that are not as `data/SUBJECT.out` has them, or where it has none.
-pub fn compare(subject: &str, written: &str) {
-    let out = crate::text(&format!("{subject}.out"));
-    let (expected, got) = (split(&out), split(written));
-    assert!(!expected.is_empty(), "{subject}.out has no case");
+/// Fails with a list of the cases that are not as they are to be, or where there is none.
+pub fn compare(subject: &str, expected: &str, written: &str) {
+    let (expected, got) = (split(expected), split(written));
+    assert!(!expected.is_empty(), "{subject} has no case");
     let (cases, none) = (expected.len().max(got.len()), Written::default());
     let pairs = (0..cases).map(|k| (expected.get(k).unwrap_or(&none), got.get(k).unwrap_or(&none)));
     let differ: Vec<String> = pairs.filter(|(e, g)| e != g).map(|(e, g)| difference(e, g)).collect();
     // to the stream itself, since the harness keeps back what a test prints
     writeln!(std::io::stdout(), "\n{subject}: {} passed, {} failed", cases - differ.len(), differ.len()).expect("a stream");
     assert!(differ.is_empty(), "{subject}: {} of {cases} cases differ\n{}", differ.len(), differ.join("\n"));
+}
+
+/// Fails where the cases are not as `data/SUBJECT.out` has them.
+pub fn compare_file(subject: &str, written: &str) {
+    compare(subject, &crate::text(&format!("{subject}.out")), written);
 }

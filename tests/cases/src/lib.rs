@@ -1,4 +1,5 @@
-//! Cases by hand for the proved library: `data/SUBJECT.txt` has them, `data/SUBJECT.out` what they must write.
+//! Cases by hand for the proved library: `data/SUBJECT.txt` has them, `data/SUBJECT.out` what they must write. The questions of
+//! `tests/asks` have each a file of their own.
 //!
 //! The texts of `verdict`, `plan` and `runner` give tables and a plan line by line: a word, numbers (0 where one is left out),
 //! and what they are. The codes are those of docs/LAYOUT.md.
@@ -15,7 +16,7 @@
 mod compare;
 mod input;
 
-pub use compare::compare;
+pub use compare::{compare, compare_file};
 pub use input::{cases, column, places, Case, Input, Line};
 
 /// A file of `data`.

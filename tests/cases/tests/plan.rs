@@ -45,5 +45,5 @@ fn plans_are_as_the_table_of_steps_says() {
         part.lines.iter().for_each(|line| input.store(line));
         written += &format!("{}\n{}", part.title, plan_of(&input));
     }
-    cases::compare("plan", &written);
+    cases::compare_file("plan", &written);
 }

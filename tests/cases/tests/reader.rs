@@ -123,5 +123,5 @@ fn books_give_their_tables_or_refusals() {
     small(&mut written);
     limits(&mut written);
     short(&mut written);
-    cases::compare("reader", &written);
+    cases::compare_file("reader", &written);
 }

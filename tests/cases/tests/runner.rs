@@ -56,5 +56,5 @@ fn ends() -> String {
 
 #[test]
 fn each_step_has_its_set_and_nothing_else_is_written() {
-    cases::compare("runner", &(small() + &ends()));
+    cases::compare_file("runner", &(small() + &ends()));
 }

@@ -1,6 +1,7 @@
 //! Tables made to be slow, of 1,024 nodes and 4,096 facts, and what the verdict says of one node of each.
 
 use cases::{Input, Line};
+use melivanoup::Tallies;
 use std::time::{Duration, Instant};
 
 /// A guard against what does not end, and no figure of speed: each takes well under a second.
@@ -94,7 +95,7 @@ fn ask(title: &str, make: Make) -> String {
     let mut made = dense();
     let shape = make(&mut made);
     let (tables, begun) = (made.tables(), Instant::now());
-    let told = tables.verdict(7, shape, &mut 0);
+    let told = tables.verdict(0, 7, shape, &mut Tallies::new());
     let late = if begun.elapsed() > LIMIT { format!(", after {} s", begun.elapsed().as_secs()) } else { String::new() };
     match told {
         Ok(true) => format!("{title}: yes{late}\n"),
@@ -115,5 +116,5 @@ fn the_slowest_tables_are_answered_in_time() {
         ("onelang at every node", |made| many(made, 20, 0)),
     ];
     let written: String = slow.iter().map(|&(title, make)| ask(title, make)).collect();
-    cases::compare("speed", &written);
+    cases::compare_file("speed", &written);
 }

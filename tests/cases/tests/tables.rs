@@ -1,7 +1,7 @@
 //! A small well-formed table, damaged one cell at a time: which are well formed, and which are long enough. `tables.txt` has a
 //! line `CELL VALUE what it is` for each cell of the table that is not zero, an empty line, and a line for each damage.
 
-use melivanoup::{Ground, Plan, Refusal, Tables};
+use melivanoup::{Ground, Plan, Refusal, Tables, Tallies};
 
 /// What a line says: a value into a cell.
 fn change(tables: &mut Tables, line: &str) {
@@ -14,7 +14,7 @@ fn change(tables: &mut Tables, line: &str) {
 fn answer(what: &str, tables: &Tables, ground: Ground) -> String {
     let compiled = tables.compile(&mut Plan::new()).map(|_| ());
     let refused = Err(Refusal { ground, line: 0 });
-    let same = (tables.verdict(0, 0, &mut 0).map(|_| ()) == refused) == (compiled == refused);
+    let same = (tables.verdict(0, 0, 0, &mut Tallies::new()).map(|_| ()) == refused) == (compiled == refused);
     match compiled {
         _ if !same => format!("{what}: the verdict says otherwise\n"),
         Ok(()) => format!("{what}: yes\n"),
@@ -48,5 +48,5 @@ fn what_is_not_well_formed_is_refused() {
         change(&mut damaged, line);
         written += &answer(line, &damaged, Ground::Malformed);
     }
-    cases::compare("tables", &written);
+    cases::compare_file("tables", &written);
 }

@@ -6,6 +6,7 @@ use crate::{books, hostile};
 use reference::plan::{self, Plan, PLAN_CELLS};
 use reference::set::Set;
 use reference::tables::{self, Tables, CELLS, NAMES, VALUES};
+use reference::verdicts::{self, Question, TALLIES};
 use reference::{reader, Book};
 use std::fmt::Debug;
 
@@ -30,6 +31,11 @@ impl Cell for u8 {
 impl Cell for u16 {
     fn any(r: &Random) -> u16 {
         r.next() as u16
+    }
+}
+impl Cell for u32 {
+    fn any(r: &Random) -> u32 {
+        r.next() as u32
     }
 }
 impl Cell for u64 {
@@ -298,13 +304,32 @@ impl Case<'_> {
         self.same("compile: the tables are as before", three == before, true)
     }
 
-    /// Every node and shape, or some of many, and numbers that are not there.
+    /// Questions of all consoles, one after the other, the tallies handed on.
     fn verdicts(&mut self, t: &Tables, book: &Option<Book>) -> Outcome {
         let three = self.three(t);
-        let (nodes, shapes, met) = match book {
-            Some(book) => (book.nodes(), book.shapes.len(), book.met()),
-            None => (2, 2, Vec::new()),
-        };
+        let met = book.as_ref().map_or(Vec::new(), Book::met);
+        let questions = self.questions(&three, book);
+        let mut tallies: Vec<u32> = lend(self.r, TALLIES);
+        tallies.iter_mut().for_each(|tally| *tally = self.r.pick(&[*tally, 0, 7, u32::MAX - 1, u32::MAX]));
+        let mut after = tallies.clone();
+        let before = three.clone();
+        for &q in &questions {
+            let told = if three.enough() { verdicts::ask(book.as_ref(), &met, q, &mut after) } else { Err(8) };
+            let expected = told.map_or_else(|refusal| (refusal, 0), |conforms| (0, conforms as u32));
+            let answer = library::verdict(three.lent(), q, &mut tallies);
+            self.same(&format!("verdict on {q:?}: refusal, conforms"), answer, expected)?;
+            self.same_slice(&format!("verdict on {q:?}: tallies"), &tallies, &after)?;
+        }
+        let (q, few) = (questions[0], tallies.len().min(TALLIES - 1));
+        self.same("verdict: tallies too short", library::verdict(three.lent(), q, &mut tallies[..few]), (8, 0))?;
+        self.same_slice("verdict: tallies too short", &tallies, &after)?;
+        self.own_questions(&three, &questions)?;
+        self.same("verdict: the tables are as before", three == before, true)
+    }
+
+    /// Every node and shape, or some of many, and numbers that are not there; by consoles that there are, mostly.
+    fn questions(&mut self, three: &Three, book: &Option<Book>) -> Vec<Question> {
+        let (nodes, shapes) = book.as_ref().map_or((2, 2), |book| (book.nodes(), book.shapes.len()));
         let mut asked: Vec<(usize, usize)> = Vec::new();
         if !three.enough() {
             asked.push((0, 0));
@@ -317,23 +342,25 @@ impl Case<'_> {
         }
         let far = self.r.pick(&[1, 1024, usize::MAX]);
         asked.extend([(nodes, 0), (0, shapes), (nodes.saturating_add(far), shapes), (self.r.below(1024), self.r.below(64))]);
-        let before = three.clone();
-        for (v, s) in asked {
-            let tally = self.r.pick(&[0, 7, u32::MAX - 1, u32::MAX]);
-            let refusal = match book {
-                _ if !three.enough() => 8,
-                None => 9,
-                Some(_) if v >= nodes || s >= shapes => 10,
-                Some(_) => 0,
-            };
-            let expected = match book {
-                Some(book) if refusal == 0 => (0, met[book.shapes[s]].has(v) as u32, tally.saturating_add(1)),
-                _ => (refusal, 0, tally),
-            };
-            let answer = library::verdict(three.lent(), v, s, tally);
-            self.same(&format!("verdict of node {v}, shape {s}: refusal, conforms, tally"), answer, expected)?;
-        }
-        self.same("verdict: the tables are as before", three == before, true)
+        // each in turn changes places with one before it
+        (1..asked.len()).for_each(|k| asked.swap(k, self.r.below(k + 1)));
+        let console = || if self.r.once_in(8) { self.r.pick(&[7, 8, 9, 15, 16, 1 << 32, usize::MAX]) } else { self.r.below(TALLIES) };
+        asked.into_iter().map(|(node, shape)| Question { console: console(), node, shape }).collect()
+    }
+
+    /// From eight zeros a console has the same answers and the same tally where it asks alone.
+    fn own_questions(&mut self, three: &Three, questions: &[Question]) -> Outcome {
+        let session = |of: &[Question]| {
+            let mut tallies = [0; TALLIES];
+            (of.iter().map(|&q| library::verdict(three.lent(), q, &mut tallies)).collect::<Vec<_>>(), tallies)
+        };
+        let console = self.r.below(TALLIES);
+        let own: Vec<_> = questions.iter().copied().filter(|q| q.console == console).collect();
+        let ((all, tallies), (alone, tallies_alone)) = (session(questions), session(&own));
+        let heard: Vec<_> = questions.iter().zip(all).filter(|(q, _)| q.console == console).map(|(_, answer)| answer).collect();
+        self.same(&format!("verdict: the answers to console {console}, beside others and alone"), heard, alone)?;
+        let what = format!("verdict: the tally of console {console}, beside others and alone");
+        self.same(&what, tallies[console], tallies_alone[console])
     }
 
     /// Parts of a report with lists of any content.

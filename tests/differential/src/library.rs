@@ -1,5 +1,7 @@
 //! The proved operations, as `rt staticlib melivanoup` exports them: each answers the refusal's number, 0 for none.
 
+use reference::verdicts::Question;
+
 pub struct Read {
     pub refusal: u32,
     pub line: usize,
@@ -14,8 +16,8 @@ unsafe extern "C" {
         values_len: usize, line: *mut usize, nodes: *mut usize, facts: *mut usize, rules: *mut usize,
     ) -> u32;
     fn melivanoup_verdict(
-        names: *const u8, names_len: usize, cells: *const u16, cells_len: usize, values: *const i64, values_len: usize, node: usize,
-        shape: usize, conforms: *mut u32, tally: *mut u32,
+        names: *const u8, names_len: usize, cells: *const u16, cells_len: usize, values: *const i64, values_len: usize,
+        console: usize, node: usize, shape: usize, tallies: *mut u32, tallies_len: usize, conforms: *mut u32,
     ) -> u32;
     fn melivanoup_compile(
         names: *const u8, names_len: usize, cells: *const u16, cells_len: usize, values: *const i64, values_len: usize,
@@ -64,16 +66,16 @@ pub fn read(book: &[u8], names: &mut [u8], cells: &mut [u16], values: &mut [i64]
     r
 }
 
-/// the refusal, whether the node conforms, the tally
-pub fn verdict(t: Lent, node: usize, shape: usize, tally: u32) -> (u32, u32, u32) {
-    let (mut conforms, mut tally) = (BEFORE as u32, tally);
+/// the refusal, and whether the node conforms
+pub fn verdict(t: Lent, q: Question, tallies: &mut [u32]) -> (u32, u32) {
+    let mut conforms = BEFORE as u32;
     let refusal = unsafe {
         melivanoup_verdict(
-            t.names.as_ptr(), t.names.len(), t.cells.as_ptr(), t.cells.len(), t.values.as_ptr(), t.values.len(), node, shape,
-            &mut conforms, &mut tally,
+            t.names.as_ptr(), t.names.len(), t.cells.as_ptr(), t.cells.len(), t.values.as_ptr(), t.values.len(), q.console,
+            q.node, q.shape, tallies.as_mut_ptr(), tallies.len(), &mut conforms,
         )
     };
-    (refusal, conforms, tally)
+    (refusal, conforms)
 }
 
 /// the refusal and the number of steps

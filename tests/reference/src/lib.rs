@@ -1,10 +1,11 @@
-//! A second implementation of document 01, written from the document alone: simple, unproved, for comparison. Where cells stand
-//! in lent tables and plans is taken from docs/LAYOUT.md; nothing is taken from the project's code.
+//! A second implementation of documents 01 and 02, written from the documents alone: simple, unproved, for comparison. Where
+//! cells stand in lent tables and plans is taken from docs/LAYOUT.md; nothing is taken from the project's code.
 
 pub mod plan;
 pub mod reader;
 pub mod set;
 pub mod tables;
+pub mod verdicts;
 
 use set::Set;
 use std::collections::BTreeSet;

@@ -1,0 +1,61 @@
+//! The questions of `tests/asks`: `NAME.ask` is one about the book `NAME.book`, `NAME.ans` its answer.
+//!
+//! | Question | Answer |
+//! |---|---|
+//! | `session`, then lines `CONSOLE NODE SHAPE` | a line for each, `yes`, `no` or `refused N`; then `tallies T0 .. T7` |
+//!
+//! A session begins with eight zeros, or with what a line `from T0 .. T7` says.
+
+use melivanoup::{Tables, Tallies};
+use std::collections::BTreeSet;
+use std::path::{Path, PathBuf};
+
+fn numbers<T: std::str::FromStr>(words: &str) -> Vec<T> {
+    words.split(' ').map(|word| word.parse().unwrap_or_else(|_| panic!("{words:?}: {word:?} is no number"))).collect()
+}
+
+/// Direct questions, one after the other; the tallies are handed on.
+fn session(tables: &Tables, lines: &[&str]) -> String {
+    let (mut written, mut tallies) = (String::new(), Tallies::new());
+    let from = lines.first().and_then(|line| line.strip_prefix("from "));
+    if let Some(from) = from {
+        tallies.counts = numbers(from).try_into().expect("eight tallies");
+    }
+    for line in &lines[from.iter().len()..] {
+        let question: Vec<usize> = numbers(line);
+        let [console, node, shape] = question[..] else { panic!("{line:?} is no question") };
+        written += &match tables.verdict(console, node, shape, &mut tallies) {
+            Ok(true) => "yes\n".to_owned(),
+            Ok(false) => "no\n".to_owned(),
+            Err(why) => format!("refused {}\n", why.ground.number()),
+        };
+    }
+    written + &tallies.counts.iter().fold("tallies".to_owned(), |text, tally| format!("{text} {tally}")) + "\n"
+}
+
+fn answer(ask: &Path) -> String {
+    let mut tables = Tables::new();
+    tables.read(&std::fs::read(ask.with_extension("book")).expect("a book")).expect("a book that is accepted");
+    let text = std::fs::read_to_string(ask).expect("a question");
+    let lines: Vec<&str> = text.lines().collect();
+    match lines[0] {
+        "session" => session(&tables, &lines[1..]),
+        word => panic!("{}: what is {word:?}?", ask.display()),
+    }
+}
+
+#[test]
+fn questions_have_their_answers() {
+    let folder = Path::new(env!("CARGO_MANIFEST_DIR")).join("../asks");
+    let files = std::fs::read_dir(&folder).expect("a folder").map(|file| file.expect("a file").path());
+    // so that a book or an answer without its question is missed
+    let asks: BTreeSet<PathBuf> = files.map(|file| file.with_extension("ask")).collect();
+    let (mut expected, mut written) = (String::new(), String::new());
+    for ask in &asks {
+        let title = format!("- {}\n", ask.file_stem().expect("a name").to_string_lossy());
+        let told = std::fs::read_to_string(ask.with_extension("ans")).expect("an answer");
+        expected += &(title.clone() + &told);
+        written += &(title + &answer(ask));
+    }
+    cases::compare("asks", &expected, &written);
+}
