@@ -1,6 +1,6 @@
 // The consoles that put direct questions, and their tallies: for each console, how many of its questions were answered.
 //
-// Operations:
+// For the crates above; load asks for eight:
 //   is_console            a console's number
 //   Tallies::after        the tallies after a question of a console
 //   load, store           tallies that a caller lends: the first eight of them by value, and tallies over the first eight
