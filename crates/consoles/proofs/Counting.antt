@@ -21,7 +21,7 @@ counted-length c ts = length-set ts _ _
 -- no other console's
 pub counted-other : (c k : ℕ) (ts : List ℕ) → (k ≡ c → ⊥) → getD (counted c ts) k 0 ≡ getD ts k 0
 unfolding counted
-counted-other c k ts n = getD-set-other ts _ k _ 0 n
+counted-other c k ts n = getD-set-other ts c k (oneMore (getD ts c 0)) 0 n
 
 -- the console's own by one, up to the greatest
 pub counted-own : (c : ℕ) (ts : List ℕ) → c < length ts → getD (counted c ts) c 0 ≡ oneMore (getD ts c 0)

@@ -27,8 +27,9 @@ use Rattle.encoding.proofs.WellFormed.{well-formed}
 use Rattle.grammar.specs.Writing.{render}
 use Rattle.grammar.specs.Valid.{valid}
 use Rattle.verdict.specs.Answers.{Question, toConsole, answerOn, verdictAnswer, tallied}
-use Rattle.verdict.specs.Sessions.{questionsOf, answersTo, givenIn, Heard, session, heardOf}
+use Rattle.verdict.specs.Sessions.{questionsOf, answersTo, givenIn, session, viewOf}
 use Rattle.verdict.proofs.Sessions.{tallied-length, tally-counts}
+use Rattle.validation.specs.Verdicts.{inBook, answerIn, viewIn}
 use Rattle.validation.proofs.Tables.{fine, names′, cells′, values′, cells-read, values-read, still-long}
 
 -- two conditionals with one test, whose first arms are the same where the test holds
@@ -36,48 +37,37 @@ cond-same : (t u : Bool) (x y d : Answer Bool) → t ≡ u → (u ≡ true → x
 cond-same t u x y d e f = ap (λ (k : Bool). cond k x d) e ∙ bool-cases (λ k. cond k x d ≡ cond k y d) u f (λ n. refl)
 
 module _ (s ns cs : List ℕ) (vs : List ℤ) (e : longEnough ns cs vs ≡ true) (b : Book) (v : valid b ≡ true) (r : render b ≡ s) where
-  -- the node and the shape are in the book
-  abbrev pub inBook : ℕ → ℕ → Bool
-  inBook node shape = ltb node (length (names nodes b)) && ltb shape (length (names shapes b))
-
   shape-read : (shape : ℕ) → shape < shapeCount (encodeCells b) → shapeAt (encodeCells b) (encodeValues b) (rootAt (encodeCells b) shape) ≡ def (schema b) shape
   unfolding schemaAt
   shape-read shape low =
       sym (at-values (λ i. shapeAt (encodeCells b) (encodeValues b) (rootAt (encodeCells b) i)) (shapeCount (encodeCells b)) shape top low)
       ∙ ap (λ (H : List Shape). getD H shape top) (schema-read b (fine s ns cs vs e b v r))
 
-  -- what the book answers
-  abbrev pub answerIn : Question → Answer Bool
-  answerIn q = cond (inBook (q .node) (q .shape)) (toConsole q (conformsIn b (q .node) (q .shape))) (refusal 10 0)
-
-  pub verdict-read : (ts : List ℕ) (q : Question) → consoleCount ≤ length ts → verdictAnswer (names′ s ns cs vs e b v r) (cells′ s ns cs vs e b v r) (values′ s ns cs vs e b v r) ts q ≡ answerIn q
+  pub verdict-read : (ts : List ℕ) (q : Question) → consoleCount ≤ length ts → verdictAnswer (names′ s ns cs vs e b v r) (cells′ s ns cs vs e b v r) (values′ s ns cs vs e b v r) ts q ≡ answerIn b q
   unfolding verdictAnswer answerOn conformsIn
   verdict-read ts q l =
       let node = q .node in
       let shape = q .shape in
       rw (still-long s ns cs vs e b v r, le-leb consoleCount (length ts) l, cells-read s ns cs vs e b v r, values-read s ns cs vs e b v r, well-formed b (fine s ns cs vs e b v r))
-      (cond-same (ltb node (nodeCount (encodeCells b)) && ltb shape (shapeCount (encodeCells b))) (inBook node shape) (toConsole q (conforms (graphAt (encodeCells b) (encodeValues b)) (shapeAt (encodeCells b) (encodeValues b) (rootAt (encodeCells b) shape)) node)) (toConsole q (conforms (graphOf b) (def (schema b) shape) node)) (refusal 10 0)
+      (cond-same (ltb node (nodeCount (encodeCells b)) && ltb shape (shapeCount (encodeCells b))) (inBook b q) (toConsole q (conforms (graphAt (encodeCells b) (encodeValues b)) (shapeAt (encodeCells b) (encodeValues b) (rootAt (encodeCells b) shape)) node)) (toConsole q (conforms (graphOf b) (def (schema b) shape) node)) (refusal 10 0)
       (ap₂ (λ (n m : ℕ). ltb node n && ltb shape m) (names-counted b nodes) (names-counted b shapes))
       (λ t.
       let low : shape < length (names shapes b) = ltb-true shape (length (names shapes b)) (and-right (ltb node (length (names nodes b))) (ltb shape (length (names shapes b))) t) in
       ap₂ (λ (g : Graph) (φ : Shape). toConsole q (conforms g φ node)) (graph-read b (fine s ns cs vs e b v r)) (shape-read shape (subst (λ n. shape < n) (sym (names-counted b shapes)) low))))
 
   -- ---- questions put one after the other, whatever was lent for the tables
-  answers-read : (c : ℕ) (ts : List ℕ) (qs : List Question) → consoleCount ≤ length ts → answersTo c qs (session (names′ s ns cs vs e b v r) (cells′ s ns cs vs e b v r) (values′ s ns cs vs e b v r) ts qs) ≡ map answerIn (questionsOf c qs)
+  answers-read : (c : ℕ) (ts : List ℕ) (qs : List Question) → consoleCount ≤ length ts → answersTo c qs (session (names′ s ns cs vs e b v r) (cells′ s ns cs vs e b v r) (values′ s ns cs vs e b v r) ts qs) ≡ map (answerIn b) (questionsOf c qs)
   unfolding session answersTo questionsOf
   answers-read c ts [] l = refl
   answers-read c ts (q ∷ qs) l =
       let x = verdictAnswer (names′ s ns cs vs e b v r) (cells′ s ns cs vs e b v r) (values′ s ns cs vs e b v r) ts q in
       let xs = answersTo c qs (session (names′ s ns cs vs e b v r) (cells′ s ns cs vs e b v r) (values′ s ns cs vs e b v r) (tallied x (q .console) ts) qs) in
       let next = answers-read c (tallied x (q .console) ts) qs (omega (arith, l, tallied-length x (q .console) ts)) in
-      bool-cases (λ own. cond own (x ∷ xs) xs ≡ map answerIn (cond own (q ∷ questionsOf c qs) (questionsOf c qs))) (eqb (q .console) c)
+      bool-cases (λ own. cond own (x ∷ xs) xs ≡ map (answerIn b) (cond own (q ∷ questionsOf c qs) (questionsOf c qs))) (eqb (q .console) c)
       (λ own. ap₂ (λ (y : Answer Bool) (ys : List (Answer Bool)). y ∷ ys) (verdict-read ts q l) next)
       (λ other. next)
 
   -- **a console's answers and its tally, from eight zeros, by the book and its own questions only**
-  abbrev pub heardIn : ℕ → List Question → Heard
-  heardIn c qs = let xs = map answerIn (questionsOf c qs) in record { answers = xs; tally = min (givenIn xs) greatest }
-
-  pub heard-read : (c : ℕ) (qs : List Question) → c < consoleCount → heardOf (names′ s ns cs vs e b v r) (cells′ s ns cs vs e b v r) (values′ s ns cs vs e b v r) c qs ≡ heardIn c qs
-  heard-read c qs l =
+  pub view-read : (c : ℕ) (qs : List Question) → c < consoleCount → viewOf (names′ s ns cs vs e b v r) (cells′ s ns cs vs e b v r) (values′ s ns cs vs e b v r) c qs ≡ viewIn b c qs
+  view-read c qs l =
       ap₂ (λ (ys : List (Answer Bool)) (t : ℕ). record { answers = ys; tally = t }) (answers-read c noTallies qs (omega arith)) (tally-counts (names′ s ns cs vs e b v r) (cells′ s ns cs vs e b v r) (values′ s ns cs vs e b v r) c qs l ∙ ap (λ (ys : List (Answer Bool)). min (givenIn ys) greatest) (answers-read c noTallies qs (omega arith)))

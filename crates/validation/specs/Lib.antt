@@ -1,3 +1,4 @@
 pub mod Lent
 pub mod Claim
 pub mod Whole
+pub mod Verdicts

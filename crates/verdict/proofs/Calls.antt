@@ -9,7 +9,7 @@ use borrow.Fn.Kinds.{Dens, resT, endedOf}
 use lib.IntN.{ℤ}
 use Rattle.consoles.specs.Tallies.{consoleCount, noTallies, greatest}
 use Rattle.verdict.specs.Answers.{Question, Reply, question, replyOf, reply}
-use Rattle.verdict.specs.Sessions.{questionsOf, givenIn, heardBy, session, Called}
+use Rattle.verdict.specs.Sessions.{questionsOf, givenIn, viewFrom, session, Called}
 use Rattle.verdict.specs.declared.Outcome.{Outcome}
 use Rattle.verdict.proofs.Sessions.{own-questions, tally-counts}
 use Rattle.verdict.proofs.verdict.Kinds as kinds
@@ -29,14 +29,14 @@ module _ (ns cs : List ℕ) (vs : List ℤ) where
   calls-session ts (q ∷ qs) (o ∷ os) k = ap₂ (λ (r : Reply) (rs : List Reply). r ∷ rs) (k .0) (calls-session (o .tallies .counts) qs os (k .1) ∙ ap (λ (r : Reply). session ns cs vs (r .tallies) qs) (k .0))
 
   -- of any two sequences of calls from eight zeros console c has the same answers and the same tally, if it put the same questions
-  pub own-calls : (c : ℕ) (qs ps : List Question) (os us : List Outcome) → Called ns cs vs noTallies qs os → Called ns cs vs noTallies ps us → questionsOf c qs ≡ questionsOf c ps → heardBy c noTallies qs (map replyOf os) ≡ heardBy c noTallies ps (map replyOf us)
+  pub own-calls : (c : ℕ) (qs ps : List Question) (os us : List Outcome) → Called ns cs vs noTallies qs os → Called ns cs vs noTallies ps us → questionsOf c qs ≡ questionsOf c ps → viewFrom c noTallies qs (map replyOf os) ≡ viewFrom c noTallies ps (map replyOf us)
   own-calls c qs ps os us k h e =
-      ap (heardBy c noTallies qs) (calls-session noTallies qs os k)
+      ap (viewFrom c noTallies qs) (calls-session noTallies qs os k)
       ∙ own-questions ns cs vs c qs ps e
-      ∙ ap (heardBy c noTallies ps) (sym (calls-session noTallies ps us h))
+      ∙ ap (viewFrom c noTallies ps) (sym (calls-session noTallies ps us h))
 
   -- and its tally is the number of its answered questions, up to the greatest
-  pub calls-counted : (c : ℕ) (qs : List Question) (os : List Outcome) → Called ns cs vs noTallies qs os → c < consoleCount → heardBy c noTallies qs (map replyOf os) .tally ≡ min (givenIn (heardBy c noTallies qs (map replyOf os) .answers)) greatest
+  pub calls-counted : (c : ℕ) (qs : List Question) (os : List Outcome) → Called ns cs vs noTallies qs os → c < consoleCount → viewFrom c noTallies qs (map replyOf os) .tally ≡ min (givenIn (viewFrom c noTallies qs (map replyOf os) .answers)) greatest
   calls-counted c qs os k l =
       let e = calls-session noTallies qs os k in
-      ap (λ (rs : List Reply). heardBy c noTallies qs rs .tally) e ∙ tally-counts ns cs vs c qs l ∙ sym (ap (λ (rs : List Reply). min (givenIn (heardBy c noTallies qs rs .answers)) greatest) e)
+      ap (λ (rs : List Reply). viewFrom c noTallies qs rs .tally) e ∙ tally-counts ns cs vs c qs l ∙ sym (ap (λ (rs : List Reply). min (givenIn (viewFrom c noTallies qs rs .answers)) greatest) e)

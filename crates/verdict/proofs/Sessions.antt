@@ -14,7 +14,7 @@ use Rattle.consoles.specs.Tallies.{consoleCount, noTallies, greatest, oneMore, 
 use Rattle.consoles.proofs.Counting.{counted-length, counted-other, counted-own, oneMore-min, oneMore-fits}
 use Rattle.model.specs.Answers.{Answer, isGiven}
 use Rattle.verdict.specs.Answers.{Question, verdictAnswer, tallied}
-use Rattle.verdict.specs.Sessions.{questionsOf, answersTo, talliesAfter, givenIn, Heard, heardBy, session, heardOf}
+use Rattle.verdict.specs.Sessions.{questionsOf, answersTo, talliesAfter, givenIn, View, viewFrom, session, viewOf}
 use Rattle.verdict.proofs.Answers.{verdict-by-length, given-console}
 
 -- ---- the tallies ts after a question of console k
@@ -42,8 +42,8 @@ module _ (x : Answer Bool) (k c : ℕ) where
           subst (λ j. min (getD (tallied x j ts) c 0 + m) greatest ≡ min (getD ts c 0 + (one (isGiven x) + m)) greatest) (sym (eqb-true k c own))
           (bool-cases (λ b. min (getD (cond b (counted c ts) ts) c 0 + m) greatest ≡ min (getD ts c 0 + (one b + m)) greatest) (isGiven x) (λ t. ap (λ (n : ℕ). min (n + m) greatest) (counted-own c ts l) ∙ oneMore-min (getD ts c 0) m f) (λ n. omega arith))
 
--- what is heard with one question more, first: its answer joins where it is the console's own
-abbrev joined : Bool → Answer Bool → Heard → Heard
+-- a view with one question more, first: its answer joins where it is the console's own
+abbrev joined : Bool → Answer Bool → View → View
 joined own x h = record { answers = cond own (x ∷ h .answers) (h .answers); tally = h .tally }
 
 module _ (ns cs : List ℕ) (vs : List ℤ) where
@@ -62,8 +62,8 @@ module _ (ns cs : List ℕ) (vs : List ℤ) where
       (omega (arith, g), omega (arith, g, h)))
       ∙ ap (λ (z : Answer Bool). getD (tallied z k us) c 0) f
 
-  -- ---- a session, and one of console c's questions alone: c hears the same, whatever the other tallies were
-  alone : (c : ℕ) (ts us : List ℕ) (qs : List Question) → leb consoleCount (length ts) ≡ leb consoleCount (length us) → getD ts c 0 ≡ getD us c 0 → heardBy c ts qs (session ns cs vs ts qs) ≡ heardBy c us (questionsOf c qs) (session ns cs vs us (questionsOf c qs))
+  -- ---- a session, and one of console c's questions alone: c has the same view, whatever the other tallies were
+  alone : (c : ℕ) (ts us : List ℕ) (qs : List Question) → leb consoleCount (length ts) ≡ leb consoleCount (length us) → getD ts c 0 ≡ getD us c 0 → viewFrom c ts qs (session ns cs vs ts qs) ≡ viewFrom c us (questionsOf c qs) (session ns cs vs us (questionsOf c qs))
   unfolding questionsOf session answersTo talliesAfter
   alone c ts us [] n e = ap (λ (t : ℕ). record { answers = []; tally = t }) e
   alone c ts us (q ∷ qs) n e =
@@ -72,22 +72,22 @@ module _ (ns cs : List ℕ) (vs : List ℤ) where
       let y = verdictAnswer ns cs vs us q in
       let ts′ = tallied x k ts in
       let us′ = tallied y k us in
-      bool-cases (λ b. joined b x (heardBy c ts′ qs (session ns cs vs ts′ qs)) ≡ heardBy c us (cond b (q ∷ questionsOf c qs) (questionsOf c qs)) (session ns cs vs us (cond b (q ∷ questionsOf c qs) (questionsOf c qs)))) (eqb k c)
+      bool-cases (λ b. joined b x (viewFrom c ts′ qs (session ns cs vs ts′ qs)) ≡ viewFrom c us (cond b (q ∷ questionsOf c qs) (questionsOf c qs)) (session ns cs vs us (cond b (q ∷ questionsOf c qs) (questionsOf c qs)))) (eqb k c)
       (λ own.
       ap (joined true x) (alone c ts′ us′ qs (ap (leb consoleCount) (tallied-length x k ts) ∙ n ∙ sym (ap (leb consoleCount) (tallied-length y k us))) (own-alike c ts us q (eqb-true k c own) n e))
-      ∙ ap₂ (λ (b : Bool) (z : Answer Bool). joined b z (heardBy c us′ (questionsOf c qs) (session ns cs vs us′ (questionsOf c qs)))) (sym own) (verdict-by-length ns cs vs ts q us n))
+      ∙ ap₂ (λ (b : Bool) (z : Answer Bool). joined b z (viewFrom c us′ (questionsOf c qs) (session ns cs vs us′ (questionsOf c qs)))) (sym own) (verdict-by-length ns cs vs ts q us n))
       (λ other. alone c ts′ us qs (ap (leb consoleCount) (tallied-length x k ts) ∙ n) (tallied-other x k c ts other ∙ e))
 
   -- two sessions with the same questions of c, in their order, which begin with the same tally of c; the tallies are eight or more
   -- in both, or fewer in both
-  pub own-questions-from : (c : ℕ) (ts us : List ℕ) (qs ps : List Question) → leb consoleCount (length ts) ≡ leb consoleCount (length us) → getD ts c 0 ≡ getD us c 0 → questionsOf c qs ≡ questionsOf c ps → heardBy c ts qs (session ns cs vs ts qs) ≡ heardBy c us ps (session ns cs vs us ps)
+  pub own-questions-from : (c : ℕ) (ts us : List ℕ) (qs ps : List Question) → leb consoleCount (length ts) ≡ leb consoleCount (length us) → getD ts c 0 ≡ getD us c 0 → questionsOf c qs ≡ questionsOf c ps → viewFrom c ts qs (session ns cs vs ts qs) ≡ viewFrom c us ps (session ns cs vs us ps)
   own-questions-from c ts us qs ps n t e =
       alone c ts us qs n t
-      ∙ ap (λ (own : List Question). heardBy c us own (session ns cs vs us own)) e
+      ∙ ap (λ (own : List Question). viewFrom c us own (session ns cs vs us own)) e
       ∙ sym (alone c us us ps refl refl)
 
   -- **from eight zeros a console's answers and its tally depend on its own questions only**, whatever questions stand between them
-  pub own-questions : (c : ℕ) (qs ps : List Question) → questionsOf c qs ≡ questionsOf c ps → heardOf ns cs vs c qs ≡ heardOf ns cs vs c ps
+  pub own-questions : (c : ℕ) (qs ps : List Question) → questionsOf c qs ≡ questionsOf c ps → viewOf ns cs vs c qs ≡ viewOf ns cs vs c ps
   own-questions c qs ps e = own-questions-from c noTallies noTallies qs ps refl refl e
 
   -- ---- a console's tally is the number of its answered questions, up to the greatest
@@ -106,7 +106,7 @@ module _ (ns cs : List ℕ) (vs : List ℤ) where
       let e = tallied-other x k c ts other in
       tally-counts-from c ts′ qs l′ (subst (λ t. t ≤ greatest) (sym e) f) ∙ ap (λ (t : ℕ). min (t + givenIn xs) greatest) e)
 
-  pub tally-counts : (c : ℕ) (qs : List Question) → c < consoleCount → heardOf ns cs vs c qs .tally ≡ min (givenIn (heardOf ns cs vs c qs .answers)) greatest
+  pub tally-counts : (c : ℕ) (qs : List Question) → c < consoleCount → viewOf ns cs vs c qs .tally ≡ min (givenIn (viewOf ns cs vs c qs .answers)) greatest
   tally-counts c qs l =
       let z : getD noTallies c 0 ≡ 0 = getD-replicate consoleCount c 0 0 l in
       omega (arith, z, tally-counts-from c noTallies qs l (omega (arith, z)))

@@ -33,14 +33,14 @@ unfoldable pub givenIn : List (Answer Bool) → ℕ
 givenIn [] = 0
 givenIn (x ∷ xs) = one (isGiven x) + givenIn xs
 
--- what console c has of a session: the answers to its questions, and its tally at the end
-pub record Heard : Type 0 where
+-- console c's view of a session: the answers to its questions, and its tally at the end
+pub record View : Type 0 where
   pub answers : List (Answer Bool)
   pub tally : ℕ
 
 -- of the replies rs to the questions qs, the first of which came with the tallies ts
-abbrev pub heardBy : ℕ → List ℕ → List Question → List Reply → Heard
-heardBy c ts qs rs = record { answers = answersTo c qs rs; tally = getD (talliesAfter ts rs) c 0 }
+abbrev pub viewFrom : ℕ → List ℕ → List Question → List Reply → View
+viewFrom c ts qs rs = record { answers = answersTo c qs rs; tally = getD (talliesAfter ts rs) c 0 }
 
 -- on one set of tables
 module _ (ns cs : List ℕ) (vs : List ℤ) where
@@ -49,9 +49,9 @@ module _ (ns cs : List ℕ) (vs : List ℤ) where
   session ts [] = []
   session ts (q ∷ qs) = let r = reply ns cs vs ts q in r ∷ session (r .tallies) qs
 
-  -- what console c has of a session that begins with eight zeros
-  abbrev pub heardOf : ℕ → List Question → Heard
-  heardOf c qs = heardBy c noTallies qs (session noTallies qs)
+  -- console c's view of a session that begins with eight zeros
+  abbrev pub viewOf : ℕ → List Question → View
+  viewOf c qs = viewFrom c noTallies qs (session noTallies qs)
 
   -- the outcomes of calls of `verdict`, one for each question: each is what the contract promises (`learnt`: proofs/Calls) of the
   -- tallies that the call before it handed back
