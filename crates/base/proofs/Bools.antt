@@ -1,6 +1,6 @@
 -- Tests that were passed and tests that failed, taken apart.
-use mathlib.Core.Bool.{Bool, true, false, not, _&&_, _||_, true≢false}
-use mathlib.Core.Path.{_≡_, refl, sym}
+use mathlib.Core.Bool.{Bool, true, false, not, _&&_, _||_, or-true, true≢false}
+use mathlib.Core.Path.{_≡_, refl, sym, ap, _∙_}
 use mathlib.Core.Logic.{_⊎_, inl, inr}
 
 pub bool-cases : (P : Bool → Type 0) (b : Bool) → (b ≡ true → P true) → (b ≡ false → P false) → P b
@@ -24,6 +24,12 @@ pub or-cases : (a b : Bool) → (a || b) ≡ true → (a ≡ true) ⊎ (b ≡ tr
 or-cases true b e = inl refl
 or-cases false b e = inr e
 
+pub or-left : (a b : Bool) → a ≡ true → (a || b) ≡ true
+or-left a b e = ap (λ (x : Bool). x || b) e
+
+pub or-right : (a b : Bool) → b ≡ true → (a || b) ≡ true
+or-right a b e = ap (λ (x : Bool). a || x) e ∙ or-true a
+
 -- an implication between tests, `not a || b`
 pub implies-true : (a b : Bool) → (not a || b) ≡ true → a ≡ true → b ≡ true
 implies-true true b e h = e
@@ -38,6 +44,11 @@ pub same-test : (a b : Bool) → (a ≡ true → b ≡ true) → (b ≡ true →
 same-test true b f g = sym (f refl)
 same-test false true f g = g refl
 same-test false false f g = refl
+
+-- a test that cannot pass
+pub never-true : (a : Bool) → (a ≡ true → ⊥) → a ≡ false
+never-true true h = absurd (h refl)
+never-true false h = refl
 
 pub never-both : {a : Bool} → a ≡ true → a ≡ false → ⊥
 never-both {a = true} e f = true≢false f

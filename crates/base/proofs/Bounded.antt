@@ -1,9 +1,9 @@
 -- `some`, `every`, `size` and `members` in words of logic, and their algebra, for every bound.
 use Prim.Native.Nat.{ℕ, zero, suc, _+_, _≤_, _<_}
-use mathlib.Core.Bool.{Bool, true, false, not, cond, _&&_, _||_, or-false, and-false, or-true}
+use mathlib.Core.Bool.{Bool, true, false, not, cond, _&&_, _||_, or-false, and-false, or-true, true≢false}
 use mathlib.Core.List.{List, [], _∷_, _++_}
 use mathlib.Core.Path.{_≡_, refl, sym, ap, ap₂, _∙_}
-use mathlib.Core.Logic.{_⊎_, ⊎-elim, _↔_}
+use mathlib.Core.Logic.{_⊎_, inl, inr, ⊎-elim, _↔_}
 use native.Mathlib.Nat.{le-refl, le-suc, le-trans, eq-or-lt-of-le, le-of-suc-le-suc, add-zero, add-suc}
 use native.Mathlib.Numerals.{add-one}
 use native.Mathlib.Omega.{arith}
@@ -120,6 +120,39 @@ size-beyond p m n h = size-add p m n ∙ ap (λ (k : ℕ). size p m + k) (none n
     none : (n : ℕ) → size (λ i. p (m + i)) n ≡ 0
     none zero = refl
     none (suc n) = ap₂ (λ (a : Bool) (b : ℕ). one a + b) (h (m + n) (omega arith)) (none n)
+
+-- ---- the size of a set and of a greater one
+module _ (a b : ℕ → Bool) (more : (v : ℕ) → a v ≡ true → b v ≡ true) where
+  one-mono : (x y : Bool) → (x ≡ true → y ≡ true) → one x ≤ one y
+  unfolding one
+  one-mono true true h = omega arith
+  one-mono true false h = absurd (true≢false (sym (h refl)))
+  one-mono false true h = omega arith
+  one-mono false false h = omega arith
+
+  size-mono : (m : ℕ) → size a m ≤ size b m
+  unfolding size
+  size-mono zero = omega arith
+  size-mono (suc m) = omega (arith, one-mono (a m) (b m) (more m), size-mono m)
+
+  -- the same below m, or greater there
+  pub grown : (m : ℕ) → ((v : ℕ) → v < m → b v ≡ a v) ⊎ (suc (size a m) ≤ size b m)
+  unfolding size one
+  grown zero = inl (λ v l. absurd (omega arith))
+  grown (suc m) = ⊎-elim (λ h. top (a m) (b m) refl refl h) (λ h. inr (omega (arith, one-mono (a m) (b m) (more m)))) (grown m)
+    where
+      join : ((v : ℕ) → v < m → b v ≡ a v) → b m ≡ a m → (v : ℕ) → v < suc m → b v ≡ a v
+      join h e v l = ⊎-elim (λ q. ap b q ∙ e ∙ ap a (sym q)) (λ l′. h v l′) (eq-or-lt-of-le (le-of-suc-le-suc l))
+
+      gain : (x y : Bool) → x ≡ false → y ≡ true → suc (one x + size a m) ≤ one y + size b m
+      gain true y p q = absurd (true≢false p)
+      gain false true p q = omega (arith, size-mono m)
+      gain false false p q = absurd (true≢false (sym q))
+
+      top : (x y : Bool) → a m ≡ x → b m ≡ y → ((v : ℕ) → v < m → b v ≡ a v) → ((v : ℕ) → v < suc m → b v ≡ a v) ⊎ (suc (one (a m) + size a m) ≤ one (b m) + size b m)
+      top true y p q h = inl (join h (more m p ∙ sym p))
+      top false true p q h = inr (gain (a m) (b m) p q)
+      top false false p q h = inl (join h (q ∙ sym p))
 
 -- ---- members: each number below n that has p, once, lowest first
 pub members-ext : (p q : ℕ → Bool) (n : ℕ) → ((v : ℕ) → v < n → p v ≡ q v) → members p n ≡ members q n

@@ -6,11 +6,12 @@ use Rattle.base.specs.Bytes.{bytes}
 use Rattle.base.specs.Bounded.{some, every, one, size, members}
 use Rattle.base.specs.Lists.{anyb, allb, member}
 use Rattle.model.specs.Graph.{valueOf, datatypeOf, languageOf, holds, hasTriple}
+use Rattle.model.specs.Repeats.{upTo, star, plus}
 use Rattle.model.specs.Paths.{ends, endsOf}
 use Rattle.model.specs.Shapes.{isKind, satisfies, within, subset, noneShared, allPairs, less, lessEq, sameLang, conforms, expand}
 use Rattle.model.specs.Rules.{subjectsOf, selects, violates, violations}
 use Rattle.model.specs.Books.{newTerms, newTriples, newShapes, newNames, joins, collect, graphOf, schemaFrom, schema, listOf, builtIn, names, nodes, links}
-use Rattle.model.specs.Cases.{agree, bookB, bookC, starred, rows}
+use Rattle.model.specs.Cases.{agree, bookB, bookC, bookD, starred, rows, repeats}
 
 pub starred-hold : agree bookB starred ≡ true
 unfolding some every one size anyb allb member valueOf datatypeOf languageOf holds hasTriple ends endsOf isKind satisfies within subset noneShared allPairs less lessEq sameLang conforms expand newTerms newTriples newShapes collect graphOf schemaFrom schema agree
@@ -19,6 +20,11 @@ starred-hold = refl
 pub rows-hold : agree bookC rows ≡ true
 unfolding some every one size anyb allb member valueOf datatypeOf languageOf holds hasTriple ends endsOf isKind satisfies within subset noneShared allPairs less lessEq sameLang conforms expand newTerms newTriples newShapes collect graphOf schemaFrom schema agree
 rows-hold = refl
+
+-- document 02, Job 1
+pub repeats-hold : agree bookD repeats ≡ true
+unfolding some every one size anyb allb member valueOf datatypeOf languageOf holds hasTriple upTo star plus ends endsOf isKind satisfies within subset noneShared allPairs less lessEq sameLang conforms expand newTerms newTriples newShapes collect graphOf schemaFrom schema agree
+repeats-hold = refl
 
 -- book B's rule lists `left`, its node 0
 pub list-of-B : listOf bookB (record { shape = 0; target = subjectsOf 2 }) ≡ 0 ∷ []

@@ -5,4 +5,5 @@ pub mod Refusals
 pub mod Answers
 pub mod Lines
 pub mod Expansion
+pub mod Repeats
 pub mod Sets

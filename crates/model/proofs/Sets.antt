@@ -12,7 +12,8 @@ use Rattle.base.specs.Lists.{anyb, allb, member}
 use Rattle.base.proofs.Bools.{and-left, and-right, and-both}
 use Rattle.base.proofs.Lists.{anyb-again, anyb-set, allb-set}
 use Rattle.model.specs.Graph.{Term, iri, Triple, Graph, rdfType, hasTriple, SameTriples, SameGraph}
-use Rattle.model.specs.Paths.{Path, predicate, inverse, sequence, alternative, End, self, along, ends, endsOf}
+use Rattle.model.specs.Repeats.{star, plus}
+use Rattle.model.specs.Paths.{Path, predicate, inverse, sequence, alternative, zeroOrMore, oneOrMore, End, self, along, ends, endsOf}
 use Rattle.model.specs.Shapes.{Shape, top, hasShape, hasValue, conj, disj, neg, test, count, forAll, equals, disjoint, closed, lessThan, lessThanEq, uniqueLang, satisfies, within, subset, noneShared, allPairs, less, lessEq, sameLang, conforms, def}
 use Rattle.model.specs.Rules.{Target, targetNode, subjectsOf, objectsOf, targetClass, Rule, selects, violates, violations}
 use Rattle.model.specs.Books.{Book, fact, newTerms, newTriples, newShapes, newRules, collect, graphOf, schemaFrom, schema, rules, conformsIn, listOf}
@@ -52,6 +53,8 @@ module _ (ts us : List Triple) (same : SameTriples ts us) where
   ends-set n (inverse e) v w = ends-set n e w v
   ends-set n (sequence d e) v w = λ i. some (λ u. ends-set n d v u i && ends-set n e u w i) n
   ends-set n (alternative d e) v w = λ i. ends-set n d v w i || ends-set n e v w i
+  ends-set n (zeroOrMore e) v w = λ i. star (λ x y. ends-set n e x y i) n v w
+  ends-set n (oneOrMore e) v w = λ i. plus (λ x y. ends-set n e x y i) n v w
 
   pub ends-of-set : (n : ℕ) (f : End) (v w : ℕ) → endsOf n ts f v w ≡ endsOf n us f v w
   unfolding endsOf

@@ -7,7 +7,7 @@ use lib.Dec.{eqb, leb}
 use Rattle.base.specs.Bounded.{_⇒_, some, every, one, size}
 use Rattle.base.specs.Lists.{anyb, allb, member}
 use Rattle.model.specs.Graph.{Triple, Graph, valueOf, languageOf, holds, holds₂, hasTriple}
-use Rattle.model.specs.Paths.{Path, predicate, inverse, sequence, alternative, ends, endsOf, along}
+use Rattle.model.specs.Paths.{Path, predicate, inverse, sequence, alternative, zeroOrMore, oneOrMore, ends, endsOf, along}
 use Rattle.model.specs.Shapes.{top, count, atMost, unbounded, equals, lessThan, uniqueLang, isKind, satisfies, within, subset, noneShared, allPairs, less, lessEq, sameLang, from, objects, conforms}
 use Rattle.model.specs.Books.{newTerms, newTriples, collect, graphOf}
 use Rattle.model.specs.Cases.{bookB, bookC, mount, twin}
@@ -41,12 +41,14 @@ module _ (g : Graph) where
   rowsOf [] v p w = 0
   rowsOf (t ∷ ts) v p w = one (eqb (t .subject) v && (eqb (t .predicate) p && eqb (t .object) w)) + rowsOf ts v p w
 
-  -- the rows of a join: how often the path leads from v to w
+  -- the rows of a join: how often the path leads from v to w; a repeated path once, where it does
   ways : Path → ℕ → ℕ → ℕ
   ways (predicate p) v w = rowsOf (g .triples) v p w
   ways (inverse e) v w = ways e w v
   ways (sequence d e) v w = sum (λ u. ways d v u * ways e u w) (g .nodes)
   ways (alternative d e) v w = ways d v w + ways e v w
+  ways (zeroOrMore e) v w = one (ends (g .nodes) (g .triples) (zeroOrMore e) v w)
+  ways (oneOrMore e) v w = one (ends (g .nodes) (g .triples) (oneOrMore e) v w)
 
 -- the answer of the row, that of the wrong reading, and the right one
 data Trap : Type 0 where

@@ -1,11 +1,12 @@
--- The cases of document 01 over its book B: the starred ones, which one theorem proves, and a case or two for each other row of Table 1.
+-- The cases of document 01 over its book B: the starred ones, which one theorem proves, a case or two for each other row of Table 1, and
+-- cases of the repeated paths of document 02, Job 1.
 use Prim.Native.Nat.{ℕ}
 use mathlib.Core.List.{List, [], _∷_}
 use mathlib.Core.Bool.{Bool, true, false, Bool·beq, _&&_}
 use lib.IntN.{pos, negsuc}
 use Rattle.base.specs.Bytes.{bytes}
 use Rattle.model.specs.Graph.{iri, blankNode, numeric, plain, tagged}
-use Rattle.model.specs.Paths.{Path, predicate, inverse, sequence, alternative, self, along}
+use Rattle.model.specs.Paths.{Path, predicate, inverse, sequence, alternative, zeroOrMore, oneOrMore, self, along}
 use Rattle.model.specs.Shapes.{Shape, top, hasShape, hasValue, conj, disj, neg, test, count, forAll, equals, disjoint, closed, lessThan, lessThanEq, uniqueLang, nodeKind, datatype, languageIn, minInclusive, minExclusive, maxInclusive, maxExclusive, anIri, aBlank, aLiteral, atMost, unbounded, conforms, expand}
 use Rattle.model.specs.Rules.{subjectsOf}
 use Rattle.model.specs.Books.{Book, link, type, lang, node, fact, shape, rule, graphOf, schema}
@@ -130,4 +131,50 @@ rows =
     ∷ case (closed []) 2 true
     ∷ case (uniqueLang (predicate 1)) 0 true
     ∷ case (uniqueLang (predicate 1)) 1 false
+    ∷ []
+
+-- ---- a chain that ends in a literal, and a ring; by another link a way back to the chain's start, for repeats in repeats.
+-- Its nodes: 0 desk, 1 splitter, 2 lamp, 3 note, 4 east, 5 west
+abbrev pub feeds : Path
+feeds = predicate 1
+
+abbrev pub home : Path
+home = predicate 2
+
+abbrev pub bookD : Book
+bookD =
+    link (bytes "feeds")
+    ∷ link (bytes "home")
+    ∷ type (bytes "mm")
+    ∷ node (bytes "desk") iri
+    ∷ node (bytes "splitter") iri
+    ∷ node (bytes "lamp") iri
+    ∷ node (bytes "note") (plain 1)
+    ∷ node (bytes "east") iri
+    ∷ node (bytes "west") iri
+    ∷ fact (record { subject = 0; predicate = 1; object = 1 })
+    ∷ fact (record { subject = 1; predicate = 1; object = 2 })
+    ∷ fact (record { subject = 2; predicate = 1; object = 3 })
+    ∷ fact (record { subject = 4; predicate = 1; object = 5 })
+    ∷ fact (record { subject = 5; predicate = 1; object = 4 })
+    ∷ fact (record { subject = 2; predicate = 2; object = 0 })
+    ∷ []
+
+abbrev pub repeats : List Case
+repeats =
+    case (count 4 (atMost 4) (zeroOrMore feeds) top) 0 true
+    ∷ case (count 3 (atMost 3) (oneOrMore feeds) top) 0 true
+    ∷ case (count 1 unbounded (oneOrMore feeds) (hasValue 0)) 0 false
+    ∷ case (count 1 (atMost 1) (zeroOrMore feeds) (hasValue 3)) 3 true
+    ∷ case (count 0 (atMost 0) (oneOrMore feeds) top) 3 true
+    ∷ case (count 2 (atMost 2) (oneOrMore feeds) top) 4 true
+    ∷ case (count 2 (atMost 2) (zeroOrMore feeds) top) 4 true
+    ∷ case (count 3 (atMost 3) (inverse (zeroOrMore feeds)) top) 2 true
+    ∷ case (count 2 (atMost 2) (oneOrMore (inverse feeds)) top) 2 true
+    ∷ case (count 2 (atMost 2) (oneOrMore (sequence (oneOrMore feeds) home)) top) 0 false
+    ∷ case (count 1 (atMost 1) (oneOrMore (sequence (oneOrMore feeds) home)) (hasValue 0)) 0 true
+    ∷ case (count 4 (atMost 4) (zeroOrMore (alternative (zeroOrMore feeds) home)) top) 1 true
+    ∷ case (count 1 unbounded (zeroOrMore (zeroOrMore feeds)) (hasValue 5)) 0 false
+    ∷ case (equals (along (sequence (zeroOrMore feeds) home)) 2) 2 true
+    ∷ case (disjoint (along (zeroOrMore feeds)) 1) 4 false
     ∷ []

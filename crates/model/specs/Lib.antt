@@ -2,6 +2,7 @@ pub mod Limits
 pub mod Refusals
 pub mod Answers
 pub mod Graph
+pub mod Repeats
 pub mod Paths
 pub mod Shapes
 pub mod Rules

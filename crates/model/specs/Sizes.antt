@@ -3,7 +3,7 @@
 use Prim.Native.Nat.{ℕ, suc, _+_}
 use mathlib.Core.List.{List, [], _∷_}
 use lib.ListN.{length}
-use Rattle.model.specs.Paths.{Path, predicate, inverse, sequence, alternative, End, self, along}
+use Rattle.model.specs.Paths.{Path, predicate, inverse, sequence, alternative, zeroOrMore, oneOrMore, End, self, along}
 use Rattle.model.specs.Shapes.{Test, nodeKind, datatype, languageIn, minInclusive, minExclusive, maxInclusive, maxExclusive, Shape, top, hasShape, hasValue, conj, disj, neg, test, count, forAll, equals, disjoint, closed, lessThan, lessThanEq, uniqueLang}
 use Rattle.model.specs.Books.{Book, nodes, links, types, langs, shapes, names, collect, newTriples, newShapes, rules}
 use Rattle.model.specs.declared.Counts.{Counts}
@@ -13,6 +13,8 @@ pathEntries (predicate p) = 1
 pathEntries (inverse e) = suc (pathEntries e)
 pathEntries (sequence d e) = suc (pathEntries d + pathEntries e)
 pathEntries (alternative d e) = suc (pathEntries d + pathEntries e)
+pathEntries (zeroOrMore e) = suc (pathEntries e)
+pathEntries (oneOrMore e) = suc (pathEntries e)
 
 unfoldable pub endEntries : End → ℕ
 endEntries self = 0

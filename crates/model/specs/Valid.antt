@@ -9,7 +9,7 @@ use Rattle.base.specs.Lists.{allb}
 use Rattle.base.specs.Range.{inRange}
 use Rattle.model.specs.Limits.{maxNodes, maxLinks, maxTypes, maxLangs, maxShapes, maxRules, maxFacts, maxForms, maxPaths, maxItems, maxCount}
 use Rattle.model.specs.Graph.{Term, iri, blankNode, numeric, plain, tagged, Triple, langString}
-use Rattle.model.specs.Paths.{Path, predicate, inverse, sequence, alternative, End, self, along}
+use Rattle.model.specs.Paths.{Path, predicate, inverse, sequence, alternative, zeroOrMore, oneOrMore, End, self, along}
 use Rattle.model.specs.Shapes.{Test, nodeKind, datatype, languageIn, minInclusive, minExclusive, maxInclusive, maxExclusive, Upper, atMost, unbounded, Shape, top, hasShape, hasValue, conj, disj, neg, test, count, forAll, equals, disjoint, closed, lessThan, lessThanEq, uniqueLang}
 use Rattle.model.specs.Rules.{Target, targetNode, subjectsOf, objectsOf, targetClass}
 use Rattle.model.specs.Books.{Book, Line, link, type, lang, node, fact, shape, rule, Pool, nodes, links, types, langs, shapes, names, collect, newTerms, newTriples, rules}
@@ -58,6 +58,8 @@ module _ (above : Book) where
   pathOk (inverse e) = pathOk e
   pathOk (sequence d e) = pathOk d && pathOk e
   pathOk (alternative d e) = pathOk d && pathOk e
+  pathOk (zeroOrMore e) = pathOk e
+  pathOk (oneOrMore e) = pathOk e
 
   unfoldable pub endOk : End → Bool
   endOk self = true
