@@ -63,7 +63,7 @@ module _ (cs : List ℕ) where
   unfolding pathEntryAt
   path-by e a b k p q x = rw (p, q, x)
 
-  pub path-unknown : (e a b k : ℕ) → codes.pathAlt < k → false ≡ pathBy e a b k
+  pub path-unknown : (e a b k : ℕ) → codes.pathUnknown ≤ k → false ≡ pathBy e a b k
   unfolding pathEntryOf pathEntryOk
   path-unknown e a b k l = rw List·getD-eq-default
 

@@ -126,7 +126,7 @@ fn path_ok(cells: &[u16], e: usize) -> bool
     let b = reads::path_second(cells, e);
     match reads::path_code(cells, e) {
         codes::PATH_LINK => link_there(cells, reads::path_link(cells, e)),
-        codes::PATH_INV => a < e,
+        codes::PATH_INV | codes::PATH_STAR | codes::PATH_PLUS => a < e,
         codes::PATH_SEQ | codes::PATH_ALT => (a < e) & (b < e),
         codes::PATH_UNKNOWN..=codes::LAST => false,
     }

@@ -10,10 +10,10 @@ use Rattle.base.specs.Numbered.{below}
 use Rattle.base.proofs.Numbered.{at-number, below-number}
 use Rattle.base.proofs.Bools.{and-left, and-right}
 use Rattle.model.specs.Limits.{maxCount}
-use Rattle.model.specs.Paths.{Path, predicate, inverse, sequence, alternative}
+use Rattle.model.specs.Paths.{Path, predicate, inverse, sequence, alternative, zeroOrMore, oneOrMore}
 use Rattle.model.specs.Shapes.{Shape, conj, disj, neg, count, forAll}
 use Rattle.tables.specs.Layout.{pathCount, formCount, shapeCount, rootAt}
-use Rattle.tables.specs.Entries.{PathEntry, link, inv, seq, alt, Entry}
+use Rattle.tables.specs.Entries.{PathEntry, link, inv, seq, alt, star, plus, Entry}
 use Rattle.tables.specs.Decode.{pathOf, pathEntryAt, pathAt, shapeOf, entryAt, shapeAt, upperOf}
 use Rattle.tables.specs.WellFormed.{pathEntryOk, entryOk, upperOk}
 use Rattle.tables.proofs.WellFormed.{Sound}
@@ -30,6 +30,8 @@ module _ (cs : List ℕ) (e : ℕ) where
   path-parts (inv a) w f g h = ap inverse (h a (ltb-true a e w))
   path-parts (seq a b) w f g h = ap₂ sequence (h a (lower a b e w .0)) (h b (lower a b e w .1))
   path-parts (alt a b) w f g h = ap₂ alternative (h a (lower a b e w .0)) (h b (lower a b e w .1))
+  path-parts (star a) w f g h = ap zeroOrMore (h a (ltb-true a e w))
+  path-parts (plus a) w f g h = ap oneOrMore (h a (ltb-true a e w))
   path-parts PathEntry.bad w f g h = refl
 
   pub shape-parts : (x : Entry) → entryOk cs e x ≡ true → (f g : ℕ → Shape) → ((k : ℕ) → k < e → f k ≡ g k) → shapeOf cs x f ≡ shapeOf cs x g

@@ -34,9 +34,15 @@ pathSeq = 2
 abbrev pub pathAlt : ℕ
 pathAlt = 3
 
+abbrev pub pathStar : ℕ
+pathStar = 4
+
+abbrev pub pathPlus : ℕ
+pathPlus = 5
+
 -- the first that is no path's
 abbrev pub pathUnknown : ℕ
-pathUnknown = 4
+pathUnknown = 6
 
 -- ---- form entries
 abbrev pub formTrue : ℕ

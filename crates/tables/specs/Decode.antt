@@ -9,11 +9,11 @@ use lib.IntN.{ℤ}
 use Rattle.base.specs.Lists.{values, valuesFrom}
 use Rattle.base.specs.Numbered.{numbered}
 use Rattle.model.specs.Graph.{Term, iri, blankNode, numeric, plain, tagged, Triple, Graph}
-use Rattle.model.specs.Paths.{Path, predicate, inverse, sequence, alternative, End, self, along}
+use Rattle.model.specs.Paths.{Path, predicate, inverse, sequence, alternative, zeroOrMore, oneOrMore, End, self, along}
 use Rattle.model.specs.Shapes.{Kind, anIri, aBlank, aLiteral, nodeKind, datatype, languageIn, minInclusive, minExclusive, maxInclusive, maxExclusive, Upper, atMost, unbounded, Shape, hasValue, conj, disj, neg, test, count, forAll, equals, disjoint, closed, lessThan, lessThanEq, uniqueLang}
 use Rattle.model.specs.Rules.{Target, targetNode, subjectsOf, objectsOf, targetClass, Rule}
 use Rattle.tables.specs.Layout.{noNumber, nodeCount, factCount, shapeCount, ruleCount, kindAt, typeAt, langAt, subjectAt, predicateAt, objectAt, pathCodeAt, pathFirstAt, pathSecondAt, formCodeAt, formFirstAt, formSecondAt, formThirdAt, formFourthAt, itemAt, rootAt, ruleShapeAt, ruleTargetAt, ruleOperandAt, numberAt, limitAt}
-use Rattle.tables.specs.Entries.{PathEntry, link, inv, seq, alt, pathEntryOf, Entry, entryOf}
+use Rattle.tables.specs.Entries.{PathEntry, link, inv, seq, alt, star, plus, pathEntryOf, Entry, entryOf}
 
 -- ---- the graph: kinds by code are thing, blank, number, text, words
 unfoldable pub termOf : ℕ → ℕ → ℕ → ℤ → Term
@@ -37,6 +37,8 @@ pathOf (link p) at = predicate p
 pathOf (inv a) at = inverse (at a)
 pathOf (seq a b) at = sequence (at a) (at b)
 pathOf (alt a b) at = alternative (at a) (at b)
+pathOf (star a) at = zeroOrMore (at a)
+pathOf (plus a) at = oneOrMore (at a)
 pathOf PathEntry.bad at = predicate 0
 
 unfoldable pub pathEntryAt : List ℕ → ℕ → PathEntry

@@ -4,14 +4,15 @@ use mathlib.Core.List.{[], _∷_}
 use lib.ListN.{getD}
 use lib.IntN.{ℤ}
 
--- by code from 0: a link, inv, seq, alt; `bad` for a code that is none of these
+-- by code from 0: a link, inv, seq, alt, star, plus; `bad` for a code that is none of these
 pub data PathEntry : Type 0 where
   link inv : ℕ → PathEntry
   seq alt : ℕ → ℕ → PathEntry
+  star plus : ℕ → PathEntry
   bad : PathEntry
 
 unfoldable pub pathEntryOf : ℕ → ℕ → ℕ → PathEntry
-pathEntryOf code a b = getD (link a ∷ inv a ∷ seq a b ∷ alt a b ∷ []) code PathEntry.bad
+pathEntryOf code a b = getD (link a ∷ inv a ∷ seq a b ∷ alt a b ∷ star a ∷ plus a ∷ []) code PathEntry.bad
 
 -- by code from 0, in the words of document 01 (top, conj, disj, neg, under: true, and, or, not, below)
 pub data Entry : Type 0 where

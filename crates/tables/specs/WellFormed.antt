@@ -9,7 +9,7 @@ use Rattle.base.specs.Bounded.{every}
 use Rattle.model.specs.Limits.{maxNodes, maxLinks, maxTypes, maxLangs, maxShapes, maxRules, maxFacts, maxForms, maxPaths, maxItems, maxCount}
 use Rattle.tables.specs.Codes as codes
 use Rattle.tables.specs.Layout.{noNumber, nodeCount, linkCount, typeCount, langCount, shapeCount, factCount, pathCount, formCount, itemCount, ruleCount, kindAt, typeAt, langAt, subjectAt, predicateAt, objectAt, itemAt, rootAt, ruleShapeAt, ruleTargetAt, ruleOperandAt}
-use Rattle.tables.specs.Entries.{PathEntry, link, inv, seq, alt, Entry}
+use Rattle.tables.specs.Entries.{PathEntry, link, inv, seq, alt, star, plus, Entry}
 use Rattle.tables.specs.Decode.{pathEntryAt, entryAt}
 
 module _ (cs : List ℕ) where
@@ -38,6 +38,8 @@ module _ (cs : List ℕ) where
   pathEntryOk e (inv a) = ltb a e
   pathEntryOk e (seq a b) = ltb a e && ltb b e
   pathEntryOk e (alt a b) = ltb a e && ltb b e
+  pathEntryOk e (star a) = ltb a e
+  pathEntryOk e (plus a) = ltb a e
   pathEntryOk e PathEntry.bad = false
 
   -- item i is there, and is below a bound

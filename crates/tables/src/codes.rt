@@ -24,7 +24,11 @@ pub const PATH_SEQ: u16 = 2;
 
 pub const PATH_ALT: u16 = 3;
 
-pub const PATH_UNKNOWN: u16 = 4;
+pub const PATH_STAR: u16 = 4;
+
+pub const PATH_PLUS: u16 = 5;
+
+pub const PATH_UNKNOWN: u16 = 6;
 
 // form entries
 pub const FORM_TRUE: u16 = 0;
