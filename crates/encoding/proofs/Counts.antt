@@ -1,5 +1,5 @@
 -- How long the tables are, how many entries shapes take, and the ten counts.
-use Prim.Native.Nat.{ℕ, _+_, _<_}
+use Prim.Native.Nat.{ℕ, suc, _+_, _<_}
 use mathlib.Core.List.{List, [], _∷_, _++_}
 use mathlib.Core.Path.{_≡_, sym, ap, _∙_}
 use native.Mathlib.Nat.{zero-add}
@@ -7,12 +7,12 @@ use native.Mathlib.Omega.{arith}
 use lib.ListN.{length, getD, length-append}
 use lib.IntN.{pos}
 use Rattle.base.proofs.Columns.{at-flat, length-flat}
-use Rattle.model.specs.Paths.{Path, predicate, inverse, sequence, alternative, End, self, along}
+use Rattle.model.specs.Paths.{Path, predicate, inverse, sequence, alternative, zeroOrMore, oneOrMore, End, self, along}
 use Rattle.model.specs.Shapes.{Test, nodeKind, datatype, languageIn, minInclusive, minExclusive, maxInclusive, maxExclusive, Shape, top, hasShape, hasValue, conj, disj, neg, test, count, forAll, equals, disjoint, closed, lessThan, lessThanEq, uniqueLang}
 use Rattle.model.specs.Books.{Book, shape, Pool, nodes, links, types, langs, shapes, poolNumber, newTriples, newShapes, collect, names, rules}
 use Rattle.model.specs.Sizes.{pathEntries, endEntries, formEntries, shapePaths, testItems, listItems, sumOver, formsIn, pathsIn, itemsIn}
 use Rattle.tables.specs.Layout.{cellCount, valueCount, nameCount, factCount, pathCount, formCount, itemCount, ruleCount}
-use Rattle.tables.specs.Entries.{PathEntry, inv, seq, alt, Entry}
+use Rattle.tables.specs.Entries.{PathEntry, inv, seq, alt, star, plus, Entry}
 use Rattle.tables.specs.Entries as E
 use Rattle.encoding.specs.Flatten.{lastNumber, addPath, Entries, withPath, withEnd, endNumber, kindCode, upperNumber, addTest, addShape, addShapes, noEntries}
 use Rattle.encoding.specs.Encode.{cellColumns, valueColumns, entriesOf, countsOf, contentOf, encodeCells, encodeValues, nameColumns, encodeNames}
@@ -31,12 +31,18 @@ unfolding encodeNames
 names-length b = length-flat 0 (nameColumns b)
 
 -- ---- how many entries are added
+-- with an entry of one part, after that part's
+one-size : (x : PathEntry) (ds : List PathEntry) (n k : ℕ) → length ds ≡ n + k → length (ds ++ (x ∷ [])) ≡ n + suc k
+one-size x ds n k h = omega (arith, length-append ds (x ∷ []))
+
 pub path-size : (e : Path) (es : List PathEntry) → length (addPath e es) ≡ length es + pathEntries e
 unfolding addPath pathEntries
 path-size (predicate p) es = length-append es (E.link p ∷ [])
-path-size (inverse d) es = let ds = addPath d es in omega (arith, path-size d es, length-append ds (inv (lastNumber ds) ∷ []))
+path-size (inverse d) es = one-size (inv _) (addPath d es) (length es) (pathEntries d) (path-size d es)
 path-size (sequence d e) es = let ds = addPath d es in let fs = addPath e ds in omega (arith, path-size d es, path-size e ds, length-append fs (seq (lastNumber ds) (lastNumber fs) ∷ []))
 path-size (alternative d e) es = let ds = addPath d es in let fs = addPath e ds in omega (arith, path-size d es, path-size e ds, length-append fs (alt (lastNumber ds) (lastNumber fs) ∷ []))
+path-size (zeroOrMore d) es = one-size (star _) (addPath d es) (length es) (pathEntries d) (path-size d es)
+path-size (oneOrMore d) es = one-size (plus _) (addPath d es) (length es) (pathEntries d) (path-size d es)
 
 -- fs has so many form entries, path entries and items more than es
 pub record Sized (es fs : Entries) (f p i : ℕ) : Type 0 where
@@ -117,6 +123,8 @@ path-entries (predicate p) = omega arith
 path-entries (inverse e) = omega arith
 path-entries (sequence d e) = omega arith
 path-entries (alternative d e) = omega arith
+path-entries (zeroOrMore e) = omega arith
+path-entries (oneOrMore e) = omega arith
 
 pub form-entries : (φ : Shape) → 0 < formEntries φ
 unfolding formEntries

@@ -9,9 +9,9 @@ use borrow.Author.Tests.{ne-eqb}
 use Rattle.base.specs.Numbered.{below}
 use Rattle.base.proofs.Numbered.{at-number, below-number}
 use Rattle.model.specs.Limits.{maxPaths}
-use Rattle.model.specs.Paths.{Path, predicate, inverse, sequence, alternative, End, self, along}
+use Rattle.model.specs.Paths.{Path, predicate, inverse, sequence, alternative, zeroOrMore, oneOrMore, End, self, along}
 use Rattle.tables.specs.Layout.{noNumber}
-use Rattle.tables.specs.Entries.{PathEntry, link, inv, seq, alt, pathEntryOf}
+use Rattle.tables.specs.Entries.{PathEntry, link, inv, seq, alt, star, plus, pathEntryOf}
 use Rattle.tables.specs.Decode.{pathOf, pathEntryAt, pathAt, endAt}
 use Rattle.encoding.specs.Rows.{pathRow}
 use Rattle.encoding.specs.Flatten.{lastNumber, addPath, Entries, withEnd, endNumber}
@@ -26,24 +26,22 @@ path-back (link p) = refl
 path-back (inv a) = refl
 path-back (seq a b) = refl
 path-back (alt a b) = refl
+path-back (star a) = refl
+path-back (plus a) = refl
 path-back PathEntry.bad = refl
+
+-- with an entry more
+entry-extends : (x : PathEntry) (es ds : List PathEntry) → Extends es ds → Extends es (ds ++ (x ∷ []))
+entry-extends x es ds h = extends-trans es ds (ds ++ (x ∷ [])) h (extends-more ds (x ∷ []))
 
 pub path-extends : (e : Path) (es : List PathEntry) → Extends es (addPath e es)
 unfolding addPath
 path-extends (predicate p) es = extends-more es (link p ∷ [])
-path-extends (inverse d) es =
-    let ds = addPath d es in
-    extends-trans es ds (ds ++ (inv (lastNumber ds) ∷ [])) (path-extends d es) (extends-more ds (inv (lastNumber ds) ∷ []))
-path-extends (sequence d e) es =
-    let ds = addPath d es in
-    let fs = addPath e ds in
-    let x = seq (lastNumber ds) (lastNumber fs) ∷ [] in
-    extends-trans es ds (fs ++ x) (path-extends d es) (extends-trans ds fs (fs ++ x) (path-extends e ds) (extends-more fs x))
-path-extends (alternative d e) es =
-    let ds = addPath d es in
-    let fs = addPath e ds in
-    let x = alt (lastNumber ds) (lastNumber fs) ∷ [] in
-    extends-trans es ds (fs ++ x) (path-extends d es) (extends-trans ds fs (fs ++ x) (path-extends e ds) (extends-more fs x))
+path-extends (inverse d) es = entry-extends (inv _) es (addPath d es) (path-extends d es)
+path-extends (sequence d e) es = let ds = addPath d es in let fs = addPath e ds in entry-extends (seq _ _) es fs (extends-trans es ds fs (path-extends d es) (path-extends e ds))
+path-extends (alternative d e) es = let ds = addPath d es in let fs = addPath e ds in entry-extends (alt _ _) es fs (extends-trans es ds fs (path-extends d es) (path-extends e ds))
+path-extends (zeroOrMore d) es = entry-extends (star _) es (addPath d es) (path-extends d es)
+path-extends (oneOrMore d) es = entry-extends (plus _) es (addPath d es) (path-extends d es)
 
 pub last-snoc : {A : Type 0} (xs : List A) (x : A) → lastNumber (xs ++ (x ∷ [])) ≡ length xs
 last-snoc xs x = omega (arith, length-append xs (x ∷ []))
@@ -66,7 +64,13 @@ module _ (cs : List ℕ) where
   unfolding pathAt
   lower-at n k l = below-number (predicate 0) (λ e at. pathOf (pathEntryAt cs e) at) n k l
 
-  -- an entry of two parts, the lastNumber of ds and the lastNumber of fs
+  -- an entry of one part, the last of ds
+  one-part : (f : Path → Path) (g : ℕ → PathEntry) → ((m : ℕ) (at : ℕ → Path) → pathOf (g m) at ≡ f (at m)) → (d : Path) (ds : List PathEntry) → lastNumber ds < length ds → Gives (pathEntryAt cs) (ds ++ (g (lastNumber ds) ∷ [])) → (Gives (pathEntryAt cs) ds → pathAt cs (lastNumber ds) ≡ d) → pathAt cs (lastNumber (ds ++ (g (lastNumber ds) ∷ []))) ≡ f d
+  one-part f g of d ds l h p =
+      path-end ds (g (lastNumber ds)) h ∙ of (lastNumber ds) (lower (length ds))
+      ∙ ap f (lower-at (length ds) (lastNumber ds) l ∙ p (gives-front (pathEntryAt cs) ds (g (lastNumber ds) ∷ []) h))
+
+  -- an entry of two parts, the last of ds and the last of fs
   two-parts : (f : Path → Path → Path) (g : ℕ → ℕ → PathEntry) → ((m n : ℕ) (at : ℕ → Path) → pathOf (g m n) at ≡ f (at m) (at n)) → (d e : Path) (ds fs : List PathEntry) → lastNumber ds < length ds → lastNumber fs < length fs → Extends ds fs → Gives (pathEntryAt cs) (fs ++ (g (lastNumber ds) (lastNumber fs) ∷ [])) → (Gives (pathEntryAt cs) ds → pathAt cs (lastNumber ds) ≡ d) → (Gives (pathEntryAt cs) fs → pathAt cs (lastNumber fs) ≡ e) → pathAt cs (lastNumber (fs ++ (g (lastNumber ds) (lastNumber fs) ∷ []))) ≡ f d e
   two-parts f g of d e ds fs k l x h p q =
       let y = g (lastNumber ds) (lastNumber fs) in
@@ -78,11 +82,11 @@ module _ (cs : List ℕ) where
   pub path-read : (e : Path) (es : List PathEntry) → Gives (pathEntryAt cs) (addPath e es) → pathAt cs (lastNumber (addPath e es)) ≡ e
   unfolding addPath pathOf
   path-read (predicate p) es h = path-end es (link p) h
-  path-read (inverse d) es h =
-      let ds = addPath d es in
-      path-end ds (inv (lastNumber ds)) h ∙ ap inverse (lower-at (length ds) (lastNumber ds) (path-last d es) ∙ path-read d es (gives-front (pathEntryAt cs) ds (inv (lastNumber ds) ∷ []) h))
+  path-read (inverse d) es h = one-part inverse inv (λ m at. refl) d (addPath d es) (path-last d es) h (path-read d es)
   path-read (sequence d e) es h = let ds = addPath d es in two-parts sequence seq (λ m n at. refl) d e ds (addPath e ds) (path-last d es) (path-last e ds) (path-extends e ds) h (path-read d es) (path-read e ds)
   path-read (alternative d e) es h = let ds = addPath d es in two-parts alternative alt (λ m n at. refl) d e ds (addPath e ds) (path-last d es) (path-last e ds) (path-extends e ds) h (path-read d es) (path-read e ds)
+  path-read (zeroOrMore d) es h = one-part zeroOrMore star (λ m at. refl) d (addPath d es) (path-last d es) h (path-read d es)
+  path-read (oneOrMore d) es h = one-part oneOrMore plus (λ m at. refl) d (addPath d es) (path-last d es) h (path-read d es)
 
   -- END by its number, where the path entries are few
   pub end-read : (f : End) (es : Entries) → Gives (pathEntryAt cs) (withEnd f es .paths) → length (withEnd f es .paths) ≤ maxPaths → endAt cs (endNumber f (withEnd f es)) ≡ f

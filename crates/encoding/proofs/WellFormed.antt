@@ -16,7 +16,7 @@ use Rattle.base.proofs.Bounded.{every-all}
 use Rattle.base.proofs.Lists.{allb-at}
 use Rattle.model.specs.Limits.{maxNodes, maxLinks, maxTypes, maxLangs, maxShapes, maxRules, maxFacts, maxForms, maxPaths, maxItems, maxCount}
 use Rattle.model.specs.Graph.{Term, iri, blankNode, numeric, plain, tagged, Triple, langString}
-use Rattle.model.specs.Paths.{Path, predicate, inverse, sequence, alternative, End, self, along}
+use Rattle.model.specs.Paths.{Path, predicate, inverse, sequence, alternative, zeroOrMore, oneOrMore, End, self, along}
 use Rattle.model.specs.Shapes.{Kind, anIri, aBlank, aLiteral, Test, nodeKind, datatype, languageIn, minInclusive, minExclusive, maxInclusive, maxExclusive, Upper, atMost, unbounded, Shape, top, hasShape, hasValue, conj, disj, neg, test, count, forAll, equals, disjoint, closed, lessThan, lessThanEq, uniqueLang}
 use Rattle.model.specs.Rules.{Target, targetNode, subjectsOf, objectsOf, targetClass, Rule}
 use Rattle.model.specs.Books.{Book, Line, link, type, lang, node, fact, shape, rule, Pool, nodes, links, types, langs, shapes, poolNumber, newTerms, newTriples, newShapes, newRules, collect, names, rules}
@@ -195,12 +195,16 @@ module _ (cs : List ℕ) where
           (lt-ltb (i + k) (itemCount cs) (omega (arith, l, h .itemsFit, length-append (es .items) xs)))
           (ap (λ (x : ℕ). ltb x bound) (gives-back (itemAt cs) (es .items) xs (h .items) k 0 l) ∙ below-count p (getD xs k 0) (allb-at (defined a p) xs 0 d k l)))
 
+      -- an entry of one part
+      one-ok : (x : ℕ → PathEntry) → ((k n : ℕ) → ltb k n ≡ true → pathEntryOk cs n (x k) ≡ true) → (e : Path) (es : List PathEntry) → Each (pathEntryOk cs) (addPath e es) → Each (pathEntryOk cs) (addPath e es ++ (x (lastNumber (addPath e es)) ∷ []))
+      one-ok x ok e es h =
+          let ds = addPath e es in
+          by-number-snoc (λ i y. pathEntryOk cs i y ≡ true) ds (x (lastNumber ds)) h (ok (lastNumber ds) (length ds) (lt-ltb (lastNumber ds) (length ds) (path-last e es)))
+
       path-ok : (e : Path) (es : List PathEntry) → pathOk a e ≡ true → Each (pathEntryOk cs) es → Each (pathEntryOk cs) (addPath e es)
       unfolding addPath pathOk pathEntryOk
       path-ok (predicate p) es d h = by-number-snoc (λ i x. pathEntryOk cs i x ≡ true) es (E.link p) h (below-count links p d)
-      path-ok (inverse e) es d h =
-          let ds = addPath e es in
-          by-number-snoc (λ i x. pathEntryOk cs i x ≡ true) ds (E.inv (lastNumber ds)) (path-ok e es d h) (lt-ltb (lastNumber ds) (length ds) (path-last e es))
+      path-ok (inverse e) es d h = one-ok E.inv (λ k n l. l) e es (path-ok e es d h)
       path-ok (sequence e f) es d h =
           let ds = addPath e es in
           let fs = addPath f ds in
@@ -211,6 +215,8 @@ module _ (cs : List ℕ) where
           let fs = addPath f ds in
           by-number-snoc (λ i x. pathEntryOk cs i x ≡ true) fs (E.alt (lastNumber ds) (lastNumber fs)) (path-ok f ds (and-right (pathOk a e) _ d) (path-ok e es (and-left _ _ d) h))
           (parts-lower e f es)
+      path-ok (zeroOrMore e) es d h = one-ok E.star (λ k n l. l) e es (path-ok e es d h)
+      path-ok (oneOrMore e) es d h = one-ok E.plus (λ k n l. l) e es (path-ok e es d h)
 
       with-items : (xs : List ℕ) (es : Entries) → EntriesOk cs es → EntriesOk cs (withItems xs es)
       with-items xs es k = record { paths = k .paths; forms = k .forms }

@@ -2,10 +2,10 @@
 use Prim.Native.Nat.{ℕ, _-_}
 use mathlib.Core.List.{List, [], _∷_, _++_}
 use lib.ListN.{length}
-use Rattle.model.specs.Paths.{Path, predicate, inverse, sequence, alternative, End, self, along}
+use Rattle.model.specs.Paths.{Path, predicate, inverse, sequence, alternative, zeroOrMore, oneOrMore, End, self, along}
 use Rattle.model.specs.Shapes.{Kind, anIri, aBlank, aLiteral, Test, nodeKind, datatype, languageIn, minInclusive, minExclusive, maxInclusive, maxExclusive, Upper, atMost, unbounded, Shape, top, hasShape, hasValue, conj, disj, neg, test, count, forAll, equals, disjoint, closed, lessThan, lessThanEq, uniqueLang}
 use Rattle.tables.specs.Layout.{noNumber}
-use Rattle.tables.specs.Entries.{PathEntry, link, inv, seq, alt, Entry}
+use Rattle.tables.specs.Entries.{PathEntry, link, inv, seq, alt, star, plus, Entry}
 
 -- the number of the lastNumber of a list
 abbrev pub lastNumber : {A : Type 0} → List A → ℕ
@@ -17,6 +17,8 @@ addPath (predicate p) es = es ++ (link p ∷ [])
 addPath (inverse d) es = let ds = addPath d es in ds ++ (inv (lastNumber ds) ∷ [])
 addPath (sequence d e) es = let ds = addPath d es in let fs = addPath e ds in fs ++ (seq (lastNumber ds) (lastNumber fs) ∷ [])
 addPath (alternative d e) es = let ds = addPath d es in let fs = addPath e ds in fs ++ (alt (lastNumber ds) (lastNumber fs) ∷ [])
+addPath (zeroOrMore d) es = let ds = addPath d es in ds ++ (star (lastNumber ds) ∷ [])
+addPath (oneOrMore d) es = let ds = addPath d es in ds ++ (plus (lastNumber ds) ∷ [])
 
 -- the entries of all shapes so far
 pub record Entries : Type 0 where

@@ -4,7 +4,7 @@ use lib.IntN.{ℤ, pos}
 use Rattle.model.specs.Graph.{Term, iri, blankNode, numeric, plain, tagged, langString}
 use Rattle.model.specs.Rules.{Target, targetNode, subjectsOf, objectsOf, targetClass}
 use Rattle.tables.specs.Codes as codes
-use Rattle.tables.specs.Entries.{PathEntry, link, inv, seq, alt, Entry}
+use Rattle.tables.specs.Entries.{PathEntry, link, inv, seq, alt, star, plus, Entry}
 
 pub record NodeRow : Type 0 where
   pub kind : ℕ
@@ -30,6 +30,8 @@ pathRow (link p) = record { code = codes.pathLink; first = p; second = 0 }
 pathRow (inv a) = record { code = codes.pathInv; first = a; second = 0 }
 pathRow (seq a b) = record { code = codes.pathSeq; first = a; second = b }
 pathRow (alt a b) = record { code = codes.pathAlt; first = a; second = b }
+pathRow (star a) = record { code = codes.pathStar; first = a; second = 0 }
+pathRow (plus a) = record { code = codes.pathPlus; first = a; second = 0 }
 pathRow PathEntry.bad = record { code = codes.pathUnknown; first = 0; second = 0 }
 
 pub record FormRow : Type 0 where

@@ -18,7 +18,7 @@ use Rattle.text.specs.Spans.{Span}
 use Rattle.text.proofs.Spans.{span-join, span-head, span-split, span-none, span-nothing}
 use Rattle.text.proofs.Items.{itemEnd-edge}
 use Rattle.text.proofs.Words.{word-item, word-ends, item-span}
-use Rattle.model.specs.Paths.{Path, predicate, inverse, sequence, alternative, End, self, along}
+use Rattle.model.specs.Paths.{Path, predicate, inverse, sequence, alternative, zeroOrMore, oneOrMore, End, self, along}
 use Rattle.model.specs.Books.{Book, nodes, links, types, names}
 use Rattle.model.specs.Sizes.{endEntries}
 use Rattle.model.specs.Valid.{defined, pathOk, endOk}
@@ -144,6 +144,8 @@ module _ (s : List ℕ) (above : Book) where
     path-not-id (inverse e) at nx q o f = opened-not-id s at (span-head q .1)
     path-not-id (sequence d e) at nx q o f = opened-not-id s at (span-head q .1)
     path-not-id (alternative d e) at nx q o f = opened-not-id s at (span-head q .1)
+    path-not-id (zeroOrMore e) at nx q o f = opened-not-id s at (span-head q .1)
+    path-not-id (oneOrMore e) at nx q o f = opened-not-id s at (span-head q .1)
 
     is-self : (n : Begun) → Fit n → (at : ℕ) → at ≤ length s → (nx : ℕ) → slice at (itemEnd s at) s ≡ bytes "id" → itemEnd s at ≡ nx → Span s at nx (writeEnd above self) × Good above d n end self
     unfolding writeEnd endOk endDepth after endEntries

@@ -18,7 +18,7 @@ use Rattle.text.proofs.Items.{name-some}
 use Rattle.text.specs.Spans.{Span}
 use Rattle.text.proofs.Spans.{span-head}
 use Rattle.text.proofs.Words.{plain, word-item, word-ends, item-span}
-use Rattle.model.specs.Paths.{Path, predicate, inverse, sequence, alternative}
+use Rattle.model.specs.Paths.{Path, predicate, inverse, sequence, alternative, zeroOrMore, oneOrMore}
 use Rattle.model.specs.Shapes.{Test, nodeKind, datatype, languageIn, minInclusive, minExclusive, maxInclusive, maxExclusive, Shape, top, hasShape, hasValue, conj, disj, neg, test, count, forAll, equals, disjoint, closed, lessThan, lessThanEq, uniqueLang}
 use Rattle.model.specs.Rules.{Target, targetNode, subjectsOf, objectsOf, targetClass}
 use Rattle.model.specs.Books.{Book, links, names}
@@ -27,7 +27,7 @@ use Rattle.model.specs.Valid.{defined, pathOk, shapeOk}
 use Rattle.model.specs.Limits.{maxForms, maxPaths}
 use Rattle.grammar.specs.Writing.{nameOf, writePath, writeShape, writeTarget}
 use Rattle.grammar.specs.Valid.{pathDepth, shapeDepth, reserved, wellNamed}
-use Rattle.grammar.specs.Syntax.{Slot, path, form, target, Arg, Args, Family, invC, seqC, altC, pathFamily, isC, shapeC, andC, orC, notC, kindC, datatypeC, langC, fromC, aboveC, toC, belowC, countC, allC, equalC, apartC, closedC, lessC, lesseqC, onelangC, formFamily, nodeC, subjectsC, objectsC, classC, targetFamily}
+use Rattle.grammar.specs.Syntax.{Slot, path, form, target, Arg, Args, Family, invC, seqC, altC, starC, plusC, pathFamily, isC, shapeC, andC, orC, notC, kindC, datatypeC, langC, fromC, aboveC, toC, belowC, countC, allC, equalC, apartC, closedC, lessC, lesseqC, onelangC, formFamily, nodeC, subjectsC, objectsC, classC, targetFamily}
 use Rattle.grammar.specs.Reading.{Read, got, refused, andThen, Begun, after, pathBegun, formBegun, Readers, usedAt, linkAt, trueAt, bracketAt, deeper, noReaders, readersAt}
 use Rattle.grammar.proofs.Exact.{Exact, Edge, never-refused, passes, fails, thens, got-value, got-next, ends-of}
 use Rattle.grammar.proofs.Leaves.{Pools, used-exact, named-plain}
@@ -163,6 +163,8 @@ path-made (predicate p) = inl (p, refl)
 path-made (inverse e) = inr (invC, (e, tt), refl)
 path-made (sequence d e) = inr (seqC, (d, (e, tt)), refl)
 path-made (alternative d e) = inr (altC, (d, (e, tt)), refl)
+path-made (zeroOrMore e) = inr (starC, (e, tt), refl)
+path-made (oneOrMore e) = inr (plusC, (e, tt), refl)
 
 target-made : (x : Target) → Made target targetFamily x
 target-made (targetNode c) = (nodeC, (c, tt), refl)

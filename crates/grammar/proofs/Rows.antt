@@ -15,7 +15,7 @@ use Rattle.model.specs.Valid.{defined, upperOk, pathOk, endOk, testOk, shapeOk,
 use Rattle.model.specs.Limits.{maxCount}
 use Rattle.grammar.specs.Writing.{spaced, bracket, nameOf, writePath, writeTest, writeShape, writeTarget}
 use Rattle.grammar.specs.Valid.{pathDepth, shapeDepth}
-use Rattle.grammar.specs.Syntax.{Slot, path, form, target, Arg, Args, Family, PathCode, invC, seqC, altC, pathFamily, FormCode, isC, shapeC, andC, orC, notC, kindC, datatypeC, langC, fromC, aboveC, toC, belowC, countC, allC, equalC, apartC, closedC, lessC, lesseqC, onelangC, formFamily, TargetCode, nodeC, subjectsC, objectsC, classC, targetFamily, LineCode, linkL, typeL, langL, thingL, blankL, numberL, textL, wordsL, factL, shapeL, ruleL, lineFamily}
+use Rattle.grammar.specs.Syntax.{Slot, path, form, target, Arg, Args, Family, PathCode, invC, seqC, altC, starC, plusC, pathFamily, FormCode, isC, shapeC, andC, orC, notC, kindC, datatypeC, langC, fromC, aboveC, toC, belowC, countC, allC, equalC, apartC, closedC, lessC, lesseqC, onelangC, formFamily, TargetCode, nodeC, subjectsC, objectsC, classC, targetFamily, LineCode, linkL, typeL, langL, thingL, blankL, numberL, textL, wordsL, factL, shapeL, ruleL, lineFamily}
 use Rattle.grammar.specs.Reading.{Begun, after, pathBegun, formBegun}
 use Rattle.grammar.specs.Args.{argOk}
 use Rattle.grammar.proofs.Args.{argDepth, argsDepth, afterAll, writeArgs, argsOk}
@@ -43,24 +43,32 @@ unfolding writePath bracket spaced
 path-text above invC xs = refl
 path-text above seqC xs = refl
 path-text above altC xs = refl
+path-text above starC xs = refl
+path-text above plusC xs = refl
 
 path-ok : (above : Book) (c : PathCode) (xs : Args (pathFamily .slots c)) → pathOk above (pathFamily .build c xs) ≡ argsOk above (pathFamily .slots c) xs
 unfolding pathOk
 path-ok above invC xs = and-one (pathOk above (xs .0))
 path-ok above seqC xs = and-two (pathOk above (xs .0)) (pathOk above (xs .1 .0))
 path-ok above altC xs = and-two (pathOk above (xs .0)) (pathOk above (xs .1 .0))
+path-ok above starC xs = and-one (pathOk above (xs .0))
+path-ok above plusC xs = and-one (pathOk above (xs .0))
 
 path-depth : (c : PathCode) (xs : Args (pathFamily .slots c)) → pathDepth (pathFamily .build c xs) ≡ suc (argsDepth (pathFamily .slots c) xs)
 unfolding pathDepth
 path-depth invC xs = omega arith
 path-depth seqC xs = omega arith
 path-depth altC xs = omega arith
+path-depth starC xs = omega arith
+path-depth plusC xs = omega arith
 
 path-counts : (c : PathCode) (xs : Args (pathFamily .slots c)) (n : Begun) → after path (pathFamily .build c xs) n ≡ afterAll (pathFamily .slots c) xs (pathBegun n)
 unfolding after pathEntries
 path-counts invC xs n = same-counts refl (omega arith) refl
 path-counts seqC xs n = same-counts refl (omega arith) refl
 path-counts altC xs n = same-counts refl (omega arith) refl
+path-counts starC xs n = same-counts refl (omega arith) refl
+path-counts plusC xs n = same-counts refl (omega arith) refl
 
 pub path-rows : (above : Book) → Rows above path pathFamily (writePath above) pathBegun
 path-rows above = record { text = path-text above; ok = path-ok above; depth = path-depth; counts = path-counts }
@@ -70,6 +78,8 @@ unfolding indexOf firstFrom eql allb edge
 path-placed invC = (0, refl, refl, refl, refl)
 path-placed seqC = (1, refl, refl, refl, refl)
 path-placed altC = (2, refl, refl, refl, refl)
+path-placed starC = (3, refl, refl, refl, refl)
+path-placed plusC = (4, refl, refl, refl, refl)
 
 -- ---- FORM
 form-text : (above : Book) (c : FormCode) (xs : Args (formFamily .slots c)) → writeShape above (formFamily .build c xs) ≡ 40 ∷ (formFamily .word c ++ (writeArgs above (formFamily .slots c) xs ++ (41 ∷ [])))

@@ -6,7 +6,7 @@ use lib.IntN.{pos, negsuc}
 use Rattle.base.specs.Bytes.{bytes}
 use Rattle.model.specs.Answers.{Answer, value, refusal}
 use Rattle.model.specs.Graph.{iri, numeric}
-use Rattle.model.specs.Paths.{Path, predicate, inverse}
+use Rattle.model.specs.Paths.{Path, predicate, inverse, sequence, zeroOrMore, oneOrMore}
 use Rattle.model.specs.Shapes.{Shape, top, neg, uniqueLang}
 use Rattle.model.specs.Books.{Book, type, node, shape, rules, listOf}
 
@@ -44,25 +44,27 @@ reads ls b = record { text = textOf ls; answer = value b }
 abbrev pub gives : List String → ℕ → ℕ → Case
 gives ls r line = record { text = textOf ls; answer = refusal r line }
 
--- n times `not` before `true`, and `inv` before the link `a`
-abbrev pub nots : ℕ → List ℕ
-nots zero = bytes "true"
-nots (suc n) = bytes "(not " ++ (nots n ++ bytes ")")
+-- n brackets of a word, one in the other, w in the innermost; and what they mean, f put n times to x
+abbrev pub nested : String → ℕ → List ℕ → List ℕ
+nested word zero w = w
+nested word (suc n) w = 40 ∷ (bytes word ++ (32 ∷ (nested word n w ++ (41 ∷ []))))
 
-abbrev pub invs : ℕ → List ℕ
-invs zero = bytes "a"
-invs (suc n) = bytes "(inv " ++ (invs n ++ bytes ")")
-
-abbrev pub negations : ℕ → Shape
-negations zero = top
-negations (suc n) = neg (negations n)
-
-abbrev pub inverses : ℕ → Path
-inverses zero = predicate 0
-inverses (suc n) = inverse (inverses n)
+abbrev pub iterate : {A : Type 0} → (A → A) → ℕ → A → A
+iterate f zero x = x
+iterate f (suc n) x = f (iterate f n x)
 
 abbrev pub shapeLine : List ℕ → List ℕ
 shapeLine w = bytes "(shape x " ++ (w ++ (bytes ")" ++ (10 ∷ [])))
+
+-- a path in a shape
+abbrev pub pathLine : List ℕ → List ℕ
+pathLine w = shapeLine (bytes "(onelang " ++ (w ++ bytes ")"))
+
+abbrev pub readsPath : List ℕ → Path → Case
+readsPath w e = record { text = pathLine w; answer = value (shape (bytes "x") (uniqueLang e) ∷ []) }
+
+abbrev pub givesPath : List ℕ → ℕ → Case
+givesPath w r = record { text = pathLine w; answer = refusal r 1 }
 
 abbrev pub edges : List Case
 edges =
@@ -78,10 +80,17 @@ edges =
     ∷ gives ("(link mount)" ∷ "(thing left)" ∷ "(fact left mount h999)" ∷ []) 5 3
     ∷ gives ("(thing left)" ∷ "(thing left)" ∷ []) 6 2
     -- 32 brackets open together, and 33
-    ∷ record { text = shapeLine (nots 31); answer = value (shape (bytes "x") (negations 31) ∷ []) }
-    ∷ record { text = shapeLine (nots 32); answer = refusal 4 1 }
-    ∷ record { text = shapeLine (bytes "(onelang " ++ (invs 30 ++ bytes ")")); answer = value (shape (bytes "x") (uniqueLang (inverses 30)) ∷ []) }
-    ∷ record { text = shapeLine (bytes "(onelang " ++ (invs 31 ++ bytes ")")); answer = refusal 4 1 }
+    ∷ record { text = shapeLine (nested "not" 31 (bytes "true")); answer = value (shape (bytes "x") (iterate neg 31 top) ∷ []) }
+    ∷ record { text = shapeLine (nested "not" 32 (bytes "true")); answer = refusal 4 1 }
+    ∷ readsPath (nested "inv" 30 (bytes "a")) (iterate inverse 30 (predicate 0))
+    ∷ givesPath (nested "inv" 31 (bytes "a")) 4
+    -- document 02, Job 1
+    ∷ readsPath (nested "star" 30 (bytes "a")) (iterate zeroOrMore 30 (predicate 0))
+    ∷ givesPath (nested "star" 31 (bytes "a")) 4
+    ∷ readsPath (bytes "(plus (seq (star a) a))") (oneOrMore (sequence (zeroOrMore (predicate 0)) (predicate 0)))
+    ∷ givesPath (bytes "(star)") 2
+    ∷ givesPath (bytes "(plus a a)") 2
+    ∷ givesPath (bytes "(star id)") 2
     ∷ []
 
 -- ---- the rig of docs/BOOK.md: its nodes 1 and 2 are left and right

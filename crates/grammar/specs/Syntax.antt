@@ -4,7 +4,7 @@ use mathlib.Core.List.{List, [], _∷_}
 use lib.IntN.{ℤ}
 use Rattle.base.specs.Bytes.{bytes}
 use Rattle.model.specs.Graph.{iri, blankNode, numeric, plain, tagged}
-use Rattle.model.specs.Paths.{Path, inverse, sequence, alternative, End}
+use Rattle.model.specs.Paths.{Path, inverse, sequence, alternative, zeroOrMore, oneOrMore, End}
 use Rattle.model.specs.Shapes.{Kind, nodeKind, datatype, languageIn, minInclusive, minExclusive, maxInclusive, maxExclusive, Upper, Shape, hasShape, hasValue, conj, disj, neg, test, count, forAll, equals, disjoint, closed, lessThan, lessThanEq, uniqueLang}
 use Rattle.model.specs.Rules.{Target, targetNode, subjectsOf, objectsOf, targetClass}
 use Rattle.model.specs.Books.{Name, Line, link, type, lang, node, fact, shape, rule, Pool, nodes, links, types, langs, shapes}
@@ -50,27 +50,33 @@ pub record Family (A : Type 0) : Type 1 where
   pub slots : Code → List Slot
   pub build : (c : Code) → Args (slots c) → A
 
--- ---- PATH
+-- ---- PATH, in the order of the tables' codes
 pub data PathCode : Type 0 where
-  invC seqC altC : PathCode
+  invC seqC altC starC plusC : PathCode
 
 abbrev pub pathWord : PathCode → List ℕ
 pathWord invC = bytes "inv"
 pathWord seqC = bytes "seq"
 pathWord altC = bytes "alt"
+pathWord starC = bytes "star"
+pathWord plusC = bytes "plus"
 
 abbrev pub pathSlots : PathCode → List Slot
 pathSlots invC = path ∷ []
 pathSlots seqC = path ∷ path ∷ []
 pathSlots altC = path ∷ path ∷ []
+pathSlots starC = path ∷ []
+pathSlots plusC = path ∷ []
 
 abbrev pub pathOf : (c : PathCode) → Args (pathSlots c) → Path
 pathOf invC a = inverse (a .0)
 pathOf seqC a = sequence (a .0) (a .1 .0)
 pathOf altC a = alternative (a .0) (a .1 .0)
+pathOf starC a = zeroOrMore (a .0)
+pathOf plusC a = oneOrMore (a .0)
 
 abbrev pub pathFamily : Family Path
-pathFamily = record { Code = PathCode; codes = invC ∷ seqC ∷ altC ∷ []; other = invC; word = pathWord; slots = pathSlots; build = pathOf }
+pathFamily = record { Code = PathCode; codes = invC ∷ seqC ∷ altC ∷ starC ∷ plusC ∷ []; other = invC; word = pathWord; slots = pathSlots; build = pathOf }
 
 -- ---- FORM, in the order of the tables' codes
 pub data FormCode : Type 0 where

@@ -8,7 +8,7 @@ use Rattle.base.specs.Lists.{anyb}
 use Rattle.base.specs.Bytes.{bytes, eql}
 use Rattle.text.specs.Items.{isName}
 use Rattle.model.specs.Limits.{maxBytes, maxDepth}
-use Rattle.model.specs.Paths.{Path, predicate, inverse, sequence, alternative, End, self, along}
+use Rattle.model.specs.Paths.{Path, predicate, inverse, sequence, alternative, zeroOrMore, oneOrMore, End, self, along}
 use Rattle.model.specs.Shapes.{Shape, top, hasShape, hasValue, conj, disj, neg, test, count, forAll, equals, disjoint, closed, lessThan, lessThanEq, uniqueLang}
 use Rattle.model.specs.Books.{Name, Line, link, type, lang, node, fact, shape, rule, Book, Pool, nodes, links, types, langs, shapes, names}
 use Rattle.model.specs.Valid.{lineOk}
@@ -20,6 +20,8 @@ pathDepth (predicate p) = 0
 pathDepth (inverse e) = suc (pathDepth e)
 pathDepth (sequence d e) = suc (max (pathDepth d) (pathDepth e))
 pathDepth (alternative d e) = suc (max (pathDepth d) (pathDepth e))
+pathDepth (zeroOrMore e) = suc (pathDepth e)
+pathDepth (oneOrMore e) = suc (pathDepth e)
 
 unfoldable pub endDepth : End → ℕ
 endDepth self = 0

@@ -5,7 +5,7 @@ use lib.ListN.{getD}
 use Rattle.base.specs.Bytes.{bytes}
 use Rattle.text.specs.Decimals.{decimal, signed}
 use Rattle.model.specs.Graph.{Term, iri, blankNode, numeric, plain, tagged}
-use Rattle.model.specs.Paths.{Path, predicate, inverse, sequence, alternative, End, self, along}
+use Rattle.model.specs.Paths.{Path, predicate, inverse, sequence, alternative, zeroOrMore, oneOrMore, End, self, along}
 use Rattle.model.specs.Shapes.{Kind, anIri, aBlank, aLiteral, Test, nodeKind, datatype, languageIn, minInclusive, minExclusive, maxInclusive, maxExclusive, Upper, atMost, unbounded, Shape, top, hasShape, hasValue, conj, disj, neg, test, count, forAll, equals, disjoint, closed, lessThan, lessThanEq, uniqueLang}
 use Rattle.model.specs.Rules.{Target, targetNode, subjectsOf, objectsOf, targetClass}
 use Rattle.model.specs.Books.{Name, Line, link, type, lang, node, fact, shape, rule, Book, Pool, nodes, links, types, langs, shapes, names}
@@ -38,6 +38,8 @@ module _ (above : Book) where
   writePath (inverse e) = bracket (bytes "inv") (writePath e ∷ [])
   writePath (sequence d e) = bracket (bytes "seq") (writePath d ∷ writePath e ∷ [])
   writePath (alternative d e) = bracket (bytes "alt") (writePath d ∷ writePath e ∷ [])
+  writePath (zeroOrMore e) = bracket (bytes "star") (writePath e ∷ [])
+  writePath (oneOrMore e) = bracket (bytes "plus") (writePath e ∷ [])
 
   unfoldable pub writeEnd : End → List ℕ
   writeEnd self = bytes "id"

@@ -1,20 +1,21 @@
 -- What is stored for a path and for a shape is what its entries add to the tables.
-use Prim.Native.Nat.{ℕ, suc, _+_, _≤_, _<_}
+use Prim.Native.Nat.{ℕ, suc, _+_, _-_, _≤_, _<_}
 use mathlib.Core.List.{List, [], _∷_, _++_, map, map-append}
-use mathlib.Core.Path.{_≡_, refl, sym, ap, _∙_}
+use mathlib.Core.Path.{_≡_, refl, sym, ap, _∙_, subst}
 use native.Mathlib.Omega.{arith}
 use lib.ListN.{length, set, length-append, length-map}
 use lib.Seq.{sets}
 use lib.IntN.{ℤ, pos}
 use Rattle.base.specs.Columns.{flat, push}
 use Rattle.model.specs.Limits.{maxForms, maxPaths, maxItems}
-use Rattle.model.specs.Paths.{Path, predicate, inverse, sequence, alternative, End, self, along}
+use Rattle.model.specs.Paths.{Path, predicate, inverse, sequence, alternative, zeroOrMore, oneOrMore, End, self, along}
 use Rattle.model.specs.Shapes.{Test, nodeKind, datatype, languageIn, minInclusive, minExclusive, maxInclusive, maxExclusive, Shape, top, hasShape, hasValue, conj, disj, neg, test, count, forAll, equals, disjoint, closed, lessThan, lessThanEq, uniqueLang}
 use Rattle.model.specs.Sizes.{pathEntries}
 use Rattle.tables.specs.Layout as Layout
-use Rattle.tables.specs.Entries.{PathEntry, inv, seq, alt, Entry}
+use Rattle.tables.specs.Codes as codes
+use Rattle.tables.specs.Entries.{PathEntry, inv, seq, alt, star, plus, Entry}
 use Rattle.tables.specs.Entries as E
-use Rattle.encoding.specs.Rows.{pathRow, formRow, plainRow, valueRow}
+use Rattle.encoding.specs.Rows.{PathRow, pathRow, formRow, plainRow, valueRow}
 use Rattle.encoding.specs.Flatten.{lastNumber, addPath, Entries, addForm, withPath, withItems, withEnd, endNumber, kindCode, addTest, addShape}
 use Rattle.encoding.specs.Encode.{Content, cellColumns, valueColumns}
 use Rattle.encoding.proofs.Counts.{path-size, end-size, shape-size}
@@ -124,13 +125,19 @@ module _ (C : Content) (t : List ℕ) where
   put-items es ks h = items-sets ks (length (es .items)) (at es) ∙ puts 0 t (cellColumns (withEntries C es)) 15 (length (es .items)) ks refl h
 
   -- ---- paths
+  -- an entry of one part, by its code
+  one-part : (x : ℕ → PathEntry) (code : ℕ) → ((k : ℕ) → pathRow (x k) ≡ record { code = code; first = k; second = 0 }) → (d : Path) (es : Entries) → length (es .paths) + suc (pathEntries d) ≤ maxPaths → pathCells (length (es .paths)) d (at es) ≡ at (withPath d es)
+      → putPath (length (es .paths) + pathEntries d) code (length (es .paths) + pathEntries d - 1) 0 (pathCells (length (es .paths)) d (at es)) ≡ at (addEntry (x (lastNumber (addPath d (es .paths)))) (withPath d es))
+  one-part x code row d es h p =
+      let ds = withPath d es in
+      let k = lastNumber (ds .paths) in
+      let n = path-size d (es .paths) in
+      rw (p, ← path-size d (es .paths)) (subst (λ (r : PathRow). putPath (length (ds .paths)) (r .code) (r .first) (r .second) (at ds) ≡ at (addEntry (x k) ds)) (row k) (path-row ds (x k) (omega arith)))
+
   pub path-cells : (e : Path) (es : Entries) → length (es .paths) + pathEntries e ≤ maxPaths → pathCells (length (es .paths)) e (at es) ≡ at (withPath e es)
   unfolding pathCells addPath pathEntries pathRow
   path-cells (predicate p) es h = path-row es (E.link p) (omega arith)
-  path-cells (inverse d) es h =
-      let ds = withPath d es in
-      let n = path-size d (es .paths) in
-      rw (path-cells d es (omega arith), ← path-size d (es .paths)) (path-row ds (inv (lastNumber (ds .paths))) (omega arith))
+  path-cells (inverse d) es h = one-part inv codes.pathInv (λ k. refl) d es h (path-cells d es (omega arith))
   path-cells (sequence d e) es h =
       let ds = withPath d es in
       let fs = withPath e ds in
@@ -143,6 +150,8 @@ module _ (C : Content) (t : List ℕ) where
       let n = path-size d (es .paths) in
       let m = path-size e (ds .paths) in
       rw (path-cells d es (omega arith), ← path-size d (es .paths), path-cells e ds (omega arith), ← path-size e (ds .paths)) (path-row fs (alt (lastNumber (ds .paths)) (lastNumber (fs .paths))) (omega arith))
+  path-cells (zeroOrMore d) es h = one-part star codes.pathStar (λ k. refl) d es h (path-cells d es (omega arith))
+  path-cells (oneOrMore d) es h = one-part plus codes.pathPlus (λ k. refl) d es h (path-cells d es (omega arith))
 
   -- ---- shapes
   end-cells : (f : End) (es : Entries) → EntriesWithin (withEnd f es) → endCells (length (es .paths)) f (at es) ≡ at (withEnd f es)

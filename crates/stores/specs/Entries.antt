@@ -4,7 +4,7 @@ use Prim.Native.Nat.{ℕ, _+_, _-_}
 use mathlib.Core.List.{List, [], _∷_}
 use lib.ListN.{length, set}
 use lib.IntN.{ℤ}
-use Rattle.model.specs.Paths.{Path, predicate, inverse, sequence, alternative, End, self, along}
+use Rattle.model.specs.Paths.{Path, predicate, inverse, sequence, alternative, zeroOrMore, oneOrMore, End, self, along}
 use Rattle.model.specs.Shapes.{Test, nodeKind, datatype, languageIn, minInclusive, minExclusive, maxInclusive, maxExclusive, Shape, top, hasShape, hasValue, conj, disj, neg, test, count, forAll, equals, disjoint, closed, lessThan, lessThanEq, uniqueLang}
 use Rattle.model.specs.Sizes.{pathEntries}
 use Rattle.tables.specs.Layout.{noNumber, pathCodes, pathFirsts, pathSeconds, formCodes, formFirsts, formSeconds, formThirds, formFourths, items, formValues}
@@ -32,6 +32,8 @@ pathCells n (predicate p) cs = putPath n codes.pathLink p 0 cs
 pathCells n (inverse e) cs = let m = n + pathEntries e in putPath m codes.pathInv (m - 1) 0 (pathCells n e cs)
 pathCells n (sequence d e) cs = let m = n + pathEntries d in let l = m + pathEntries e in putPath l codes.pathSeq (m - 1) (l - 1) (pathCells m e (pathCells n d cs))
 pathCells n (alternative d e) cs = let m = n + pathEntries d in let l = m + pathEntries e in putPath l codes.pathAlt (m - 1) (l - 1) (pathCells m e (pathCells n d cs))
+pathCells n (zeroOrMore e) cs = let m = n + pathEntries e in putPath m codes.pathStar (m - 1) 0 (pathCells n e cs)
+pathCells n (oneOrMore e) cs = let m = n + pathEntries e in putPath m codes.pathPlus (m - 1) 0 (pathCells n e cs)
 
 unfoldable pub endCells : ℕ → End → List ℕ → List ℕ
 endCells n self cs = cs
