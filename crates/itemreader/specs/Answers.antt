@@ -84,7 +84,7 @@ headAt s words deep full at =
 
 -- how many words each family has
 abbrev pub pathWords : ℕ
-pathWords = 3
+pathWords = 5
 
 abbrev pub formWords : ℕ
 formWords = 20

@@ -1,14 +1,18 @@
 // The words after an opening bracket, by their number in the family that they are looked up in, and how many words
 // each family has.
 
-// of paths
+// of paths: one less than the code of its entry, since a bare link has no bracket
 pub const PATH_INV: usize = 0;
 
 pub const PATH_SEQ: usize = 1;
 
 pub const PATH_ALT: usize = 2;
 
-pub const PATH_FAMILY: usize = PATH_ALT + 1;
+pub const PATH_STAR: usize = 3;
+
+pub const PATH_PLUS: usize = 4;
+
+pub const PATH_FAMILY: usize = PATH_PLUS + 1;
 
 // of forms: one less than the code of its entry, since `true` has no bracket
 pub const IS: usize = 0;

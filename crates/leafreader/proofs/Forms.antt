@@ -14,7 +14,7 @@ use Rattle.base.specs.Bytes.{bytes, eql}
 use Rattle.base.proofs.Bools.{bool-cases}
 use Rattle.text.specs.Items.{itemEnd}
 use Rattle.text.proofs.Parts.{inside}
-use Rattle.model.specs.Paths.{Path, predicate, inverse, sequence, alternative, End, self, along}
+use Rattle.model.specs.Paths.{Path, End, self, along}
 use Rattle.model.specs.Shapes.{Shape, top}
 use Rattle.model.specs.Books.{Book, Pool}
 use Rattle.model.specs.Sizes.{pathEntries, endEntries}
@@ -22,6 +22,7 @@ use Rattle.model.specs.Limits.{maxForms, maxPaths, maxItems}
 use Rattle.grammar.specs.Syntax.{Slot, Arg, list, form}
 use Rattle.grammar.specs.Reading.{Read, got, refused, Readers, Begun, after, argAt, listAt, closeAt, trueAt}
 use Rattle.tables.specs.Layout.{cellCount, formCodes, formFirsts, formSeconds, formThirds, formFourths}
+use Rattle.encoding.proofs.Counts.{path-entries}
 use Rattle.stores.specs.Entries.{putForm, putItems, pathCells, endCells, endOperand, shapeCells, shapeValues}
 use Rattle.itemreader.specs.Answers.{restAt}
 use Rattle.itemreader.proofs.Heads.{rest-none, rest-got}
@@ -90,18 +91,11 @@ list-closes f code h n m ks cs mid vs c e =
     let d : m - n .items ≡ length ks = omega arith in
     rw (d, e, ← c) (h n ks cs vs)
 
-pub path-some : (e : Path) → 0 < pathEntries e
-unfolding pathEntries
-path-some (predicate p) = omega arith
-path-some (inverse e) = omega arith
-path-some (sequence d e) = omega arith
-path-some (alternative d e) = omega arith
-
 -- an END's number, by the path entries before and after it
 pub end-operand : (e : End) (n m : ℕ) → n + endEntries e ≡ m → endNumber n m ≡ endOperand m e
 unfolding endOperand endEntries
 end-operand self n m c = let d : m ≡ n = omega arith in rw (eq-eqb m n d)
-end-operand (along e) n m c = let p = path-some e in rw (ne-eqb m n (λ d. omega arith))
+end-operand (along e) n m c = let p = path-entries e in rw (ne-eqb m n (λ d. omega arith))
 
 module _ (n : Ended) (m p : ℕ) (cs mid : List ℕ) (vs : List ℤ) where
   pub end-closes : (f : End → ℕ → Shape) (code : ℕ) → EndShape f code → (e : End) (o : ℕ) → n .paths + endEntries e ≡ m → mid ≡ endCells (n .paths) e cs → o ≡ endNumber (n .paths) m

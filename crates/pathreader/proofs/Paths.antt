@@ -1,8 +1,8 @@
 -- PATH, case by case: what the reading gives by the tests that the code makes, and what is stored.
 use Prim.Native.Nat.{ℕ, zero, suc, _+_, _-_, _<_, _≤_}
-use mathlib.Core.Path.{_≡_, refl, sym, ap, _∙_}
-use mathlib.Core.List.{List}
-use mathlib.Core.Bool.{Bool, true, false, cond, true≢false}
+use mathlib.Core.Path.{_≡_, refl, sym, ap, ap₂, _∙_}
+use mathlib.Core.List.{List, [], _∷_}
+use mathlib.Core.Bool.{Bool, true, false, not, _&&_, cond, true≢false}
 use native.Mathlib.Omega.{arith}
 use native.Mathlib.Numerals.{sub-one}
 use borrow.Author.Tests.{eq-eqb, ne-eqb, eqb-true}
@@ -13,17 +13,17 @@ use Rattle.base.specs.Bytes.{bytes, eql}
 use Rattle.base.proofs.Bools.{bool-cases}
 use Rattle.text.specs.Items.{itemEnd}
 use Rattle.text.proofs.Parts.{inside}
-use Rattle.model.specs.Paths.{Path, predicate, inverse, sequence, alternative, End, self, along}
+use Rattle.model.specs.Paths.{Path, predicate, inverse, sequence, alternative, zeroOrMore, oneOrMore, End, self, along}
 use Rattle.model.specs.Books.{Book, links}
 use Rattle.model.specs.Sizes.{pathEntries, endEntries}
 use Rattle.model.specs.Limits.{maxPaths}
-use Rattle.grammar.specs.Syntax.{used, path, end, pathFamily}
+use Rattle.grammar.specs.Syntax.{used, path, end, PathCode, invC, seqC, altC, starC, plusC, pathFamily}
 use Rattle.grammar.specs.Reading.{Read, got, refused, andThen, Readers, Begun, pathBegun, after, spaceAt, argAt, endAt, usedAt, closeAt, bodyAt, linkAt, noReaders, deeper, readersAt}
 use Rattle.tables.specs.Layout.{cellCount, pathCodes, pathFirsts, pathSeconds}
 use Rattle.stores.specs.Entries.{putPath, pathCells, endCells}
 use Rattle.itemreader.specs.declared.Item.{Item}
 use Rattle.itemreader.specs.declared.Head.{Head}
-use Rattle.itemreader.specs.Answers.{headAt, wordsOf}
+use Rattle.itemreader.specs.Answers.{headAt, pathWords, wordsOf, restAt}
 use Rattle.itemreader.proofs.Items.{item-got, item-refused, then-refused, then-got}
 use Rattle.itemreader.proofs.Heads.{bracket-bare, bracket-refused, bracket-word, rest-none, rest-got, rest-refused}
 use Rattle.pathreader.specs.Paths.{pathsAfter, endsAfter, Done, PathRead, EndRead, Grown, closed}
@@ -106,8 +106,28 @@ module _ (s : List ℕ) (a : Book) (b : Begun) (at m : ℕ) (q : b .paths ≡ m)
     path-word zero k stop e f = absurd (true≢false (bracket-word s a pathFamily (noReaders s a) true (leb maxPaths (b .paths)) (λ c. true) (linkAt s a (leb maxPaths (b .paths)) (at + 1)) (pathBegun b) (at + 1) k stop (is-head zero true refl e (Head.Word k stop) f) .0))
     path-word (suc left) k stop e f = rw (eq-eqb (getD s at 0) 32 z, sub-one) (bracket-word s a pathFamily _ false (leb maxPaths (b .paths)) (λ c. true) (linkAt s a (leb maxPaths (b .paths)) (at + 1)) (pathBegun b) (at + 1) k stop (is-head (suc left) false (some-left left) e (Head.Word k stop) f) .1)
 
--- ---- what follows the word: one path, or two
--- 1 is seq, 2 is alt
+-- ---- what follows the word, by its number: two paths for seq and alt, 1 and 2; else one
+abbrev pub isOne : ℕ → Bool
+isOne code = not (eqb code 1) && not (eqb code 2)
+
+-- 0 is inv, 3 is star, 4 is plus
+one-cases : (P : ℕ → Type 0) (code : ℕ) → isOne code ≡ true → code < pathWords → P 0 → P 3 → P 4 → P code
+one-cases P zero o l p q r = p
+one-cases P (suc zero) o l p q r = absurd (true≢false (sym o))
+one-cases P (suc (suc zero)) o l p q r = absurd (true≢false (sym o))
+one-cases P (suc (suc (suc zero))) o l p q r = q
+one-cases P (suc (suc (suc (suc zero)))) o l p q r = r
+one-cases P (suc (suc (suc (suc (suc code))))) o l p q r = absurd (omega arith)
+
+two-cases : (P : ℕ → Type 0) (code : ℕ) → isOne code ≡ false → P 1 → P 2 → P code
+two-cases P zero o p q = absurd (true≢false o)
+two-cases P (suc zero) o p q = p
+two-cases P (suc (suc zero)) o p q = q
+two-cases P (suc (suc (suc code))) o p q = absurd (true≢false (sym (ap₂ (λ (x y : Bool). not x && not y) (ne-eqb (suc (suc (suc code))) 1 (λ e. omega arith)) (ne-eqb (suc (suc (suc code))) 2 (λ e. omega arith))) ∙ o))
+
+abbrev pub onePath : ℕ → Path → Path
+onePath code d = cond (eqb code 3) (zeroOrMore d) (cond (eqb code 4) (oneOrMore d) (inverse d))
+
 abbrev pub twoPaths : ℕ → Path → Path → Path
 twoPaths code d e = cond (eqb code 1) (sequence d e) (alternative d e)
 
@@ -115,31 +135,46 @@ module _ (s : List ℕ) (a : Book) (R : Readers) (b : Begun) (at : ℕ) where
   abbrev body : ℕ → Read Path
   body code = bodyAt s a pathFamily R (λ c. true) (getD (pathFamily .codes) code (pathFamily .other)) b at
 
-  pub body-refused : (code k : ℕ) → argAt s a R path b at ≡ refused k → body code ≡ refused k
+  -- each word has a path after it
+  code-refused : (c : PathCode) (k : ℕ) → argAt s a R path b at ≡ refused k → bodyAt s a pathFamily R (λ c. true) c b at ≡ refused k
   unfolding bodyAt
-  body-refused zero k e = rest-refused s a R true path _ _ b at k e
-  body-refused (suc zero) k e = rest-refused s a R true path _ _ b at k e
-  body-refused (suc (suc zero)) k e = rest-refused s a R true path _ _ b at k e
-  body-refused (suc (suc (suc code))) k e = rest-refused s a R true path _ _ b at k e
+  code-refused invC k e = rest-refused s a R true path _ _ b at k e
+  code-refused seqC k e = rest-refused s a R true path _ _ b at k e
+  code-refused altC k e = rest-refused s a R true path _ _ b at k e
+  code-refused starC k e = rest-refused s a R true path _ _ b at k e
+  code-refused plusC k e = rest-refused s a R true path _ _ b at k e
+
+  pub body-refused : (code k : ℕ) → argAt s a R path b at ≡ refused k → body code ≡ refused k
+  body-refused code k e = code-refused (getD (pathFamily .codes) code (pathFamily .other)) k e
 
   module _ (d : Path) (next : ℕ) (e : argAt s a R path b at ≡ got d next) where
-    pub body-inverse : (code : ℕ) → code ≡ 0 → body code ≡ closeAt s a true (inverse d) next
-    unfolding bodyAt
-    body-inverse code c = rw c (rest-got s a R true path _ _ b at d next e ∙ rest-none s a R true _ (after path d b) next)
+    one-rest : (f : Path → Path) → restAt s a R true (path ∷ []) (λ xs. f (xs .0)) b at ≡ closeAt s a true (f d) next
+    one-rest f = rest-got s a R true path [] (λ xs. f (xs .0)) b at d next e ∙ rest-none s a R true _ (after path d b) next
 
-    pub body-second-refused : (code k : ℕ) → (code ≡ 0 → ⊥) → code < 3 → argAt s a R path (after path d b) next ≡ refused k → body code ≡ refused k
+    pub body-one : (code : ℕ) → isOne code ≡ true → code < pathWords → body code ≡ closeAt s a true (onePath code d) next
     unfolding bodyAt
-    body-second-refused zero k n l f = absurd (n refl)
-    body-second-refused (suc zero) k n l f = rest-got s a R true path _ _ b at d next e ∙ rest-refused s a R true path _ _ (after path d b) next k f
-    body-second-refused (suc (suc zero)) k n l f = rest-got s a R true path _ _ b at d next e ∙ rest-refused s a R true path _ _ (after path d b) next k f
-    body-second-refused (suc (suc (suc code))) k n l f = absurd (omega arith)
+    body-one code o l = one-cases (λ c. body c ≡ closeAt s a true (onePath c d) next) code o l (one-rest inverse) (one-rest zeroOrMore) (one-rest oneOrMore)
 
-    pub body-joined : (code : ℕ) (f : Path) (last : ℕ) → (code ≡ 0 → ⊥) → code < 3 → argAt s a R path (after path d b) next ≡ got f last → body code ≡ closeAt s a true (twoPaths code d f) last
+    module _ (f : Path → Path → Path) where
+      abbrev two-rest : Read Path
+      two-rest = restAt s a R true (path ∷ path ∷ []) (λ xs. f (xs .0) (xs .1 .0)) b at
+
+      two-first : two-rest ≡ restAt s a R true (path ∷ []) (λ xs. f d (xs .0)) (after path d b) next
+      two-first = rest-got s a R true path (path ∷ []) (λ xs. f (xs .0) (xs .1 .0)) b at d next e
+
+      two-refused : (k : ℕ) → argAt s a R path (after path d b) next ≡ refused k → two-rest ≡ refused k
+      two-refused k g = two-first ∙ rest-refused s a R true path [] (λ xs. f d (xs .0)) (after path d b) next k g
+
+      two-got : (e : Path) (last : ℕ) → argAt s a R path (after path d b) next ≡ got e last → two-rest ≡ closeAt s a true (f d e) last
+      two-got e last g = two-first ∙ (rest-got s a R true path [] (λ xs. f d (xs .0)) (after path d b) next e last g ∙ rest-none s a R true _ (after path e (after path d b)) last)
+
+    pub body-second-refused : (code k : ℕ) → isOne code ≡ false → argAt s a R path (after path d b) next ≡ refused k → body code ≡ refused k
     unfolding bodyAt
-    body-joined zero f last n l g = absurd (n refl)
-    body-joined (suc zero) f last n l g = rest-got s a R true path _ _ b at d next e ∙ (rest-got s a R true path _ _ (after path d b) next f last g ∙ rest-none s a R true _ (after path f (after path d b)) last)
-    body-joined (suc (suc zero)) f last n l g = rest-got s a R true path _ _ b at d next e ∙ (rest-got s a R true path _ _ (after path d b) next f last g ∙ rest-none s a R true _ (after path f (after path d b)) last)
-    body-joined (suc (suc (suc code))) f last n l g = absurd (omega arith)
+    body-second-refused code k o g = two-cases (λ c. body c ≡ refused k) code o (two-refused sequence k g) (two-refused alternative k g)
+
+    pub body-joined : (code : ℕ) (f : Path) (last : ℕ) → isOne code ≡ false → argAt s a R path (after path d b) next ≡ got f last → body code ≡ closeAt s a true (twoPaths code d f) last
+    unfolding bodyAt
+    body-joined code f last o g = two-cases (λ c. body c ≡ closeAt s a true (twoPaths c d f) last) code o (two-got sequence f last g) (two-got alternative f last g)
 
 -- how many entries have begun deeper the bracket, and after its first path
 pub begun-first : (b : Begun) (n up : ℕ) → b .paths ≡ n + up → pathBegun b .paths ≡ n + (up + 1)
@@ -151,13 +186,13 @@ begun-second b n up m d q e = omega arith
 
 -- ---- what is stored
 module _ (n m : ℕ) (d : Path) (before mid : List ℕ) (c : n + pathEntries d ≡ m) (e : mid ≡ pathCells n d before) where
-  pub inverse-count : n + pathEntries (inverse d) ≡ m + 1
+  pub one-count : (code : ℕ) → isOne code ≡ true → code < pathWords → n + pathEntries (onePath code d) ≡ m + 1
   unfolding pathEntries
-  inverse-count = omega arith
+  one-count code o h = one-cases (λ k. n + pathEntries (onePath k d) ≡ m + 1) code o h (omega arith) (omega arith) (omega arith)
 
-  pub inverse-stored : putPath m 1 (m - 1) 0 mid ≡ pathCells n (inverse d) before
+  pub one-stored : (code : ℕ) → isOne code ≡ true → code < pathWords → putPath m (code + 1) (m - 1) 0 mid ≡ pathCells n (onePath code d) before
   unfolding pathCells
-  inverse-stored = rw (c, e)
+  one-stored code o h = one-cases (λ k. putPath m (k + 1) (m - 1) 0 mid ≡ pathCells n (onePath k d) before) code o h (rw (c, e)) (rw (c, e)) (rw (c, e))
 
   module _ (l : ℕ) (f : Path) (last : List ℕ) (c' : m + pathEntries f ≡ l) (e' : last ≡ pathCells m f mid) where
     both-count : n + suc (pathEntries d + pathEntries f) ≡ l + 1
@@ -167,12 +202,9 @@ module _ (n m : ℕ) (d : Path) (before mid : List ℕ) (c : n + pathEntries d �
     unfolding pathEntries
     joined-count code = bool-cases (λ t. n + pathEntries (cond t (sequence d f) (alternative d f)) ≡ l + 1) (eqb code 1) (λ _. both-count) (λ _. both-count)
 
-    pub joined-stored : (code : ℕ) → (code ≡ 0 → ⊥) → code < 3 → putPath l (code + 1) (m - 1) (l - 1) last ≡ pathCells n (twoPaths code d f) before
+    pub joined-stored : (code : ℕ) → isOne code ≡ false → putPath l (code + 1) (m - 1) (l - 1) last ≡ pathCells n (twoPaths code d f) before
     unfolding pathCells
-    joined-stored zero n0 h = absurd (n0 refl)
-    joined-stored (suc zero) n0 h = rw (c, c', ← e, e')
-    joined-stored (suc (suc zero)) n0 h = rw (c, c', ← e, e')
-    joined-stored (suc (suc (suc code))) n0 h = absurd (omega arith)
+    joined-stored code o = two-cases (λ k. putPath l (k + 1) (m - 1) (l - 1) last ≡ pathCells n (twoPaths k d f) before) code o (rw (c, c', ← e, e')) (rw (c, c', ← e, e'))
 
 pub path-drop : (e code x y : ℕ) (cs : List ℕ) → e < maxPaths → drop cellCount (putPath e code x y cs) ≡ drop cellCount cs
 unfolding putPath

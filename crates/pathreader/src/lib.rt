@@ -117,22 +117,16 @@ pub fn read_path(
             let Item::Is(m, next) = first else {
                 return first;
             };
-            if code == words::PATH_INV {
-                return close_path(cells, book, next, m, codes::PATH_INV, (m - 1) as u16, 0);
+            let entry = (code + 1) as u16;
+            let part = (m - 1) as u16;
+            if (code != words::PATH_SEQ) & (code != words::PATH_ALT) {
+                return close_path(cells, book, next, m, entry, part, 0);
             }
             let second = read_path(cells, names, index, counts, book, next, left - 1, m, up + 1);
             let Item::Is(l, last) = second else {
                 return second;
             };
-            close_path(
-                cells,
-                book,
-                last,
-                l,
-                (code + 1) as u16,
-                (m - 1) as u16,
-                (l - 1) as u16,
-            )
+            close_path(cells, book, last, l, entry, part, (l - 1) as u16)
         }
     }
 }

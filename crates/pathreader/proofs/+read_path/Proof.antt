@@ -6,13 +6,12 @@ use native.Mathlib.Omega.{arith}
 use borrow.Author.Tests.{leb-false}
 use lib.ListN.{length}
 use Rattle.text.proofs.Parts.{inside}
-use Rattle.model.specs.Paths.{inverse}
 use Rattle.model.specs.Limits.{maxPaths}
 use Rattle.grammar.specs.Syntax.{path}
 use Rattle.grammar.specs.Reading.{pathBegun, after, readersAt}
 use Rattle.stores.specs.Entries.{putPath}
 use Rattle.itemreader.proofs.Heads.{headed-word}
-use Rattle.pathreader.proofs.Paths.{done-no, done-is, path-got, done-refused, path-unspaced, path-bare, path-head-refused, path-word, twoPaths, body-refused, body-inverse, body-second-refused, body-joined, begun-first, begun-second, inverse-count, inverse-stored, joined-count, joined-stored, closed-read, closed-grown, grown-is}
+use Rattle.pathreader.proofs.Paths.{done-no, done-is, path-got, done-refused, path-unspaced, path-bare, path-head-refused, path-word, onePath, twoPaths, body-refused, body-one, body-second-refused, body-joined, begun-first, begun-second, one-count, one-stored, joined-count, joined-stored, closed-read, closed-grown, grown-is}
 use borrow.Fn.Kinds.{In}
 use borrow.Fn.PlainCycle.{Measures, is, falls, and}
 use Rattle.pathreader.proofs.read_path.Reads as read-path
@@ -109,14 +108,24 @@ read-path-returns-2 t c =
       (rw (k .1) tt, r .ensures .1 .1),
     )
 
-read-path-sub-close-path : (t : ℕ) → read-path-lts.Need-sub-close-path (read-path-calls t) (read-path-at t) read-path.Post
-read-path-sub-close-path t c =
-    let f = grown-is _ _ _ (c .before .before .before .before .before .before .before .read-path .result) _ _ (c .before .before .before .before .before .before .before .read-path .ensures .1 .0) (c .before .before .before .first .given .1) .0 in
+read-path-add-entry : (t : ℕ) → read-path-lts.Need-add-entry (read-path-calls t) (read-path-at t) read-path.Post
+read-path-add-entry t c =
+    let w = headed-word _ _ _ _ (c .before .before .before .before .before .before .before .before .before .before .path-head .result) _ _ (c .before .before .before .before .before .before .before .before .before .before .path-head .ensures .1) (c .before .before .before .before .before .before .before .before .code .given .1) .0 in
     omega arith
 
-read-path-cast-close-path : (t : ℕ) → read-path-lts.Need-cast-close-path (read-path-calls t) (read-path-at t) read-path.Post
-read-path-cast-close-path t c =
-    let f = grown-is _ _ _ (c .before .before .before .before .before .before .before .read-path .result) _ _ (c .before .before .before .before .before .before .before .read-path .ensures .1 .0) (c .before .before .before .first .given .1) .1 in
+read-path-cast-entry : (t : ℕ) → read-path-lts.Need-cast-entry (read-path-calls t) (read-path-at t) read-path.Post
+read-path-cast-entry t c =
+    let w = headed-word _ _ _ _ (c .before .before .before .before .before .before .before .before .before .before .path-head .result) _ _ (c .before .before .before .before .before .before .before .before .before .before .path-head .ensures .1) (c .before .before .before .before .before .before .before .before .code .given .1) .0 in
+    omega arith
+
+read-path-sub-part : (t : ℕ) → read-path-lts.Need-sub-part (read-path-calls t) (read-path-at t) read-path.Post
+read-path-sub-part t c =
+    let f = grown-is _ _ _ (c .before .before .before .before .before .read-path .result) _ _ (c .before .before .before .before .before .read-path .ensures .1 .0) (c .before .first .given .1) .0 in
+    omega arith
+
+read-path-cast-part : (t : ℕ) → read-path-lts.Need-cast-part (read-path-calls t) (read-path-at t) read-path.Post
+read-path-cast-part t c =
+    let f = grown-is _ _ _ (c .before .before .before .before .before .read-path .result) _ _ (c .before .before .before .before .before .read-path .ensures .1 .0) (c .before .first .given .1) .1 in
     omega arith
 
 read-path-close-path-requires : (t : ℕ) → read-path-lts.Need-close-path-requires (read-path-calls t) (read-path-at t) read-path.Post
@@ -139,13 +148,16 @@ read-path-returns-3 t c =
     let l = grown-is _ _ _ (c .before .before .before .before .before .before .before .before .before .before .read-path .result) _ _ (c .before .before .before .before .before .before .before .before .before .before .read-path .ensures .1 .0) (c .before .before .before .before .before .before .first .given .1) in
     let g0 = l .0 in
     let g1 = l .1 in
+    let hw = headed-word _ _ _ _ (c .before .before .before .before .before .before .before .before .before .before .before .before .before .before .before .path-head .result) _ _ (c .before .before .before .before .before .before .before .before .before .before .before .before .before .before .before .path-head .ensures .1) (c .before .before .before .before .before .before .before .before .before .before .before .before .before .code .given .1) .0 in
+    let one = c .before .before .before .before .if2 .taken in
     let mid : List ℕ = r .last .0 in
+    let code : ℕ = w .0 .0 in
     let m : ℕ = f .0 .0 in
     let next : ℕ = f .0 .1 .0 in (
       λ a h b q.
           let g = path-got m next (r .ensures .0 a h (pathBegun b) (begun-first b (s .n) (s .up) q)) (f .1) in
-          done-is (path-word (s .book .now) a b (s .at) (s .n + s .up) q z (hd .result) (s .left) (w .0 .0) (w .0 .1 .0) (hd .ensures .0) (w .1) ∙ body-inverse (s .book .now) a (readersAt (s .book .now) a (s .left - 1)) (pathBegun b) (w .0 .1 .0) (g .tree) next (g .is) (w .0 .0) (c .before .before .before .before .if2 .taken))
-          (closed-read (s .book .now) next m a (inverse (g .tree)) (s .n) (s .cells .now) (putPath m 1 (m - 1) 0 mid) mid (o .last .0) (o .result) (inverse-count (s .n) m (g .tree) (s .cells .now) mid (g .count) (g .cells)) (inverse-stored (s .n) m (g .tree) (s .cells .now) mid (g .count) (g .cells)) (o .ensures .0) (o .ensures .1 .0)),
+          done-is (path-word (s .book .now) a b (s .at) (s .n + s .up) q z (hd .result) (s .left) (w .0 .0) (w .0 .1 .0) (hd .ensures .0) (w .1) ∙ body-one (s .book .now) a (readersAt (s .book .now) a (s .left - 1)) (pathBegun b) (w .0 .1 .0) (g .tree) next (g .is) code one hw)
+          (closed-read (s .book .now) next m a (onePath code (g .tree)) (s .n) (s .cells .now) (putPath m (code + 1) (m - 1) 0 mid) mid (o .last .0) (o .result) (one-count (s .n) m (g .tree) (s .cells .now) mid (g .count) (g .cells) code one hw) (one-stored (s .n) m (g .tree) (s .cells .now) mid (g .count) (g .cells) code one hw) (o .ensures .0) (o .ensures .1 .0)),
       (rw (o .ensures .0) (closed-grown (s .book .now) next m (s .n + 1) (s .up) (omega arith) (omega arith)), o .ensures .1 .1 ∙ r .ensures .1 .1),
     )
 
@@ -187,42 +199,21 @@ read-path-returns-4 t c =
     let f = c .before .before .before .before .before .before .before .before .first .given in
     let r = c .before .before .before .before .before .before .before .before .before .before .before .before .read-path in
     let r2 = c .before .before .before .before .read-path2 in
-    let hw = headed-word _ _ _ _ (c .before .before .before .before .before .before .before .before .before .before .before .before .before .before .before .before .before .path-head .result) _ _ (c .before .before .before .before .before .before .before .before .before .before .before .before .before .before .before .before .before .path-head .ensures .1) (c .before .before .before .before .before .before .before .before .before .before .before .before .before .before .before .code .given .1) .0 in
     let m : ℕ = f .0 .0 in
     let next : ℕ = f .0 .1 .0 in (
       λ a h b q.
           let g = path-got m next (r .ensures .0 a h (pathBegun b) (begun-first b (s .n) (s .up) q)) (f .1) in
-          done-no (k .0 .0) (path-word (s .book .now) a b (s .at) (s .n + s .up) q z (hd .result) (s .left) (w .0 .0) (w .0 .1 .0) (hd .ensures .0) (w .1) ∙ body-second-refused (s .book .now) a (readersAt (s .book .now) a (s .left - 1)) (pathBegun b) (w .0 .1 .0) (g .tree) next (g .is) (w .0 .0) (k .0 .0) (c .before .before .before .before .before .before .if2 .left) hw (done-refused (k .0 .0) (r2 .ensures .0 a h (after path (g .tree) (pathBegun b)) (begun-second b (s .n) (s .up) m (g .tree) q (g .count))) (k .1))) (k .1),
+          done-no (k .0 .0) (path-word (s .book .now) a b (s .at) (s .n + s .up) q z (hd .result) (s .left) (w .0 .0) (w .0 .1 .0) (hd .ensures .0) (w .1) ∙ body-second-refused (s .book .now) a (readersAt (s .book .now) a (s .left - 1)) (pathBegun b) (w .0 .1 .0) (g .tree) next (g .is) (w .0 .0) (k .0 .0) (c .before .before .before .before .before .before .if2 .left) (done-refused (k .0 .0) (r2 .ensures .0 a h (after path (g .tree) (pathBegun b)) (begun-second b (s .n) (s .up) m (g .tree) q (g .count))) (k .1))) (k .1),
       (rw (k .1) tt, r2 .ensures .1 .1 ∙ r .ensures .1 .1),
     )
 
-read-path-add-close-path : (t : ℕ) → read-path-lts.Need-add-close-path (read-path-calls t) (read-path-at t) read-path.Post
-read-path-add-close-path t c =
-    let w = headed-word _ _ _ _ (c .before .before .before .before .before .before .before .before .before .before .before .before .before .before .before .before .before .before .before .path-head .result) _ _ (c .before .before .before .before .before .before .before .before .before .before .before .before .before .before .before .before .before .before .before .path-head .ensures .1) (c .before .before .before .before .before .before .before .before .before .before .before .before .before .before .before .before .before .code .given .1) .0 in
-    omega arith
-
-read-path-cast-close-path-2 : (t : ℕ) → read-path-lts.Need-cast-close-path-2 (read-path-calls t) (read-path-at t) read-path.Post
-read-path-cast-close-path-2 t c =
-    let w = headed-word _ _ _ _ (c .before .before .before .before .before .before .before .before .before .before .before .before .before .before .before .before .before .before .before .path-head .result) _ _ (c .before .before .before .before .before .before .before .before .before .before .before .before .before .before .before .before .before .before .before .path-head .ensures .1) (c .before .before .before .before .before .before .before .before .before .before .before .before .before .before .before .before .before .code .given .1) .0 in
-    omega arith
-
-read-path-sub-close-path-2 : (t : ℕ) → read-path-lts.Need-sub-close-path-2 (read-path-calls t) (read-path-at t) read-path.Post
-read-path-sub-close-path-2 t c =
-    let f = grown-is _ _ _ (c .before .before .before .before .before .before .before .before .before .before .before .before .before .before .read-path .result) _ _ (c .before .before .before .before .before .before .before .before .before .before .before .before .before .before .read-path .ensures .1 .0) (c .before .before .before .before .before .before .before .before .before .before .first .given .1) .0 in
-    omega arith
-
-read-path-cast-close-path-3 : (t : ℕ) → read-path-lts.Need-cast-close-path-3 (read-path-calls t) (read-path-at t) read-path.Post
-read-path-cast-close-path-3 t c =
-    let f = grown-is _ _ _ (c .before .before .before .before .before .before .before .before .before .before .before .before .before .before .read-path .result) _ _ (c .before .before .before .before .before .before .before .before .before .before .before .before .before .before .read-path .ensures .1 .0) (c .before .before .before .before .before .before .before .before .before .before .first .given .1) .1 in
-    omega arith
-
-read-path-sub-close-path-3 : (t : ℕ) → read-path-lts.Need-sub-close-path-3 (read-path-calls t) (read-path-at t) read-path.Post
-read-path-sub-close-path-3 t c =
+read-path-sub-close-path : (t : ℕ) → read-path-lts.Need-sub-close-path (read-path-calls t) (read-path-at t) read-path.Post
+read-path-sub-close-path t c =
     let f = grown-is _ _ _ (c .before .before .before .before .before .before .read-path2 .result) _ _ (c .before .before .before .before .before .before .read-path2 .ensures .1 .0) (c .before .before .second .given .1) .0 in
     omega arith
 
-read-path-cast-close-path-4 : (t : ℕ) → read-path-lts.Need-cast-close-path-4 (read-path-calls t) (read-path-at t) read-path.Post
-read-path-cast-close-path-4 t c =
+read-path-cast-close-path : (t : ℕ) → read-path-lts.Need-cast-close-path (read-path-calls t) (read-path-at t) read-path.Post
+read-path-cast-close-path t c =
     let f = grown-is _ _ _ (c .before .before .before .before .before .before .read-path2 .result) _ _ (c .before .before .before .before .before .before .read-path2 .ensures .1 .0) (c .before .before .second .given .1) .1 in
     omega arith
 
@@ -264,7 +255,7 @@ read-path-returns-7 t c =
     let r = c .before .before .before .before .before .before .before .before .before .before .before .before .before .before .before .before .before .read-path in
     let r2 = c .before .before .before .before .before .before .before .before .before .read-path2 in
     let o = c .before .before .close-path2 in
-    let hw = headed-word _ _ _ _ (c .before .before .before .before .before .before .before .before .before .before .before .before .before .before .before .before .before .before .before .before .before .before .path-head .result) _ _ (c .before .before .before .before .before .before .before .before .before .before .before .before .before .before .before .before .before .before .before .before .before .before .path-head .ensures .1) (c .before .before .before .before .before .before .before .before .before .before .before .before .before .before .before .before .before .before .before .before .code .given .1) .0 in
+    let two = c .before .before .before .before .before .before .before .before .before .before .before .if2 .left in
     let l1 = grown-is _ _ _ (c .before .before .before .before .before .before .before .before .before .before .before .before .before .before .before .before .before .read-path .result) _ _ (c .before .before .before .before .before .before .before .before .before .before .before .before .before .before .before .before .before .read-path .ensures .1 .0) (c .before .before .before .before .before .before .before .before .before .before .before .before .before .first .given .1) in
     let l2 = grown-is _ _ _ (c .before .before .before .before .before .before .before .before .before .read-path2 .result) _ _ (c .before .before .before .before .before .before .before .before .before .read-path2 .ensures .1 .0) (c .before .before .before .before .before .second .given .1) in
     let b1 = l1 .0 in
@@ -280,8 +271,8 @@ read-path-returns-7 t c =
       λ a h b q.
           let g = path-got m next (r .ensures .0 a h (pathBegun b) (begun-first b (s .n) (s .up) q)) (f .1) in
           let g2 = path-got l stop (r2 .ensures .0 a h (after path (g .tree) (pathBegun b)) (begun-second b (s .n) (s .up) m (g .tree) q (g .count))) (f2 .1) in
-          done-is (path-word (s .book .now) a b (s .at) (s .n + s .up) q z (hd .result) (s .left) (w .0 .0) (w .0 .1 .0) (hd .ensures .0) (w .1) ∙ body-joined (s .book .now) a (readersAt (s .book .now) a (s .left - 1)) (pathBegun b) (w .0 .1 .0) (g .tree) next (g .is) code (g2 .tree) stop (c .before .before .before .before .before .before .before .before .before .before .before .if2 .left) hw (g2 .is))
-          (closed-read (s .book .now) stop l a (twoPaths code (g .tree) (g2 .tree)) (s .n) (s .cells .now) (putPath l (code + 1) (m - 1) (l - 1) last) last (o .last .0) (o .result) (joined-count (s .n) m (g .tree) (s .cells .now) mid (g .count) (g .cells) l (g2 .tree) last (g2 .count) (g2 .cells) code) (joined-stored (s .n) m (g .tree) (s .cells .now) mid (g .count) (g .cells) l (g2 .tree) last (g2 .count) (g2 .cells) code (c .before .before .before .before .before .before .before .before .before .before .before .if2 .left) hw) (o .ensures .0) (o .ensures .1 .0)),
+          done-is (path-word (s .book .now) a b (s .at) (s .n + s .up) q z (hd .result) (s .left) (w .0 .0) (w .0 .1 .0) (hd .ensures .0) (w .1) ∙ body-joined (s .book .now) a (readersAt (s .book .now) a (s .left - 1)) (pathBegun b) (w .0 .1 .0) (g .tree) next (g .is) code (g2 .tree) stop two (g2 .is))
+          (closed-read (s .book .now) stop l a (twoPaths code (g .tree) (g2 .tree)) (s .n) (s .cells .now) (putPath l (code + 1) (m - 1) (l - 1) last) last (o .last .0) (o .result) (joined-count (s .n) m (g .tree) (s .cells .now) mid (g .count) (g .cells) l (g2 .tree) last (g2 .count) (g2 .cells) code) (joined-stored (s .n) m (g .tree) (s .cells .now) mid (g .count) (g .cells) l (g2 .tree) last (g2 .count) (g2 .cells) code two) (o .ensures .0) (o .ensures .1 .0)),
       (rw (o .ensures .0) (closed-grown (s .book .now) stop l (s .n + 1) (s .up) (omega arith) (omega arith)), o .ensures .1 .1 ∙ (r2 .ensures .1 .1 ∙ r .ensures .1 .1)),
     )
 
@@ -305,8 +296,10 @@ pub +read-path-spec : {M : Type 1} → statement M
     (read-path-enum-told-2 t)
     (read-path-same-length t)
     (read-path-returns-2 t)
-    (read-path-sub-close-path t)
-    (read-path-cast-close-path t)
+    (read-path-add-entry t)
+    (read-path-cast-entry t)
+    (read-path-sub-part t)
+    (read-path-cast-part t)
     (read-path-close-path-requires t)
     (read-path-same-length-2 t)
     (read-path-returns-3 t)
@@ -317,12 +310,8 @@ pub +read-path-spec : {M : Type 1} → statement M
     (read-path-enum-told-3 t)
     (read-path-same-length-3 t)
     (read-path-returns-4 t)
-    (read-path-add-close-path t)
-    (read-path-cast-close-path-2 t)
-    (read-path-sub-close-path-2 t)
-    (read-path-cast-close-path-3 t)
-    (read-path-sub-close-path-3 t)
-    (read-path-cast-close-path-4 t)
+    (read-path-sub-close-path t)
+    (read-path-cast-close-path t)
     (read-path-close-path-requires-2 t)
     (read-path-same-length-4 t)
     (read-path-returns-5 t)
