@@ -1,0 +1,5 @@
+pub mod Rows
+pub mod Gains
+pub mod Through
+pub mod Digits
+pub mod Blocks
