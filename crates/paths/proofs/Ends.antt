@@ -24,7 +24,7 @@ pub end-below : (cs : List ℕ) {x : End} {e : ℕ} → x ≡ Path e → endKnow
 unfolding endKnown
 end-below cs {e = e} q h = ltb-true e (pathCount cs) (ap (endKnown cs) (sym q) ∙ h)
 
-module _ (width n : ℕ) (cs : List ℕ) (back : Bool) (from into : List ℕ) {x : End} where
+module _ (width n : ℕ) (cs : List ℕ) (back : Bool) (from : ℕ → Bool) (into : List ℕ) {x : End} where
   pub end-itself : (ts : List Triple) → x ≡ Itself → withImages width n eqb from into ≡ withImages width n (converseIf back (endsOf n ts (endIn cs x))) from into
   unfolding endIn endsOf
   end-itself ts q = images-ext width n eqb (converseIf back (endsOf n ts (endIn cs Itself))) from into (λ v w _. either back v w) ∙ ap (λ (y : End). withImages width n (converseIf back (endsOf n ts (endIn cs y))) from into) (sym q)

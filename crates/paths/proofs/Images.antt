@@ -51,42 +51,42 @@ module _ (n : ℕ) where
 -- ---- sets side by side
 
 module _ (width n : ℕ) where
-  pub length-images : (r : ℕ → ℕ → Bool) (from into : List ℕ) → length (withImages width n r from into) ≡ length into
+  pub length-images : (r : ℕ → ℕ → Bool) (from : ℕ → Bool) (into : List ℕ) → length (withImages width n r from into) ≡ length into
   unfolding withImages
-  length-images r from into = length-wordsOf (λ x. has into x || image n r (λ v. has from (v * width + x % width)) (x / width)) (length into)
+  length-images r from into = length-wordsOf (λ x. has into x || image n r (λ v. from (v * width + x % width)) (x / width)) (length into)
 
-  pub has-images : (r : ℕ → ℕ → Bool) (from into : List ℕ) (x : ℕ) → x < 64 * length into → has (withImages width n r from into) x ≡ (has into x || image n r (λ v. has from (v * width + x % width)) (x / width))
+  pub has-images : (r : ℕ → ℕ → Bool) (from : ℕ → Bool) (into : List ℕ) (x : ℕ) → x < 64 * length into → has (withImages width n r from into) x ≡ (has into x || image n r (λ v. from (v * width + x % width)) (x / width))
   unfolding withImages
-  has-images r from into x l = has-wordsOf (λ x. has into x || image n r (λ v. has from (v * width + x % width)) (x / width)) (length into) x l
+  has-images r from into x l = has-wordsOf (λ x. has into x || image n r (λ v. from (v * width + x % width)) (x / width)) (length into) x l
 
-  pub images-ext : (r q : ℕ → ℕ → Bool) (from into : List ℕ) → ((v w : ℕ) → v < n → r v w ≡ q v w) → withImages width n r from into ≡ withImages width n q from into
+  pub images-ext : (r q : ℕ → ℕ → Bool) (from : ℕ → Bool) (into : List ℕ) → ((v w : ℕ) → v < n → r v w ≡ q v w) → withImages width n r from into ≡ withImages width n q from into
   unfolding withImages
-  images-ext r q from into h = wordsOf-ext (λ x. has into x || image n r (λ v. has from (v * width + x % width)) (x / width)) (λ x. has into x || image n q (λ v. has from (v * width + x % width)) (x / width)) (length into) λ x l.
-      ap (λ (b : Bool). has into x || b) (image-ext n r q (λ v. has from (v * width + x % width)) (λ v. has from (v * width + x % width)) (x / width) (λ v _. refl) (λ v l′. h v (x / width) l′))
+  images-ext r q from into h = wordsOf-ext (λ x. has into x || image n r (λ v. from (v * width + x % width)) (x / width)) (λ x. has into x || image n q (λ v. from (v * width + x % width)) (x / width)) (length into) λ x l.
+      ap (λ (b : Bool). has into x || b) (image-ext n r q (λ v. from (v * width + x % width)) (λ v. from (v * width + x % width)) (x / width) (λ v _. refl) (λ v l′. h v (x / width) l′))
 
   -- nothing more
-  pub images-none : (from into : List ℕ) → ((i : ℕ) → getD into i 0 < 2 ^ 64) → into ≡ withImages width n (λ v w. false) from into
+  pub images-none : (from : ℕ → Bool) (into : List ℕ) → ((i : ℕ) → getD into i 0 < 2 ^ 64) → into ≡ withImages width n (λ v w. false) from into
   unfolding withImages
-  images-none from into small = own into small ∙ wordsOf-ext (has into) (λ x. has into x || image n (λ v w. false) (λ v. has from (v * width + x % width)) (x / width)) (length into) λ x l.
-      sym (or-false (has into x)) ∙ ap (λ (b : Bool). has into x || b) (sym (image-none n (λ v. has from (v * width + x % width)) (x / width)))
+  images-none from into small = own into small ∙ wordsOf-ext (has into) (λ x. has into x || image n (λ v w. false) (λ v. from (v * width + x % width)) (x / width)) (length into) λ x l.
+      sym (or-false (has into x)) ∙ ap (λ (b : Bool). has into x || b) (sym (image-none n (λ v. from (v * width + x % width)) (x / width)))
 
   -- by one relation, and by another
-  pub images-or : (r q : ℕ → ℕ → Bool) (from into : List ℕ) → withImages width n q from (withImages width n r from into) ≡ withImages width n (λ v w. r v w || q v w) from into
+  pub images-or : (r q : ℕ → ℕ → Bool) (from : ℕ → Bool) (into : List ℕ) → withImages width n q from (withImages width n r from into) ≡ withImages width n (λ v w. r v w || q v w) from into
   unfolding withImages
   images-or r q from into =
-      ap (wordsOf (λ x. has (withImages width n r from into) x || image n q (λ v. has from (v * width + x % width)) (x / width))) (length-images r from into)
-      ∙ wordsOf-ext (λ x. has (withImages width n r from into) x || image n q (λ v. has from (v * width + x % width)) (x / width)) (λ x. has into x || image n (λ v w. r v w || q v w) (λ v. has from (v * width + x % width)) (x / width)) (length into) λ x l.
-      ap (λ (b : Bool). b || image n q (λ v. has from (v * width + x % width)) (x / width)) (has-images r from into x l)
-      ∙ or-assoc (has into x) (image n r (λ v. has from (v * width + x % width)) (x / width)) (image n q (λ v. has from (v * width + x % width)) (x / width))
-      ∙ ap (λ (b : Bool). has into x || b) (sym (image-or n r q (λ v. has from (v * width + x % width)) (x / width)))
+      ap (wordsOf (λ x. has (withImages width n r from into) x || image n q (λ v. from (v * width + x % width)) (x / width))) (length-images r from into)
+      ∙ wordsOf-ext (λ x. has (withImages width n r from into) x || image n q (λ v. from (v * width + x % width)) (x / width)) (λ x. has into x || image n (λ v w. r v w || q v w) (λ v. from (v * width + x % width)) (x / width)) (length into) λ x l.
+      ap (λ (b : Bool). b || image n q (λ v. from (v * width + x % width)) (x / width)) (has-images r from into x l)
+      ∙ or-assoc (has into x) (image n r (λ v. from (v * width + x % width)) (x / width)) (image n q (λ v. from (v * width + x % width)) (x / width))
+      ∙ ap (λ (b : Bool). has into x || b) (sym (image-or n r q (λ v. from (v * width + x % width)) (x / width)))
 
   -- by one relation, and from there by another
-  pub images-chain : (r q : ℕ → ℕ → Bool) (from into : List ℕ) (k : ℕ) → 0 < width → n * width ≤ 64 * k → withImages width n q (withImages width n r from (replicate k 0)) into ≡ withImages width n (λ v w. some (λ u. r v u && q u w) n) from into
+  pub images-chain : (r q : ℕ → ℕ → Bool) (from : ℕ → Bool) (into : List ℕ) (k : ℕ) → 0 < width → n * width ≤ 64 * k → withImages width n q (has (withImages width n r from (replicate k 0))) into ≡ withImages width n (λ v w. some (λ u. r v u && q u w) n) from into
   unfolding withImages
-  images-chain r q from into k pos room = wordsOf-ext (λ x. has into x || image n q (λ u. has mid (u * width + x % width)) (x / width)) (λ x. has into x || image n (λ v w. some (λ u. r v u && q u w) n) (λ v. has from (v * width + x % width)) (x / width)) (length into) λ x l.
+  images-chain r q from into k pos room = wordsOf-ext (λ x. has into x || image n q (λ u. has mid (u * width + x % width)) (x / width)) (λ x. has into x || image n (λ v w. some (λ u. r v u && q u w) n) (λ v. from (v * width + x % width)) (x / width)) (length into) λ x l.
       ap (λ (b : Bool). has into x || b)
-      (image-ext n q q (λ u. has mid (u * width + x % width)) (image n r (λ v. has from (v * width + x % width))) (x / width) (λ u lu. between x u lu) (λ v _. refl)
-      ∙ sym (image-chain n r q (λ v. has from (v * width + x % width)) (x / width)))
+      (image-ext n q q (λ u. has mid (u * width + x % width)) (image n r (λ v. from (v * width + x % width))) (x / width) (λ u lu. between x u lu) (λ v _. refl)
+      ∙ sym (image-chain n r q (λ v. from (v * width + x % width)) (x / width)))
     where
       mid : List ℕ
       mid = withImages width n r from (replicate k 0)
@@ -94,22 +94,22 @@ module _ (width n : ℕ) where
       inside : (x u : ℕ) → u < n → u * width + x % width < 64 * length {A = ℕ} (replicate k 0)
       inside x u lu = subst (λ (m : ℕ). u * width + x % width < 64 * m) (sym (length-replicate k 0)) (let a : suc u * width ≤ n * width = mul-le-mul-right width lu in omega (arith, suc-mul u width, mod-lt x pos))
 
-      between : (x u : ℕ) → u < n → has mid (u * width + x % width) ≡ image n r (λ v. has from (v * width + x % width)) u
+      between : (x u : ℕ) → u < n → has mid (u * width + x % width) ≡ image n r (λ v. from (v * width + x % width)) u
       between x u lu =
           let rem : (u * width + x % width) % width ≡ x % width = mul-add-mod-self-right u width (x % width) ∙ mod-mod x width in
           let quo : (u * width + x % width) / width ≡ u = mul-add-div-right pos u (x % width) ∙ ap (λ (a : ℕ). u + a) (div-eq-of-lt (mod-lt x pos)) ∙ add-zero u in
           has-images r from (replicate k 0) (u * width + x % width) (inside x u lu)
-          ∙ ap (λ (b : Bool). b || image n r (λ v. has from (v * width + (u * width + x % width) % width)) ((u * width + x % width) / width)) (has-zeros k (u * width + x % width))
-          ∙ ap₂ (λ (a b : ℕ). image n r (λ v. has from (v * width + a)) b) rem quo
+          ∙ ap (λ (b : Bool). b || image n r (λ v. from (v * width + (u * width + x % width) % width)) ((u * width + x % width) / width)) (has-zeros k (u * width + x % width))
+          ∙ ap₂ (λ (a b : ℕ). image n r (λ v. from (v * width + a)) b) rem quo
 
   -- by a single pair of nodes
-  pub images-pair : (near far : ℕ) (from into : List ℕ) → near < n → joinedSets width near far from into ≡ withImages width n (λ v w. eqb near v && eqb far w) from into
+  pub images-pair : (near far : ℕ) (from : ℕ → Bool) (into : List ℕ) → near < n → joinedSets width near far from into ≡ withImages width n (λ v w. eqb near v && eqb far w) from into
   unfolding withImages joinedSets
-  images-pair near far from into l = wordsOf-ext (λ x. has into x || (has from (near * width + x % width) && eqb far (x / width))) (λ x. has into x || image n (λ v w. eqb near v && eqb far w) (λ v. has from (v * width + x % width)) (x / width)) (length into) λ x lx.
-      ap (λ (b : Bool). has into x || b) (sym (image-pair n near far (λ v. has from (v * width + x % width)) (x / width) l))
+  images-pair near far from into l = wordsOf-ext (λ x. has into x || (from (near * width + x % width) && eqb far (x / width))) (λ x. has into x || image n (λ v w. eqb near v && eqb far w) (λ v. from (v * width + x % width)) (x / width)) (length into) λ x lx.
+      ap (λ (b : Bool). has into x || b) (sym (image-pair n near far (λ v. from (v * width + x % width)) (x / width) l))
 
 -- one set alone
-pub one-set : (n : ℕ) (r : ℕ → ℕ → Bool) (from into : List ℕ) → withImages 1 n r from into ≡ withImage n r from into
+pub one-set : (n : ℕ) (r : ℕ → ℕ → Bool) (from into : List ℕ) → withImages 1 n r (has from) into ≡ withImage n r from into
 unfolding withImages withImage
 one-set n r from into = wordsOf-ext (λ x. has into x || image n r (λ v. has from (v * 1 + x % 1)) (x / 1)) (λ x. has into x || image n r (has from) x) (length into) λ x l.
     ap (λ (b : Bool). has into x || b)

@@ -1,25 +1,28 @@
 -- A node that joins sets, the facts of a link one by one, and all of them: the relation that they make.
-use Prim.Native.Nat.{ℕ, suc, _+_, _*_, _/_, _%_, _^_, _<_}
-use mathlib.Core.Bool.{Bool, true, false, cond, _&&_, _||_, or-false, and-false, and-true}
+use Prim.Native.Nat.{ℕ, suc, _+_, _*_, _/_, _%_, _^_, _-_, _≤_, _<_}
+use mathlib.Core.Bool.{Bool, true, false, cond, _&&_, _||_, or-false, and-comm}
 use mathlib.Core.List.{List}
-use mathlib.Core.Path.{_≡_, refl, sym, ap, ap₂, _∙_}
+use mathlib.Core.Path.{_≡_, refl, sym, ap, ap₂, _∙_, subst}
 use native.Mathlib.Nat.{zero-add}
 use native.Mathlib.Omega.{arith}
 use lib.Dec.{eqb, ltb}
-use lib.ListN.{length, getD, set}
-use lib.Bits.{bitOr, or-lt}
-use borrow.Author.Tests.{eq-eqb, ne-eqb, eqb-true, ltb-true, lt-ltb, le-ltb}
+use lib.ListN.{length, getD, take, drop, length-drop}
+use lib.Seq.{take-all}
+use borrow.Author.Tests.{eq-eqb, eqb-true, ltb-true, lt-ltb, le-ltb}
 use Rattle.base.specs.Bounded.{some}
-use Rattle.base.proofs.Bools.{and-left, and-right, same-test}
+use Rattle.base.proofs.Bools.{and-left, and-right, and-both, same-test}
 use Rattle.base.proofs.Bounded.{every-at}
-use Rattle.nodeset.specs.Words.{bit, has, with}
-use Rattle.nodeset.proofs.Bits.{bit-or}
-use Rattle.nodeset.proofs.Sets.{has-at, own, set-words, same-words, with-words, small-of, ltb-more}
+use Rattle.nodeset.specs.Words.{has, with}
+use Rattle.nodeset.proofs.Sets.{wordsOf-ext, same-words, with-words, small-of, ltb-more}
+use Rattle.closure.specs.Rows.{taken}
+use Rattle.closure.proofs.Rows.{lent-row}
 use Rattle.chains.specs.Chains.{lastWith}
 use Rattle.chains.proofs.Chains.{some-last, walk-begins}
-use Rattle.model.specs.Limits.{maxLinks}
+use Rattle.model.specs.Limits.{maxLinks, maxNodes}
 use Rattle.paths.specs.Facts.{FactsOk, edge, edges}
-use Rattle.paths.specs.Images.{withImages, joinedSets}
+use Rattle.paths.specs.Images.{startOf, setWords, Room, withImages, joinedSets}
+use Rattle.paths.specs.declared.Sets.{Sets}
+use Rattle.paths.specs.declared.Sets.the-variants.{Rows, Own}
 use Rattle.paths.proofs.Images.{images-ext, images-none, images-or, images-pair}
 
 pub eqb-comm : (a b : ℕ) → eqb a b ≡ eqb b a
@@ -27,15 +30,11 @@ eqb-comm a b = same-test (eqb a b) (eqb b a) (λ e. eq-eqb b a (sym (eqb-true a 
 
 -- ---- far joins the sets that near is in
 
-module _ (near far : ℕ) (from into : List ℕ) (small : (i : ℕ) → getD into i 0 < 2 ^ 64) where
-  -- 64 sets: the word of near is or-ed into that of far
-  pub join-wide : getD from near 0 < 2 ^ 64 → set into far (bitOr (getD into far 0) (getD from near 0)) ≡ joinedSets 64 near far from into
-  unfolding joinedSets has
-  join-wide h =
-      set-words (has into) (λ x. has into x || (has from (near * 64 + x % 64) && eqb far (x / 64))) (length into) far (bitOr (getD into far 0) (getD from near 0)) (own into small) (or-lt 64 (getD into far 0) (getD from near 0) (small far) h)
-      (λ x l e. bit-or (getD into far 0) (getD from near 0) (x % 64) ∙ ap₂ (λ (a b : Bool). a || b) (ap (λ (i : ℕ). bit (getD into i 0) (x % 64)) (sym e)) (sym (ap₂ (λ (a b : Bool). a && b) (has-at from near (x % 64) (omega arith)) (eq-eqb far (x / 64) (sym e)) ∙ and-true (bit (getD from near 0) (x % 64)))))
-      (λ x l ne. sym (or-false (has into x)) ∙ ap (λ (b : Bool). has into x || b) (sym (ap (λ (b : Bool). has from (near * 64 + x % 64) && b) (ne-eqb far (x / 64) (λ e. ne (sym e))) ∙ and-false (has from (near * 64 + x % 64)))))
+-- rows have room for n nodes
+pub row-room : (n : ℕ) (from into : List ℕ) {sets : Sets} → sets ≡ Rows → Room sets n from into → (16 * n ≤ length from) × (16 * n ≤ length into)
+row-room n from into q h = subst (λ (x : Sets). Room x n from into) q h
 
+module _ (near far : ℕ) (from into : List ℕ) where
   -- one set: where near is in it
   one : (x : ℕ) (b : Bool) → has from near ≡ b → (has from (near * 1 + x % 1) && eqb far (x / 1)) ≡ (b && eqb x far)
   one x b e =
@@ -43,20 +42,51 @@ module _ (near far : ℕ) (from into : List ℕ) (small : (i : ℕ) → getD int
       let q : x / 1 ≡ x = omega arith in
       ap₂ (λ (a c : Bool). a && c) (ap (has from) p ∙ e) (ap (eqb far) q ∙ eqb-comm far x)
 
-  pub join-in : has from near ≡ true → with into far ≡ joinedSets 1 near far from into
+  pub join-in : has from near ≡ true → with into far ≡ joinedSets 1 near far (has from) into
   unfolding joinedSets
   join-in e = with-words into far (λ x. has from (near * 1 + x % 1) && eqb far (x / 1)) (λ x. one x true e)
 
-  pub join-out : has from near ≡ false → into ≡ joinedSets 1 near far from into
+  pub join-out : ((i : ℕ) → getD into i 0 < 2 ^ 64) → has from near ≡ false → into ≡ joinedSets 1 near far (has from) into
   unfolding joinedSets
-  join-out e = same-words into (λ x. has from (near * 1 + x % 1) && eqb far (x / 1)) small (λ x. one x false e)
+  join-out small e = same-words into (λ x. has from (near * 1 + x % 1) && eqb far (x / 1)) small (λ x. one x false e)
+
+  -- rows: the row of near, as it is lent, is or-ed into that of far
+  pub join-row : (m : ℕ) → m ≡ length from - 16 * near → taken into far (take m (drop (16 * near) from)) ≡ joinedSets maxNodes near far (has from) into
+  unfolding taken joinedSets
+  join-row m q = wordsOf-ext (λ x. has into x || (eqb (x / maxNodes) far && has (take m (drop (16 * near) from)) (x % maxNodes))) (λ x. has into x || (has from (near * maxNodes + x % maxNodes) && eqb far (x / maxNodes))) (length into) λ x l.
+      ap (λ (b : Bool). has into x || b) (and-comm (eqb (x / maxNodes) far) (has (take m (drop (16 * near) from)) (x % maxNodes)) ∙ ap₂ (λ (a b : Bool). a && b) (lent x) (eqb-comm (x / maxNodes) far))
+    where
+      lent : (x : ℕ) → has (take m (drop (16 * near) from)) (x % maxNodes) ≡ has from (near * maxNodes + x % maxNodes)
+      lent x = lent-row from near m q (x % maxNodes) ∙ ap (has from) (let z : maxNodes * near + x % maxNodes ≡ near * maxNodes + x % maxNodes = omega arith in z)
+
+  -- rows that start from each node alone: near joins the row of far
+  pub join-own : near < maxNodes → with into (maxNodes * far + near) ≡ joinedSets maxNodes near far (startOf Own from) into
+  unfolding joinedSets
+  join-own l = with-words into (maxNodes * far + near) (λ x. startOf Own from (near * maxNodes + x % maxNodes) && eqb far (x / maxNodes)) λ x.
+      ap (λ (b : Bool). b && eqb far (x / maxNodes)) (ap₂ eqb (let z : (near * maxNodes + x % maxNodes) / maxNodes ≡ near = omega arith in z) (let z : (near * maxNodes + x % maxNodes) % maxNodes ≡ x % maxNodes = omega arith in z))
+      ∙ same-test (eqb near (x % maxNodes) && eqb far (x / maxNodes)) (eqb x (maxNodes * far + near))
+      (λ h.
+      let a : near ≡ x % maxNodes = eqb-true near (x % maxNodes) (and-left (eqb near (x % maxNodes)) (eqb far (x / maxNodes)) h) in
+      let b : far ≡ x / maxNodes = eqb-true far (x / maxNodes) (and-right (eqb near (x % maxNodes)) (eqb far (x / maxNodes)) h) in
+      eq-eqb x (maxNodes * far + near) (omega arith))
+      (λ h.
+      let a : x ≡ maxNodes * far + near = eqb-true x (maxNodes * far + near) h in
+      and-both (eqb near (x % maxNodes)) (eqb far (x / maxNodes)) (eq-eqb near (x % maxNodes) (omega arith)) (eq-eqb far (x / maxNodes) (omega arith)))
+
+-- what keeps its length keeps its room
+pub room-kept : (sets : Sets) (n : ℕ) (from into now : List ℕ) → length now ≡ length into → Room sets n from into → Room sets n from now
+room-kept sets n from into now q h = (h .0, subst (λ (k : ℕ). setWords sets n ≤ k) (sym q) (h .1))
+
+-- the row of near, as it is lent
+pub row-lent : (from : List ℕ) (near n m : ℕ) → near < n → 16 * n ≤ length from → m ≡ length from - 16 * near → 16 ≤ length (take m (drop (16 * near) from))
+row-lent from near n m l h q = omega (arith, length-drop (16 * near) from, ap length (take-all m (drop (16 * near) from) (omega (arith, length-drop (16 * near) from))))
 
 -- ---- each node below v joins the sets that it is in
 
 abbrev pub itself : ℕ → ℕ → ℕ → Bool
 itself v u w = ltb u v && eqb u w
 
-module _ (width n : ℕ) (from into : List ℕ) where
+module _ (width n : ℕ) (from : ℕ → Bool) (into : List ℕ) where
   pub itself-none : ((i : ℕ) → getD into i 0 < 2 ^ 64) → into ≡ withImages width n (itself 0) from into
   itself-none small = images-none width n from into small ∙ images-ext width n (λ u w. false) (itself 0) from into (λ u w _. ap (λ (b : Bool). b && eqb u w) (sym (le-ltb u 0 (omega arith))))
 
@@ -91,7 +121,7 @@ module _ (ss ps os index : List ℕ) (count n : ℕ) (ok : FactsOk ss ps os inde
   pub chain-begins : (p : ℕ) {r : ℕ} → r ≡ cond (ltb p maxLinks) (getD index p 0) 0 → r ≡ lastWith (λ i. getD ps i 0) p count
   chain-begins p e = walk-begins (λ i. getD ps i 0) count maxLinks 0 maxLinks (ok .indexed) (λ i l. ltb-true (getD ps i 0) maxLinks (every-at (λ i. ltb (getD ps i 0) maxLinks) count (ok .links) i l)) p (sym (zero-add p)) e
 
-  module _ (width p : ℕ) (back : Bool) (from : List ℕ) where
+  module _ (width p : ℕ) (back : Bool) (from : ℕ → Bool) where
     -- fact i, which has link p
     fact-joins : (into : List ℕ) (i : ℕ) → i < count → getD ps i 0 ≡ p
         → joinedSets width (cond back (getD os i 0) (getD ss i 0)) (cond back (getD ss i 0) (getD os i 0)) from into ≡ withImages width n (edge ss ps os p back i) from into
@@ -125,6 +155,6 @@ module _ (ss ps os index : List ℕ) (count n : ℕ) (ok : FactsOk ss ps os inde
     chain-ends into small = images-none width n from into small ∙ images-ext width n (λ v w. false) (edges ss ps os p back 0) from into (λ v w lv. refl)
 
 -- what a node's joining leaves is words
-pub joined-small : (width near far : ℕ) (from into : List ℕ) {ws : List ℕ} → ws ≡ joinedSets width near far from into → (i : ℕ) → getD ws i 0 < 2 ^ 64
+pub joined-small : (width near far : ℕ) (from : ℕ → Bool) (into : List ℕ) {ws : List ℕ} → ws ≡ joinedSets width near far from into → (i : ℕ) → getD ws i 0 < 2 ^ 64
 unfolding joinedSets
-joined-small width near far from into e = small-of (λ x. has into x || (has from (near * width + x % width) && eqb far (x / width))) (length into) e
+joined-small width near far from into e = small-of (λ x. has into x || (from (near * width + x % width) && eqb far (x / width))) (length into) e

@@ -3,6 +3,7 @@ pub mod Joins
 pub mod Paths
 pub mod Entries
 pub mod Codes
+pub mod Repeats
 pub mod Added
 pub mod Parts
 pub mod Ends

@@ -8,6 +8,7 @@ use lib.ListN.{getD, replicate}
 use Rattle.base.specs.Bounded.{some}
 use Rattle.base.proofs.Bounded.{some-ext}
 use Rattle.base.proofs.Lists.{any-values}
+use Rattle.nodeset.specs.Words.{has}
 use Rattle.model.specs.Graph.{Triple, hasTriple}
 use Rattle.model.specs.Paths.{Path, predicate, inverse, sequence, alternative, ends}
 use Rattle.paths.specs.Facts.{tripleIn, triplesOf, edge, edges}
@@ -48,7 +49,7 @@ unfolding ends
 turn-inverse n ts p true v w = refl
 turn-inverse n ts p false v w = refl
 
-module _ (width n : ℕ) (back : Bool) (from into : List ℕ) where
+module _ (width n : ℕ) (back : Bool) (from : ℕ → Bool) (into : List ℕ) where
   pub ends-predicate : (ss ps os : List ℕ) (p count : ℕ) → withImages width n (edges ss ps os p back count) from into ≡ withEnds width n (triplesOf ss ps os count) (predicate p) back from into
   unfolding withEnds
   ends-predicate ss ps os p count = images-ext width n (edges ss ps os p back count) (converseIf back (ends n (triplesOf ss ps os count) (predicate p))) from into (λ v w _. link-ends ss ps os n p back count v w)
@@ -64,7 +65,7 @@ module _ (width n : ℕ) (back : Bool) (from into : List ℕ) where
         images-or width n (converseIf back (ends n ts d)) (converseIf back (ends n ts e)) from into
         ∙ images-ext width n (λ v w. converseIf back (ends n ts d) v w || converseIf back (ends n ts e) v w) (converseIf back (ends n ts (alternative d e))) from into (λ v w _. sym (turn-alternative n ts d e back v w))
 
-    pub ends-sequence : (d e : Path) (k : ℕ) → 0 < width → n * width ≤ 64 * k → withEnds width n ts (cond back d e) back (withEnds width n ts (cond back e d) back from (replicate k 0)) into ≡ withEnds width n ts (sequence d e) back from into
+    pub ends-sequence : (d e : Path) (k : ℕ) → 0 < width → n * width ≤ 64 * k → withEnds width n ts (cond back d e) back (has (withEnds width n ts (cond back e d) back from (replicate k 0))) into ≡ withEnds width n ts (sequence d e) back from into
     unfolding withEnds
     ends-sequence d e k pos room =
         images-chain width n (converseIf back (ends n ts (cond back e d))) (converseIf back (ends n ts (cond back d e))) from into k pos room

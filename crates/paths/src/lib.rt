@@ -1,7 +1,8 @@
 // The ends of paths, over facts in three lent columns: s, p and o hold the subjects, predicates and objects of len facts.
 //
-// Sets of nodes stand side by side in the words that are lent: one set alone (node v at bit v), or where `many` 64 sets, one word
-// for each node (node v of set k at bit k of word v). What is done for one set is done for each of the 64, so one function serves both.
+// Sets of nodes stand side by side in the words that are lent: one set alone (node v at bit v), or a set for each node, in rows of
+// sixteen words (node v of set k at bit k of row v). What is done for one set is done for each of many, so one function serves both.
+// From the sets that are each a node alone, the rows become the pairs of a path.
 //
 // For the crates above, which show that the facts lie between n nodes and that the path entries' tables are well formed:
 //   add_ends         a set gains all ends from the members of another set
@@ -17,15 +18,19 @@
 use base::cell;
 use base::pick;
 use chains::link;
+use closure::close;
+use closure::compose;
+use closure::reflect;
+use closure::take_row;
 use model::LinkNo;
 use model::MAX_FACTS;
 use model::MAX_LINKS;
 use model::MAX_NODES;
 use model::NodeNo;
 use nodeset::insert;
-use nodeset::put_word;
+use nodeset::next_shared;
 use nodeset::test;
-use nodeset::word;
+use nodeset::union_into;
 use tables::codes;
 use tables::layout::OBJECTS;
 use tables::layout::PATH_CODES;
@@ -40,18 +45,21 @@ use tables::reads::path_second;
 use tables::reads::wide;
 ghost use mathlib.Core.Path.{_≡_};
 ghost use mathlib.Core.Bool.{true, cond};
-ghost use Prim.Native.Nat.{ℕ, _+_, _<_, _≤_};
+ghost use Prim.Native.Nat.{ℕ, _+_, _*_, _<_, _≤_};
 ghost use lib.Dec.{eqb, ltb};
 ghost use lib.ListN.{length, getD, replicate};
 ghost use Rattle.model.specs.Paths.{endsOf};
 ghost use Rattle.model.specs.Limits.{maxNodes, maxLinks, maxFacts};
-ghost use Rattle.tables.specs.Layout.{nodeCount, pathCount, cellCount};
+ghost use Rattle.tables.specs.Layout.{nodeCount, pathCount, pathCodeAt, cellCount};
 ghost use Rattle.tables.specs.Decode.{triplesAt, pathAt};
 ghost use Rattle.tables.specs.WellFormed.{wellFormed};
 ghost use Rattle.base.specs.Bounded.{every};
+ghost use Rattle.nodeset.specs.Words.{has};
+ghost use Rattle.closure.specs.Rows.{leads, rowsOf, Within};
+ghost use Rattle.tables.specs.Codes as codes;
 ghost use Rattle.paths.specs.Facts.{subjectHeads, subjectNexts, TableIndexed, SubjectIndexed, indexCount, Made, Tables, FactsOk, triplesOf, edges};
 ghost use Rattle.paths.specs.Ends.{endIn, endKnown};
-ghost use Rattle.paths.specs.Images.{converseIf, setCount, withImage, withImages, joinedSets, withEnds};
+ghost use Rattle.paths.specs.Images.{converseIf, setCount, setWords, startOf, Room, MidOk, carriedOn, backwards, meetsRow, withNode, repeated, withImage, withImages, joinedSets, withEnds};
 
 // How many cells the index of the facts takes: where the chain of each link begins and what follows each fact on it, and then the
 // same by subject.
@@ -62,6 +70,9 @@ const SUBJECT_HEADS: usize = MAX_LINKS + MAX_FACTS;
 
 const SUBJECT_NEXTS: usize = SUBJECT_HEADS + MAX_NODES;
 
+// How many words the rows of all nodes take.
+const ROWS: usize = 16 * MAX_NODES;
+
 // The numbers of links lie below this one.
 const LINKS: u16 = MAX_LINKS as u16;
 
@@ -70,6 +81,37 @@ pub enum End {
     Itself,
     Link(LinkNo),
     Path(usize),
+}
+
+// The sets that stand side by side, and what they start from: one set, which is lent; one for each node, in rows, which are lent;
+// one for each node, that node alone, and nothing is lent.
+pub enum Sets {
+    One,
+    Rows,
+    Own,
+}
+
+// How many words the sets side by side need at the least.
+fn set_words(sets: Sets, n: usize) -> usize
+    requires { ⌜ n ≤ maxNodes ⌝ }
+    ensures { λ r. ⌜ r ≡ setWords sets n ⌝ }
+{
+    match sets {
+        Sets::One => 0,
+        Sets::Rows => 16 * n,
+        Sets::Own => 16 * n,
+    }
+}
+
+// The sets from which a second part starts, where a first part has filled them.
+fn carried(sets: Sets) -> Sets
+    ensures { λ r. ⌜ r ≡ carriedOn sets ⌝ }
+{
+    match sets {
+        Sets::One => Sets::One,
+        Sets::Rows => Sets::Rows,
+        Sets::Own => Sets::Rows,
+    }
 }
 
 // Place i of a column: a node.
@@ -88,16 +130,23 @@ fn pick_node(first: bool, a: NodeNo, b: NodeNo) -> NodeNo
 }
 
 // Node far joins each set that near is in.
-fn join(into: &mut [u64], far: NodeNo, many: bool, from: &[u64], near: NodeNo)
-    ensures { λ _. ⌜ now (into .exit) ≡ joinedSets (setCount many) (near .0) (far .0) (now (from .entry)) (now (into .entry)) ⌝ }
+fn join(into: &mut [u64], far: NodeNo, sets: Sets, from: &[u64], near: NodeNo, n: usize)
+    requires { ⌜ Room sets n (now from) (now into) × (n ≤ maxNodes) × (near .0 < n) × (far .0 < n) ⌝ }
+    ensures { λ _. ⌜ now (into .exit) ≡ joinedSets (setCount sets) (near .0) (far .0) (startOf sets (now (from .entry))) (now (into .entry)) ⌝ }
 {
     let v = far.0 as usize;
     let w = near.0 as usize;
-    if many {
-        let x = word(into, v) | word(from, w);
-        put_word(into, v, x);
-    } else if test(from, w) {
-        insert(into, v);
+    match sets {
+        Sets::One => {
+            if test(from, w) {
+                insert(into, v);
+            }
+        }
+        Sets::Rows => {
+            let at = 16 * w;
+            take_row(into, v, &from[at..]);
+        }
+        Sets::Own => insert(into, MAX_NODES * v + w),
     }
 }
 
@@ -168,15 +217,24 @@ pub fn next_out(index: &[u16], i: usize) -> usize
 }
 
 // The object of fact i joins each set that its subject is in; read backwards where back.
-fn join_fact(into: &mut [u64], i: usize, back: bool, many: bool, from: &[u64], s: &[u16], o: &[u16])
-    requires { ⌜ (i < length (now s)) × (i < length (now o)) ⌝ }
-    ensures { λ _. ⌜ now (into .exit) ≡ joinedSets (setCount many) (cond back (getD (now (o .entry)) i 0) (getD (now (s .entry)) i 0)) (cond back (getD (now (s .entry)) i 0) (getD (now (o .entry)) i 0)) (now (from .entry)) (now (into .entry)) ⌝ }
+fn join_fact(
+    into: &mut [u64],
+    i: usize,
+    back: bool,
+    sets: Sets,
+    from: &[u64],
+    s: &[u16],
+    o: &[u16],
+    n: usize,
+)
+    requires { ⌜ (i < length (now s)) × (i < length (now o)) × Room sets n (now from) (now into) × (n ≤ maxNodes) × (getD (now s) i 0 < n) × (getD (now o) i 0 < n) ⌝ }
+    ensures { λ _. ⌜ now (into .exit) ≡ joinedSets (setCount sets) (cond back (getD (now (o .entry)) i 0) (getD (now (s .entry)) i 0)) (cond back (getD (now (s .entry)) i 0) (getD (now (o .entry)) i 0)) (startOf sets (now (from .entry))) (now (into .entry)) ⌝ }
 {
     let v = node_at(s, i);
     let w = node_at(o, i);
     let far = pick_node(back, v, w);
     let near = pick_node(back, w, v);
-    join(into, far, many, from, near);
+    join(into, far, sets, from, near, n);
 }
 
 // What the facts of link l add; read backwards where back. Only these are looked at: p, of which the index is made, is there
@@ -185,7 +243,7 @@ fn join_link(
     into: &mut [u64],
     l: LinkNo,
     back: bool,
-    many: bool,
+    sets: Sets,
     from: &[u64],
     s: &[u16],
     p: &[u16],
@@ -194,14 +252,67 @@ fn join_link(
     len: usize,
     n: usize,
 )
-    requires { ⌜ FactsOk (now s) (now p) (now o) (now index) len n ⌝ }
-    ensures { λ _. ⌜ now (into .exit) ≡ withImages (setCount many) n (edges (now (s .entry)) (now (p .entry)) (now (o .entry)) (l .0) back len) (now (from .entry)) (now (into .entry)) ⌝ }
+    requires { ⌜ FactsOk (now s) (now p) (now o) (now index) len n × Room sets n (now from) (now into) ⌝ }
+    ensures { λ _. ⌜ now (into .exit) ≡ withImages (setCount sets) n (edges (now (s .entry)) (now (p .entry)) (now (o .entry)) (l .0) back len) (startOf sets (now (from .entry))) (now (into .entry)) ⌝ }
 {
     let mut next = last_fact(index, l);
     while 0 < next {
         let i = next - 1;
-        join_fact(into, i, back, many, from, s, o);
+        join_fact(into, i, back, sets, from, s, o, n);
         next = next_fact(index, i);
+    }
+}
+
+// A member of from is in row w.
+fn meets_row(from: &[u64], rows: &[u64], w: usize, n: usize) -> bool
+    requires { ⌜ (w < n) × (n ≤ maxNodes) × (16 * n ≤ length (now rows)) ⌝ }
+    ensures { λ r. ⌜ r ≡ meetsRow (now (from .entry)) (now (rows .entry)) n w ⌝ }
+{
+    let at = 16 * w;
+    next_shared(from, &rows[at..], 0, n) < n
+}
+
+// Node w joins into, where a member of from is in its row.
+fn gain_node(into: &mut [u64], from: &[u64], rows: &[u64], w: usize, n: usize)
+    requires { ⌜ (w < n) × (n ≤ maxNodes) × (16 * n ≤ length (now rows)) ⌝ }
+    ensures { λ _. ⌜ now (into .exit) ≡ withNode (now (from .entry)) (now (rows .entry)) n w (now (into .entry)) ⌝ }
+{
+    if meets_row(from, rows, w, n) {
+        insert(into, w);
+    }
+}
+
+// The set into gains the nodes in whose rows a member of from is.
+fn add_image(into: &mut [u64], from: &[u64], rows: &[u64], n: usize)
+    requires { ⌜ (n ≤ maxNodes) × (16 * n ≤ length (now rows)) × Within n (now rows) ⌝ }
+    ensures { λ _. ⌜ now (into .exit) ≡ withImages 1 n (backwards (now (rows .entry))) (has (now (from .entry))) (now (into .entry)) ⌝ }
+{
+    for w in 0..n {
+        gain_node(into, from, rows, w, n);
+    }
+}
+
+// Each set of into gains the nodes in whose rows a member of its namesake in from is.
+fn gain(into: &mut [u64], sets: Sets, from: &[u64], rows: &[u64], n: usize)
+    requires { ⌜ Room sets n (now from) (now into) × (n ≤ maxNodes) × (16 * n ≤ length (now rows)) × Within n (now rows) ⌝ }
+    ensures { λ _. ⌜ now (into .exit) ≡ withImages (setCount sets) n (backwards (now (rows .entry))) (startOf sets (now (from .entry))) (now (into .entry)) ⌝ }
+{
+    match sets {
+        Sets::One => add_image(into, from, rows, n),
+        Sets::Rows => compose(into, rows, from, n),
+        Sets::Own => union_into(into, rows),
+    }
+}
+
+// The rows become those of one or more repetitions; of zero or more, where they may be none.
+fn close_rows(rows: &mut [u64], none: bool, n: usize)
+    requires { ⌜ (n ≤ maxNodes) × (16 * n ≤ length (now rows)) × Within n (now rows) ⌝ }
+    ensures { λ _. ⌜ now (rows .exit) ≡ rowsOf n (repeated none (leads (now (rows .entry))) n) (length (now (rows .entry))) ⌝ }
+    ensures { λ _. ⌜ Within n (now (rows .exit)) ⌝ }
+{
+    close(rows, n);
+    if none {
+        reflect(rows, n);
     }
 }
 
@@ -210,7 +321,7 @@ fn spread(
     into: &mut [u64],
     e: usize,
     back: bool,
-    many: bool,
+    sets: Sets,
     from: &[u64],
     cells: &[u16],
     s: &[u16],
@@ -220,49 +331,199 @@ fn spread(
     len: usize,
     n: usize,
 )
-    requires { ⌜ FactsOk (now s) (now p) (now o) (now index) len n × (wellFormed (now cells) ≡ true) × (e < pathCount (now cells)) ⌝ }
-    ensures { λ _. ⌜ now (into .exit) ≡ withEnds (setCount many) n (triplesOf (now (s .entry)) (now (p .entry)) (now (o .entry)) len) (pathAt (now (cells .entry)) e) back (now (from .entry)) (now (into .entry)) ⌝ }
+    requires { ⌜ FactsOk (now s) (now p) (now o) (now index) len n × (wellFormed (now cells) ≡ true) × (e < pathCount (now cells)) × Room sets n (now from) (now into) ⌝ }
+    ensures { λ _. ⌜ now (into .exit) ≡ withEnds (setCount sets) n (triplesOf (now (s .entry)) (now (p .entry)) (now (o .entry)) len) (pathAt (now (cells .entry)) e) back (startOf sets (now (from .entry))) (now (into .entry)) ⌝ }
 {
     let a = path_first(cells, e);
     let b = path_second(cells, e);
     match path_code(cells, e) {
-        codes::PATH_LINK => join_link(
-            into,
-            path_link(cells, e),
-            back,
-            many,
-            from,
-            s,
-            p,
-            o,
-            index,
-            len,
-            n,
-        ),
-        codes::PATH_INV => spread(into, a, !back, many, from, cells, s, p, o, index, len, n),
-        codes::PATH_SEQ => {
-            let x = pick(back, b, a);
-            let y = pick(back, a, b);
-            let mut mid = [0u64; MAX_NODES];
-            spread(&mut mid, x, back, many, from, cells, s, p, o, index, len, n);
-            spread(into, y, back, many, &mid, cells, s, p, o, index, len, n);
+        codes::PATH_LINK => {
+            let l = path_link(cells, e);
+            join_link(into, l, back, sets, from, s, p, o, index, len, n);
         }
-        // alt
-        _ => {
-            spread(into, a, back, many, from, cells, s, p, o, index, len, n);
-            spread(into, b, back, many, from, cells, s, p, o, index, len, n);
+        codes::PATH_INV => spread(into, a, !back, sets, from, cells, s, p, o, index, len, n),
+        codes::PATH_SEQ => seq(into, e, back, sets, from, cells, s, p, o, index, len, n),
+        codes::PATH_ALT => {
+            spread(into, a, back, sets, from, cells, s, p, o, index, len, n);
+            spread(into, b, back, sets, from, cells, s, p, o, index, len, n);
         }
+        // star and plus
+        _ => repeat(into, e, back, sets, from, cells, s, p, o, index, len, n),
     }
 }
 
+// The same of a seq, with as many words for what lies between its two parts as the sets need.
+fn seq(
+    into: &mut [u64],
+    e: usize,
+    back: bool,
+    sets: Sets,
+    from: &[u64],
+    cells: &[u16],
+    s: &[u16],
+    p: &[u16],
+    o: &[u16],
+    index: &[u16],
+    len: usize,
+    n: usize,
+)
+    requires { ⌜ FactsOk (now s) (now p) (now o) (now index) len n × (wellFormed (now cells) ≡ true) × (e < pathCount (now cells)) × Room sets n (now from) (now into) × (pathCodeAt (now cells) e ≡ codes.pathSeq) ⌝ }
+    ensures { λ _. ⌜ now (into .exit) ≡ withEnds (setCount sets) n (triplesOf (now (s .entry)) (now (p .entry)) (now (o .entry)) len) (pathAt (now (cells .entry)) e) back (startOf sets (now (from .entry))) (now (into .entry)) ⌝ }
+{
+    if set_words(sets, n) <= MAX_NODES {
+        seq_few(into, e, back, sets, from, cells, s, p, o, index, len, n);
+    } else {
+        seq_many(into, e, back, sets, from, cells, s, p, o, index, len, n);
+    }
+}
+
+// The same of one set, or of few rows.
+fn seq_few(
+    into: &mut [u64],
+    e: usize,
+    back: bool,
+    sets: Sets,
+    from: &[u64],
+    cells: &[u16],
+    s: &[u16],
+    p: &[u16],
+    o: &[u16],
+    index: &[u16],
+    len: usize,
+    n: usize,
+)
+    requires { ⌜ FactsOk (now s) (now p) (now o) (now index) len n × (wellFormed (now cells) ≡ true) × (e < pathCount (now cells)) × Room sets n (now from) (now into) × (pathCodeAt (now cells) e ≡ codes.pathSeq) × (setWords sets n ≤ maxNodes) ⌝ }
+    ensures { λ _. ⌜ now (into .exit) ≡ withEnds (setCount sets) n (triplesOf (now (s .entry)) (now (p .entry)) (now (o .entry)) len) (pathAt (now (cells .entry)) e) back (startOf sets (now (from .entry))) (now (into .entry)) ⌝ }
+{
+    let mut mid = [0u64; MAX_NODES];
+    seq_by(
+        into,
+        &mut mid,
+        e,
+        back,
+        sets,
+        from,
+        cells,
+        s,
+        p,
+        o,
+        index,
+        len,
+        n,
+    );
+}
+
+// The same of a row for each of many nodes.
+fn seq_many(
+    into: &mut [u64],
+    e: usize,
+    back: bool,
+    sets: Sets,
+    from: &[u64],
+    cells: &[u16],
+    s: &[u16],
+    p: &[u16],
+    o: &[u16],
+    index: &[u16],
+    len: usize,
+    n: usize,
+)
+    requires { ⌜ FactsOk (now s) (now p) (now o) (now index) len n × (wellFormed (now cells) ≡ true) × (e < pathCount (now cells)) × Room sets n (now from) (now into) × (pathCodeAt (now cells) e ≡ codes.pathSeq) ⌝ }
+    ensures { λ _. ⌜ now (into .exit) ≡ withEnds (setCount sets) n (triplesOf (now (s .entry)) (now (p .entry)) (now (o .entry)) len) (pathAt (now (cells .entry)) e) back (startOf sets (now (from .entry))) (now (into .entry)) ⌝ }
+{
+    let mut mid = [0u64; ROWS];
+    seq_by(
+        into,
+        &mut mid,
+        e,
+        back,
+        sets,
+        from,
+        cells,
+        s,
+        p,
+        o,
+        index,
+        len,
+        n,
+    );
+}
+
+// The same of a seq, over mid, which is empty: the sets that its first part leads to, from which its second part starts.
+fn seq_by(
+    into: &mut [u64],
+    mid: &mut [u64],
+    e: usize,
+    back: bool,
+    sets: Sets,
+    from: &[u64],
+    cells: &[u16],
+    s: &[u16],
+    p: &[u16],
+    o: &[u16],
+    index: &[u16],
+    len: usize,
+    n: usize,
+)
+    requires { ⌜ FactsOk (now s) (now p) (now o) (now index) len n × (wellFormed (now cells) ≡ true) × (e < pathCount (now cells)) × Room sets n (now from) (now into) × (pathCodeAt (now cells) e ≡ codes.pathSeq) × MidOk sets n (now mid) ⌝ }
+    ensures { λ _. ⌜ now (into .exit) ≡ withEnds (setCount sets) n (triplesOf (now (s .entry)) (now (p .entry)) (now (o .entry)) len) (pathAt (now (cells .entry)) e) back (startOf sets (now (from .entry))) (now (into .entry)) ⌝ }
+{
+    let a = path_first(cells, e);
+    let b = path_second(cells, e);
+    let x = pick(back, b, a);
+    let y = pick(back, a, b);
+    let next = carried(sets);
+    spread(mid, x, back, sets, from, cells, s, p, o, index, len, n);
+    spread(into, y, back, next, mid, cells, s, p, o, index, len, n);
+}
+
+// The same of a star or plus: the pairs of its part, as rows, are closed.
+fn repeat(
+    into: &mut [u64],
+    e: usize,
+    back: bool,
+    sets: Sets,
+    from: &[u64],
+    cells: &[u16],
+    s: &[u16],
+    p: &[u16],
+    o: &[u16],
+    index: &[u16],
+    len: usize,
+    n: usize,
+)
+    requires { ⌜ FactsOk (now s) (now p) (now o) (now index) len n × (wellFormed (now cells) ≡ true) × (e < pathCount (now cells)) × Room sets n (now from) (now into) × (codes.pathStar ≤ pathCodeAt (now cells) e) ⌝ }
+    ensures { λ _. ⌜ now (into .exit) ≡ withEnds (setCount sets) n (triplesOf (now (s .entry)) (now (p .entry)) (now (o .entry)) len) (pathAt (now (cells .entry)) e) back (startOf sets (now (from .entry))) (now (into .entry)) ⌝ }
+{
+    let a = path_first(cells, e);
+    let none = path_code(cells, e) == codes::PATH_STAR;
+    let mut rows = [0u64; ROWS];
+    spread(
+        &mut rows,
+        a,
+        back,
+        Sets::Own,
+        from,
+        cells,
+        s,
+        p,
+        o,
+        index,
+        len,
+        n,
+    );
+    close_rows(&mut rows, none, n);
+    gain(into, sets, from, &rows, n);
+}
+
 // Each node joins the sets that it is in already.
-fn join_itself(into: &mut [u64], many: bool, from: &[u64], n: usize)
-    requires { ⌜ n ≤ maxNodes ⌝ }
-    ensures { λ _. ⌜ now (into .exit) ≡ withImages (setCount many) n eqb (now (from .entry)) (now (into .entry)) ⌝ }
+fn join_itself(into: &mut [u64], sets: Sets, from: &[u64], n: usize)
+    requires { ⌜ Room sets n (now from) (now into) × (n ≤ maxNodes) ⌝ }
+    ensures { λ _. ⌜ now (into .exit) ≡ withImages (setCount sets) n eqb (startOf sets (now (from .entry))) (now (into .entry)) ⌝ }
 {
     for x in 0..n {
         let v = NodeNo(x as u16);
-        join(into, v, many, from, v);
+        join(into, v, sets, from, v, n);
     }
 }
 
@@ -271,7 +532,7 @@ pub fn follow(
     into: &mut [u64],
     end: End,
     back: bool,
-    many: bool,
+    sets: Sets,
     from: &[u64],
     cells: &[u16],
     s: &[u16],
@@ -281,13 +542,13 @@ pub fn follow(
     len: usize,
     n: usize,
 )
-    requires { ⌜ FactsOk (now s) (now p) (now o) (now index) len n × (wellFormed (now cells) ≡ true) × (endKnown (now cells) end ≡ true) ⌝ }
-    ensures { λ _. ⌜ now (into .exit) ≡ withImages (setCount many) n (converseIf back (endsOf n (triplesOf (now (s .entry)) (now (p .entry)) (now (o .entry)) len) (endIn (now (cells .entry)) end))) (now (from .entry)) (now (into .entry)) ⌝ }
+    requires { ⌜ FactsOk (now s) (now p) (now o) (now index) len n × (wellFormed (now cells) ≡ true) × (endKnown (now cells) end ≡ true) × Room sets n (now from) (now into) ⌝ }
+    ensures { λ _. ⌜ now (into .exit) ≡ withImages (setCount sets) n (converseIf back (endsOf n (triplesOf (now (s .entry)) (now (p .entry)) (now (o .entry)) len) (endIn (now (cells .entry)) end))) (startOf sets (now (from .entry))) (now (into .entry)) ⌝ }
 {
     match end {
-        End::Itself => join_itself(into, many, from, n),
-        End::Link(l) => join_link(into, l, back, many, from, s, p, o, index, len, n),
-        End::Path(e) => spread(into, e, back, many, from, cells, s, p, o, index, len, n),
+        End::Itself => join_itself(into, sets, from, n),
+        End::Link(l) => join_link(into, l, back, sets, from, s, p, o, index, len, n),
+        End::Path(e) => spread(into, e, back, sets, from, cells, s, p, o, index, len, n),
     }
 }
 
@@ -308,7 +569,20 @@ pub fn add_ends(
     requires { ⌜ FactsOk (now s) (now p) (now o) (now index) len n × (wellFormed (now cells) ≡ true) × (endKnown (now cells) end ≡ true) ⌝ }
     ensures { λ _. ⌜ now (into .exit) ≡ withImage n (converseIf back (endsOf n (triplesOf (now (s .entry)) (now (p .entry)) (now (o .entry)) len) (endIn (now (cells .entry)) end))) (now (from .entry)) (now (into .entry)) ⌝ }
 {
-    follow(into, end, back, false, from, cells, s, p, o, index, len, n);
+    follow(
+        into,
+        end,
+        back,
+        Sets::One,
+        from,
+        cells,
+        s,
+        p,
+        o,
+        index,
+        len,
+        n,
+    );
 }
 
 // The same over the facts of the tables.

@@ -12,7 +12,7 @@ use Rattle.nodeset.specs.Words.{has}
 use Rattle.model.specs.declared.LinkNo.{LinkNo}
 use Rattle.model.specs.Graph.{Triple}
 use Rattle.model.specs.Paths as model
-use Rattle.model.specs.Paths.{self, along, ends, endsOf}
+use Rattle.model.specs.Paths.{endsOf}
 use Rattle.model.specs.Limits.{maxNodes}
 use Rattle.tables.specs.Layout as tables-layout
 use Rattle.tables.specs.Layout.{nodeCount, subjects, predicates}
@@ -22,9 +22,10 @@ use Rattle.paths.specs.Ends.{endIn}
 use Rattle.paths.specs.declared.End.{End}
 use Rattle.paths.specs.declared.End.the-variants.{Itself, Link, Path}
 use Rattle.paths.proofs.Parts.{part, lent-ok, lent-triples}
-use Rattle.paths.proofs.Nodes.{ends-nodes}
-use Rattle.rows.specs.Rows.{rowsOf}
-use Rattle.rows.proofs.Passes.{length-rows, within-rows, within-zeros, has-row}
+use Rattle.paths.proofs.Nodes.{all-nodes}
+use Rattle.closure.specs.Rows.{rowsOf}
+use Rattle.closure.proofs.Rows.{length-rows, within-rows}
+use Rattle.rows.proofs.Rows.{within-zeros, has-row}
 use Rattle.stepsets.specs.Ends.{sameEnd, keeps, endRows, RowsHeld, RowsFor}
 use Rattle.stepsets.specs.declared.Kept.{Kept}
 use Rattle.stepsets.specs.declared.Kept.the-variants.{Unfilled, RowsOf}
@@ -75,9 +76,7 @@ held-anew cs kept end {rows} {now} h e = record {
 -- ---- the ends of a node are nodes
 module _ (cs index : List ℕ) (t : Tables cs index) where
   pub ends-low : (x : model.End) (v w : ℕ) → v < nodeCount cs → endsOf (nodeCount cs) (triplesAt cs) x v w ≡ true → w < nodeCount cs
-  unfolding endsOf
-  ends-low self v w l h = subst (λ (k : ℕ). k < nodeCount cs) (eqb-true v w h) l
-  ends-low (along p) v w l h = ends-nodes (part cs subjects) (part cs predicates) (part cs tables-layout.objects) index _ (nodeCount cs) (lent-ok cs (t .ok) (t .room) refl refl (t .indexed)) p v w (ap (λ (ts : List Triple). ends (nodeCount cs) ts p v w) (lent-triples cs (t .ok) refl) ∙ h) .1
+  ends-low x v w l h = all-nodes (part cs subjects) (part cs predicates) (part cs tables-layout.objects) index _ (nodeCount cs) (lent-ok cs (t .ok) (t .room) refl refl (t .indexed)) x v w (ap (λ (ts : List Triple). endsOf (nodeCount cs) ts x v w) (lent-triples cs (t .ok) refl) ∙ h) .0 l
 
   -- row v
   pub row-ends : (end : End) {rows : List ℕ} → RowsHeld cs (RowsOf end) rows → (v : ℕ) → v < nodeCount cs → (w : ℕ) → w < maxNodes → has (drop (16 * v) rows) w ≡ endsOf (nodeCount cs) (triplesAt cs) (endIn cs end) v w

@@ -11,7 +11,7 @@ use Rattle.tables.specs.Decode.{triplesAt}
 use Rattle.paths.specs.Ends.{endIn}
 use Rattle.paths.specs.declared.End.{End}
 use Rattle.paths.specs.declared.End.the-variants.{Itself, Link, Path}
-use Rattle.rows.specs.Rows.{rowsOf, Within}
+use Rattle.closure.specs.Rows.{rowsOf, Within}
 use Rattle.stepsets.specs.declared.Kept.{Kept}
 use Rattle.stepsets.specs.declared.Kept.the-variants.{Unfilled, RowsOf}
 

@@ -1,5 +1,5 @@
 -- `all_table_ends` meets its contract, by the laws of the tables' facts as lent parts.
-use Prim.Native.Nat.{ℕ}
+use Prim.Native.Nat.{ℕ, _*_, _≤_}
 use mathlib.Core.List.{List}
 use mathlib.Core.Path.{sym, ap₂, _∙_, subst}
 use lib.ListN.{length}
@@ -7,7 +7,7 @@ use Rattle.model.specs.Graph.{Triple}
 use Rattle.model.specs.Paths.{endsOf}
 use Rattle.paths.specs.Ends.{endIn}
 use Rattle.paths.proofs.Parts.{lent-ok, lent-triples}
-use Rattle.rows.specs.Rows.{rowsOf, Within}
+use Rattle.closure.specs.Rows.{rowsOf, Within}
 use borrow.Author.Needs.{needs}
 use Rattle.rows.proofs.all_table_ends.Statement.{statement}
 use Rattle.rows.proofs.all_table_ends.Tie as tie
@@ -48,7 +48,7 @@ part-o-end c = search needs
 all-ends-requires : tie.Need-all-ends-requires
 all-ends-requires c κs =
     let pre = c .before .before .before .before .before .before .before .before .before .pre in
-    (lent-ok (c .before .before .before .before .before .before .before .before .before .args .cells .now) (pre .0 .ok) (pre .0 .room) (c .before .before .before .before .before .node-count .ensures) (c .before .before .before .before .fact-count .ensures) (pre .0 .indexed), pre .0 .ok, pre .1, subst (λ (n : ℕ). Within n (c .before .before .before .before .before .before .before .before .before .args .rows .now)) (sym (c .before .before .before .before .before .node-count .ensures)) (pre .2))
+    (lent-ok (c .before .before .before .before .before .before .before .before .before .args .cells .now) (pre .0 .ok) (pre .0 .room) (c .before .before .before .before .before .node-count .ensures) (c .before .before .before .before .fact-count .ensures) (pre .0 .indexed), pre .0 .ok, pre .1, subst (λ (n : ℕ). 16 * n ≤ length (c .before .before .before .before .before .before .before .before .before .args .rows .now)) (sym (c .before .before .before .before .before .node-count .ensures)) (pre .2), subst (λ (n : ℕ). Within n (c .before .before .before .before .before .before .before .before .before .args .rows .now)) (sym (c .before .before .before .before .before .node-count .ensures)) (pre .3))
 
 same-length : tie.Need-same-length
 same-length c = search needs
