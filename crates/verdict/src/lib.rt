@@ -20,6 +20,7 @@ use entries::links_hold;
 use entries::sets_hold;
 use model::MAX_FORMS;
 use model::MAX_NODES;
+use model::MAX_PATHS;
 use model::NodeNo;
 use model::Refusal;
 use nodeset::NodeSet;
@@ -46,6 +47,7 @@ use tables::reads::form_node;
 use tables::reads::form_second;
 use tables::reads::form_third;
 use tables::reads::node_count;
+use tables::reads::path_code;
 use tables::reads::root;
 use tables::reads::shape_count;
 use tables::reads::wide;
@@ -289,6 +291,18 @@ fn set_among(
     NodeSet { words }
 }
 
+// How many nodes are few. Each of these follows its path by itself; where a path entry up to that of entry e repeats, each would
+// close the rows of all nodes anew, and one is few. What is decided does not rest on it.
+fn few_nodes(cells: &[u16], e: usize) -> usize {
+    let last = wide(form_first(cells, e));
+    for k in 0..MAX_PATHS {
+        if (k <= last) & (codes::PATH_STAR <= path_code(cells, k)) {
+            return 1;
+        }
+    }
+    16
+}
+
 // The same. Where many nodes are asked about, the ends of all nodes at once cost less than the ends of each.
 fn decide(
     memo: &[u64],
@@ -305,7 +319,8 @@ fn decide(
     if code < codes::FORM_COUNT {
         return set_among(memo, cells, index, values, e, nodes);
     }
-    if (code == codes::FORM_CLOSED) | (nodes.count() <= 16) {
+    let few = few_nodes(cells, e);
+    if (code == codes::FORM_CLOSED) | (nodes.count() <= few) {
         return set_among(memo, cells, index, values, e, nodes);
     }
     set_along(memo, cells, index, values, e)

@@ -22,6 +22,9 @@ set-among-requires c κs = search needs
 returns : tie.Need-returns
 returns c = search needs
 
+few-nodes-requires : tie.Need-few-nodes-requires
+few-nodes-requires c κs = search needs
+
 count-requires : tie.Need-count-requires
 count-requires c κs = search needs
 
@@ -33,12 +36,12 @@ returns-2 c = search needs
 
 set-along-requires : tie.Need-set-along-requires
 set-along-requires c κs =
-    let k = c .before .before .before .form-code .result in
-    let e = c .before .before .before .form-code .ensures in
-    (c .before .before .before .before .before .before .before .pre .0, omega (arith, e, c .before .before .if1 .left), λ h. eqb-false k codes.formClosed (not-first (eqb k codes.formClosed) (leb (c .before .count .result) 16) (c .if2 .left)) (e ∙ h))
+    let k = c .before .before .before .before .form-code .result in
+    let e = c .before .before .before .before .form-code .ensures in
+    (c .before .before .before .before .before .before .before .before .pre .0, omega (arith, e, c .before .before .before .if1 .left), λ h. eqb-false k codes.formClosed (not-first (eqb k codes.formClosed) (leb (c .before .count .result) (c .before .before .few-nodes .result)) (c .if2 .left)) (e ∙ h))
 
 returns-3 : tie.Need-returns-3
-returns-3 c = λ v l h. c .set-along .ensures v l (c .before .before .before .before .before .before .before .before .pre .1 v l h)
+returns-3 c = λ v l h. c .set-along .ensures v l (c .before .before .before .before .before .before .before .before .before .pre .1 v l h)
 
 pub decide-spec : {M : Type 1} → statement M
 decide-spec =
@@ -47,6 +50,7 @@ decide-spec =
     form-code-requires
     set-among-requires
     returns
+    few-nodes-requires
     count-requires
     set-among-requires-2
     returns-2
