@@ -1,6 +1,6 @@
 #!/usr/bin/env bash
-# Every book of tests/vectors, tests/w3c and examples through a program that reads a book and writes its report: what it writes must be the
-# book's .out file, byte for byte. Usage: bash tests/books.sh [PROGRAM]
+# Every book of tests/vectors, tests/vectors14, tests/w3c and examples through a program that reads a book and writes its report:
+# what it writes must be the book's .out file, byte for byte. Usage: bash tests/books.sh [PROGRAM]
 set -uo pipefail
 cd "$(dirname "$0")/.."
 . tests/counting.sh
@@ -18,6 +18,6 @@ named() {
 
 while IFS= read -r book; do
   try "$book" report "$book"
-done < <(find tests/vectors tests/w3c examples -name '*.book' | LC_ALL=C sort)
+done < <(find tests/vectors tests/vectors14 tests/w3c examples -name '*.book' | LC_ALL=C sort)
 try docs/W3C.md named
 finish

@@ -2,7 +2,8 @@
 //!
 //! | Question | Answer |
 //! |---|---|
-//! | `session`, then lines `CONSOLE NODE SHAPE` | a line for each, `yes`, `no` or `refused N`; then `tallies T0 .. T7` |
+//! | `verdict NODE SHAPE`, by console 0 | `yes`, `no` or `refused N` |
+//! | `session`, then lines `CONSOLE NODE SHAPE` | such a line for each; then `tallies T0 .. T7` |
 //!
 //! A session begins with eight zeros, or with what a line `from T0 .. T7` says.
 
@@ -14,6 +15,17 @@ fn numbers<T: std::str::FromStr>(words: &str) -> Vec<T> {
     words.split(' ').map(|word| word.parse().unwrap_or_else(|_| panic!("{words:?}: {word:?} is no number"))).collect()
 }
 
+/// The answer to `CONSOLE NODE SHAPE`.
+fn verdict(tables: &Tables, words: &str, tallies: &mut Tallies) -> String {
+    let question: Vec<usize> = numbers(words);
+    let [console, node, shape] = question[..] else { panic!("{words:?} is no question") };
+    match tables.verdict(console, node, shape, tallies) {
+        Ok(true) => "yes\n".to_owned(),
+        Ok(false) => "no\n".to_owned(),
+        Err(why) => format!("refused {}\n", why.ground.number()),
+    }
+}
+
 /// Direct questions, one after the other; the tallies are handed on.
 fn session(tables: &Tables, lines: &[&str]) -> String {
     let (mut written, mut tallies) = (String::new(), Tallies::new());
@@ -22,13 +34,7 @@ fn session(tables: &Tables, lines: &[&str]) -> String {
         tallies.counts = numbers(from).try_into().expect("eight tallies");
     }
     for line in &lines[from.iter().len()..] {
-        let question: Vec<usize> = numbers(line);
-        let [console, node, shape] = question[..] else { panic!("{line:?} is no question") };
-        written += &match tables.verdict(console, node, shape, &mut tallies) {
-            Ok(true) => "yes\n".to_owned(),
-            Ok(false) => "no\n".to_owned(),
-            Err(why) => format!("refused {}\n", why.ground.number()),
-        };
+        written += &verdict(tables, line, &mut tallies);
     }
     written + &tallies.counts.iter().fold("tallies".to_owned(), |text, tally| format!("{text} {tally}")) + "\n"
 }
@@ -38,9 +44,10 @@ fn answer(ask: &Path) -> String {
     tables.read(&std::fs::read(ask.with_extension("book")).expect("a book")).expect("a book that is accepted");
     let text = std::fs::read_to_string(ask).expect("a question");
     let lines: Vec<&str> = text.lines().collect();
-    match lines[0] {
-        "session" => session(&tables, &lines[1..]),
-        word => panic!("{}: what is {word:?}?", ask.display()),
+    match lines[0].split_once(' ').unwrap_or((lines[0], "")) {
+        ("session", "") => session(&tables, &lines[1..]),
+        ("verdict", question) => verdict(&tables, &format!("0 {question}"), &mut Tallies::new()),
+        _ => panic!("{}: what is {:?}?", ask.display(), lines[0]),
     }
 }
 

@@ -96,6 +96,7 @@ fn limits(written: &mut String) {
         ("shapes", 64, "", "(shape n", " true)"),
         ("form entries", 37, "(shape s true)\n", "(shape n", " (and true true))"),
         ("path entries", 42, "(shape s (equal (inv a) a))\n", "(shape n", " (equal (seq a a) a))"),
+        ("path entries by star and plus", 32, "", "(shape n", " (onelang (star (plus (inv a)))))"),
         ("list items", 32, "", "(shape n", " (closed a a a a))"),
     ];
     for (title, most, head, before, after) in all {

@@ -1,13 +1,14 @@
-//! Tables made to be slow, of 1,024 nodes and 4,096 facts, and what the verdict says of one node of each.
+//! Tables made to be slow, of 1,024 nodes and up to 4,096 facts, and what the verdict says of one node of each; their plans are
+//! run too. All of it with the stack that the wrapper says is enough.
 
 use cases::{Input, Line};
-use melivanoup::Tallies;
+use melivanoup::{Plan, Tallies, Work, STACK};
 use std::time::{Duration, Instant};
 
 /// A guard against what does not end, and no figure of speed: each takes well under a second.
 const LIMIT: Duration = Duration::from_secs(5);
 
-/// Makes a shape, and gives its number.
+/// Makes a path or a shape, and gives its number.
 type Make = fn(&mut Input) -> usize;
 
 fn add(made: &mut Input, line: String) -> usize {
@@ -27,11 +28,40 @@ fn dense() -> Input {
     made
 }
 
+/// How many repeats `star_in_star` has, and how many facts the chain of each.
+const LEVELS: usize = 42;
+const RUN: usize = 24;
+
+/// A chain of things, the first facts by link 0, the next by link 1, and so on.
+fn chain() -> Input {
+    let mut made = Input::new();
+    made.store(&Line::new(&format!("cell 1 {LEVELS} links")));
+    (0..1024).for_each(|_| _ = add(&mut made, "node 0".into()));
+    (0..LEVELS * RUN).for_each(|v| _ = add(&mut made, format!("fact {v} {} {}", v / RUN, v + 1)));
+    made
+}
+
+/// A ring of things by link 0; by link 1 node 7 leads to sixteen of them.
+fn ring() -> Input {
+    let mut made = Input::new();
+    made.store(&Line::new("cell 1 2 links"));
+    (0..1024).for_each(|_| _ = add(&mut made, "node 0".into()));
+    (0..1024).for_each(|v| _ = add(&mut made, format!("fact {v} 0 {}", (v + 1) % 1024)));
+    (0..16).for_each(|k| _ = add(&mut made, format!("fact 7 1 {}", 60 * k)));
+    made
+}
+
 /// A path of two links, by which each node leads to each.
 fn everywhere(made: &mut Input) -> usize {
     let to = add(made, "path 0 0".into());
     let from = add(made, "path 0 1".into());
     add(made, format!("path 2 {to} {from}"))
+}
+
+/// A repeat by which each node leads to each.
+fn star(made: &mut Input) -> usize {
+    let link = add(made, "path 0 1".into());
+    add(made, format!("path 4 {link}"))
 }
 
 fn form(made: &mut Input, code: usize, first: usize, second: usize) -> usize {
@@ -43,13 +73,58 @@ fn shape(made: &mut Input, entry: usize) -> usize {
 }
 
 /// `all` in `all`, 31 deep.
-fn all_in_all(made: &mut Input) -> usize {
+fn all_in_all(made: &mut Input, path: Make) -> usize {
     let mut f = form(made, 0, 0, 0);
     for _ in 0..31 {
-        let path = everywhere(made);
+        let path = path(made);
         f = form(made, 14, path, f);
     }
     shape(made, f)
+}
+
+/// `star` of itself and a link, one in the other, over a link and a chain of its own for each: a node leads to itself and to the
+/// last chain.
+fn star_in_star(made: &mut Input) -> usize {
+    let link = add(made, "path 0 0".into());
+    let mut path = add(made, format!("path 4 {link}"));
+    for level in 1..LEVELS {
+        let link = add(made, format!("path 0 {level}"));
+        let through = add(made, format!("path 2 {path} {link}"));
+        path = add(made, format!("path 4 {through}"));
+    }
+    count(made, path, RUN + 1)
+}
+
+/// `plus` and `star` by turns, as many as there are path entries: a node leads to each.
+fn star_of_star(made: &mut Input) -> usize {
+    let mut path = star(made);
+    (2..128).for_each(|k| path = add(made, format!("path {} {path}", 4 + k % 2)));
+    count(made, path, 1024)
+}
+
+/// `seq` of two such repeats, and that twice again, as often as there is room for: a node leads to each.
+fn star_then_star(made: &mut Input) -> usize {
+    let mut paths: Vec<usize> = (0..32).map(|_| star(made)).collect();
+    while let [first, second, ..] = paths[..] {
+        paths.drain(..2);
+        paths.push(add(made, format!("path 2 {first} {second}")));
+    }
+    count(made, paths[0], 1024)
+}
+
+/// `seq` in `seq`, as deep as there are path entries, over one link: a node leads to each.
+fn seq_in_seq(made: &mut Input) -> usize {
+    let link = add(made, "path 0 1".into());
+    let mut path = link;
+    (1..128).for_each(|_| path = add(made, format!("path 2 {path} {link}")));
+    count(made, path, 1024)
+}
+
+/// Exactly so many ends.
+fn count(made: &mut Input, path: usize, ends: usize) -> usize {
+    let t = form(made, 0, 0, 0);
+    let entry = add(made, format!("entry 13 {path} {t} {ends} {ends}"));
+    shape(made, entry)
 }
 
 /// A chain of shapes, each using the one before twice, at every end of a path.
@@ -78,43 +153,74 @@ fn links(made: &mut Input) -> usize {
 }
 
 /// A condition along such a path, as often as there is room for, at every node.
-fn many(made: &mut Input, code: usize, second: usize) -> usize {
-    let path = everywhere(made);
+fn many(made: &mut Input, path: Make, code: usize, second: usize) -> usize {
+    let all = path(made);
     let mut f = form(made, 0, 0, 0);
     for _ in 0..41 {
-        let end = everywhere(made);
+        let end = path(made);
         let condition = form(made, code, end, second);
         f = form(made, 3, f, condition);
     }
-    let all = form(made, 14, path, f);
+    let everywhere = form(made, 14, all, f);
+    shape(made, everywhere)
+}
+
+/// `onelang` along repeats, as often as there is room for, at sixteen nodes.
+fn at_sixteen(made: &mut Input) -> usize {
+    let to = add(made, "path 0 1".into());
+    let mut f = form(made, 0, 0, 0);
+    for _ in 0..54 {
+        let link = add(made, "path 0 0".into());
+        let path = add(made, format!("path 4 {link}"));
+        let condition = form(made, 20, path, 0);
+        f = form(made, 3, f, condition);
+    }
+    let all = form(made, 14, to, f);
     shape(made, all)
 }
 
-/// What is said of node 7 and the last shape.
-fn ask(title: &str, make: Make) -> String {
-    let mut made = dense();
+/// What something gives; and where it took long, how long.
+fn timed<T>(what: &str, run: impl FnOnce() -> T) -> (T, String) {
+    let begun = Instant::now();
+    let value = run();
+    let late = if begun.elapsed() > LIMIT { format!(", {what} after {} s", begun.elapsed().as_secs()) } else { String::new() };
+    (value, late)
+}
+
+/// What is said of node 7 and the last shape, and whether all is run.
+fn ask(title: &str, mut made: Input, make: Make) -> String {
     let shape = make(&mut made);
-    let (tables, begun) = (made.tables(), Instant::now());
-    let told = tables.verdict(0, 7, shape, &mut Tallies::new());
-    let late = if begun.elapsed() > LIMIT { format!(", after {} s", begun.elapsed().as_secs()) } else { String::new() };
-    match told {
-        Ok(true) => format!("{title}: yes{late}\n"),
-        Ok(false) => format!("{title}: no{late}\n"),
+    let (tables, mut plan, mut work) = (made.tables(), Plan::new(), Work::new());
+    let (told, late) = timed("told", || tables.verdict(0, 7, shape, &mut Tallies::new()));
+    let (ran, late_run) = timed("run", || tables.compile(&mut plan).and_then(|_| tables.run(&plan, &mut work)));
+    match ran.and(told) {
+        Ok(true) => format!("{title}: yes{late}{late_run}\n"),
+        Ok(false) => format!("{title}: no{late}{late_run}\n"),
         Err(why) => format!("{title}: {why}\n"),
     }
 }
 
 #[test]
 fn the_slowest_tables_are_answered_in_time() {
-    let slow: [(&str, Make); 7] = [
-        ("all in all", all_in_all),
-        ("shapes that use the one before twice", twice),
-        ("all along links", links),
-        ("count at every node", |made| many(made, 13, 0)),
-        ("equal at every node", |made| many(made, 15, 1)),
-        ("lesseq at every node", |made| many(made, 19, 1)),
-        ("onelang at every node", |made| many(made, 20, 0)),
+    let slow: [(&str, fn() -> Input, Make); 15] = [
+        ("all in all", dense, |made| all_in_all(made, everywhere)),
+        ("shapes that use the one before twice", dense, twice),
+        ("all along links", dense, links),
+        ("count at every node", dense, |made| many(made, everywhere, 13, 0)),
+        ("equal at every node", dense, |made| many(made, everywhere, 15, 1)),
+        ("lesseq at every node", dense, |made| many(made, everywhere, 19, 1)),
+        ("onelang at every node", dense, |made| many(made, everywhere, 20, 0)),
+        ("all in all along stars", dense, |made| all_in_all(made, star)),
+        ("count of a star at every node", dense, |made| many(made, star, 13, 0)),
+        ("lesseq of a star at every node", dense, |made| many(made, star, 19, 1)),
+        ("stars in stars, each with a chain of its own", chain, star_in_star),
+        ("stars of stars", dense, star_of_star),
+        ("stars after stars", dense, star_then_star),
+        ("seqs in seqs", dense, seq_in_seq),
+        ("onelang of a star at sixteen nodes", ring, at_sixteen),
     ];
-    let written: String = slow.iter().map(|&(title, make)| ask(title, make)).collect();
-    cases::compare_file("speed", &written);
+    let all = move || slow.iter().map(|&(title, graph, make)| ask(title, graph(), make)).collect::<String>();
+    // the code here takes a little of the stack too
+    let run = std::thread::Builder::new().stack_size(STACK + (256 << 10)).spawn(all).expect("a thread");
+    cases::compare_file("speed", &run.join().expect("an end"));
 }

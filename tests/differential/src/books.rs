@@ -133,8 +133,8 @@ fn write(r: &Random, s: Sizes, slips: usize) -> Vec<u8> {
     // many facts have room in a text only with short names
     let style = if s.facts > 1000 { SHORT } else { r.below(8) };
     let (pools, taken) = Default::default();
-    let (skew, hub) = (r.pick(&[1, 2, 2, 6]), r.once_in(4));
-    let mut w = Writer { r, text: Vec::new(), pools, taken, subjects: Vec::new(), facts: 0, style, skew, hub, slips };
+    let (skew, hub, run) = (r.pick(&[1, 2, 2, 6]), r.once_in(4), r.once_in(3));
+    let mut w = Writer { r, text: Vec::new(), pools, taken, subjects: Vec::new(), facts: 0, style, skew, hub, run, slips };
     w.pools[LINKS].push("a".into());
     w.pools[TYPES].push("langstring".into());
     w.book(s);
@@ -156,6 +156,8 @@ struct Writer<'a> {
     skew: usize,
     /// one subject has half of the facts
     hub: bool,
+    /// most facts are by one link, from a subject to the next and from the last to the first, or to itself
+    run: bool,
     /// one word in so many is wrong; 0 for none
     slips: usize,
 }
@@ -330,6 +332,9 @@ impl Writer<'_> {
         if self.subjects.is_empty() || self.text.len() > 62_000 {
             return;
         }
+        if self.run && !self.r.once_in(4) {
+            return self.run_line();
+        }
         let k = match self.hub && self.r.once_in(2) {
             true => self.subjects[0],
             false => self.subjects[self.early(self.subjects.len())],
@@ -337,6 +342,16 @@ impl Writer<'_> {
         let subject = if self.slip() { self.used(NODES) } else { self.pools[NODES][k].clone() };
         let link = self.used(LINKS);
         let object = if self.hub { self.r.pick(&self.pools[NODES]) } else { self.used(NODES) };
+        self.line(&["fact", &subject, &link, &object]);
+        self.facts += 1;
+    }
+
+    /// the next fact of a run, now and then to the subject itself
+    fn run_line(&mut self) {
+        let all = self.subjects.len();
+        let next = if self.r.once_in(20) { self.facts } else { self.facts + 1 };
+        let [subject, object] = [self.facts, next].map(|k| self.pools[NODES][self.subjects[k % all]].clone());
+        let link = self.pools[LINKS][1.min(self.pools[LINKS].len() - 1)].clone();
         self.line(&["fact", &subject, &link, &object]);
         self.facts += 1;
     }
@@ -488,7 +503,7 @@ impl Writer<'_> {
             return self.say(&link);
         }
         if size == 2 || self.r.once_in(3) && size < (1 << (open - 1).min(20)) {
-            self.say("(inv ");
+            self.say(self.r.pick(&["(inv ", "(star ", "(plus "]));
             self.path(size - 1, open - 1);
         } else {
             // where brackets are short, both parts alike
@@ -519,9 +534,11 @@ impl Writer<'_> {
         }
         if s.open > 0 {
             let name = self.fresh(SHAPES);
-            let (first, each) = if self.r.once_in(2) { ("(not ", "(not ") } else { ("(onelang ", "(inv ") };
-            let last = if first == each { "true" } else { "a" };
-            let inner = each.repeat(s.open - 2);
+            let (first, each, last): (_, &[_], _) = match self.r.once_in(2) {
+                true => ("(not ", &["(not "], "true"),
+                false => ("(onelang ", &["(inv ", "(star ", "(plus "], "a"),
+            };
+            let inner: String = (0..s.open - 2).map(|_| self.r.pick(each)).collect();
             self.say(&format!("(shape {name} {first}{inner}{last}{}\n", ")".repeat(s.open)));
             self.define(SHAPES, name);
         }

@@ -3,13 +3,13 @@
 use crate::random::Random;
 
 /// Words that stand somewhere in a book, and some that never do.
-pub const WORDS: [&str; 64] = [
+pub const WORDS: [&str; 66] = [
     "(link", "(type", "(lang", "(thing", "(blank", "(number", "(text", "(words", "(fact", "(shape", "(rule", "(is", "(and",
     "(or", "(not", "(kind", "(datatype", "(from", "(above", "(to", "(below", "(count", "(all", "(equal", "(apart", "(closed",
-    "(less", "(lesseq", "(onelang", "(inv", "(seq", "(alt", "(node", "(subjects", "(objects", "(class", "(", ")", "true", "id",
-    "a", "langstring", "thing", "literal", "*", "0", "1", "00", "1024", "1025", "-0", "+1", "-1", "9223372036854775807",
-    "9223372036854775808", "-9223372036854775808", "-9223372036854775809", "99999999999999999999999", "b", "c", "d", "n0",
-    "abcdefghijklmnopqrstuvwxyz01234", "abcdefghijklmnopqrstuvwxyz012345",
+    "(less", "(lesseq", "(onelang", "(inv", "(seq", "(alt", "(star", "(plus", "(node", "(subjects", "(objects", "(class", "(",
+    ")", "true", "id", "a", "langstring", "thing", "literal", "*", "0", "1", "00", "1024", "1025", "-0", "+1", "-1",
+    "9223372036854775807", "9223372036854775808", "-9223372036854775808", "-9223372036854775809", "99999999999999999999999", "b",
+    "c", "d", "n0", "abcdefghijklmnopqrstuvwxyz01234", "abcdefghijklmnopqrstuvwxyz012345",
 ];
 
 /// Numbers at the limits, and words that are hardly numbers.

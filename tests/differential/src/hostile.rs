@@ -36,23 +36,26 @@ fn bounds(r: &Random, most: usize) -> (usize, Option<usize>) {
     (lo, r.pick(&[None, None, Some(0), Some(1), Some(3), Some(1024)]))
 }
 
-/// For each path entry, how many entries are passed when it is followed, shared ones once for each use.
+/// For each path entry, what it costs to follow it, shared ones once for each use: all facts for an entry, and for a repeat what
+/// leads from each node to each, sixteen at a time.
 fn costs(book: &Book) -> Vec<usize> {
+    let (each, repeat) = (book.facts.len().max(250), book.nodes() * book.nodes() / 16);
     let mut costs: Vec<usize> = Vec::new();
     for path in &book.paths {
-        costs.push(match *path {
-            Path::Link(_) => 1,
-            Path::Inv(d) => costs[d] + 1,
-            Path::Seq(d, e) | Path::Alt(d, e) => costs[d].saturating_add(costs[e]).saturating_add(1),
-        });
+        let parts = match *path {
+            Path::Link(_) => 0,
+            Path::Inv(d) => costs[d],
+            Path::Star(d) | Path::Plus(d) => costs[d].saturating_add(repeat),
+            Path::Seq(d, e) | Path::Alt(d, e) => costs[d].saturating_add(costs[e]),
+        };
+        costs.push(parts.saturating_add(each));
     }
     costs
 }
 
-/// Following a path goes through shared entries once for each use, and through all facts for each link: no more than this, or it
-/// takes long.
+/// No path costs more than this, or following it takes long.
 fn quick(book: &Book) -> bool {
-    costs(book).iter().all(|&cost| cost <= 400 && cost * book.facts.len() <= 100_000)
+    costs(book).iter().all(|&cost| cost <= 100_000)
 }
 
 /// What well-formed tables may say, though no book says it.
@@ -75,10 +78,12 @@ fn book(r: &Random) -> Book {
     if nodes > 0 && links > 0 {
         b.facts = (0..r.below(3 * nodes + 1)).map(|_| (r.below(nodes), r.below(links), r.below(nodes))).collect();
         for k in 0..r.below(12) {
-            b.paths.push(match r.below(5) {
+            b.paths.push(match r.below(8) {
                 1 if k > 0 => Path::Inv(r.below(k)),
                 2 if k > 0 => Path::Alt(r.below(k), r.below(k)),
                 3 if k > 0 => Path::Seq(r.below(k), r.below(k)),
+                4 if k > 0 => Path::Star(r.below(k)),
+                5 if k > 0 => Path::Plus(r.below(k)),
                 _ => Path::Link(r.below(links)),
             });
         }
@@ -206,6 +211,20 @@ fn number(r: &Random, counts: &[u16]) -> u16 {
     }
 }
 
+/// Makes a path entry another: any code, or the first that there is not; its first operand the entry before it, itself or the next.
+fn change_path(r: &Random, t: &mut Tables) {
+    let before = t.clone();
+    let paths = LIMITS[6].min(t.cells[6] as usize);
+    if paths > 0 {
+        let k = r.below(paths);
+        t.cells[tables::PATH_CODES + k] = r.below(7) as u16;
+        t.cells[tables::PATH_FIRSTS + k] = (k + r.below(3)).saturating_sub(1) as u16;
+    }
+    if tables::decode(t).is_some_and(|book| !quick(&book)) {
+        *t = before;
+    }
+}
+
 /// Changes some cells and values. Most changes after which the tables would not be well formed are taken back; now and then the
 /// last one is on the border.
 pub fn change_tables(r: &Random, t: &mut Tables) {
@@ -232,6 +251,9 @@ pub fn change_tables(r: &Random, t: &mut Tables) {
             let k = r.below(tables::VALUES);
             t.values[k] = value(r);
         }
+    }
+    if r.once_in(6) {
+        change_path(r, t);
     }
     if t.cells[0] < 200 && r.once_in(3) {
         let at = place(&t.cells);

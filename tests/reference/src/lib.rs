@@ -26,6 +26,8 @@ pub enum Path {
     Inv(usize),
     Seq(usize, usize),
     Alt(usize, usize),
+    Star(usize),
+    Plus(usize),
 }
 
 /// END: the node itself or a path entry.
@@ -88,6 +90,18 @@ pub struct Book {
 /// For each node, the nodes that it leads to.
 pub type Ends = Vec<Set>;
 
+/// These nodes, and those that steps lead to from them, however many: each node is looked at once.
+fn reached(step: &Ends, from: Set) -> Set {
+    let mut found = from;
+    let mut open: Vec<usize> = from.iter().collect();
+    while let Some(u) = open.pop() {
+        let new = step[u].without(&found);
+        found = found.or(&new);
+        open.extend(new.iter());
+    }
+    found
+}
+
 /// Every pair of a first and a second end has numbers in the order asked.
 fn every_pair(book: &Book, first: &Set, second: &Set, order: impl Fn(i64, i64) -> bool) -> bool {
     first.iter().all(|x| {
@@ -128,6 +142,8 @@ impl Book {
                     all[d].iter().map(through).collect()
                 }
                 Path::Alt(d, e) => all[d].iter().zip(&all[e]).map(|(x, y)| x.or(y)).collect(),
+                Path::Star(d) => (0..self.nodes()).map(|v| reached(&all[d], Set::only(v))).collect(),
+                Path::Plus(d) => all[d].iter().map(|&ends| reached(&all[d], ends)).collect(),
             };
             all.push(ends);
         }

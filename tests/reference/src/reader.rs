@@ -265,20 +265,17 @@ impl<'a> Cursor<'a> {
             self.begin_path()?;
             Path::Link(p)
         } else {
-            let k = self.head(&["inv", "seq", "alt"])?;
+            const WORDS: [&str; 5] = ["inv", "seq", "alt", "star", "plus"];
+            let k = self.head(&WORDS)?;
             self.begin_path()?;
             self.expect(b' ')?;
             let d = self.path(book)?;
-            let path = if k == 0 {
-                Path::Inv(d)
-            } else {
-                self.expect(b' ')?;
-                let e = self.path(book)?;
-                if k == 1 {
-                    Path::Seq(d, e)
-                } else {
-                    Path::Alt(d, e)
-                }
+            let path = match WORDS[k] {
+                "inv" => Path::Inv(d),
+                "star" => Path::Star(d),
+                "plus" => Path::Plus(d),
+                "seq" => Path::Seq(d, self.next_path(book)?),
+                _ => Path::Alt(d, self.next_path(book)?),
             };
             self.close()?;
             path
@@ -338,6 +335,11 @@ impl<'a> Cursor<'a> {
         };
         book.forms.push(form);
         Ok(book.forms.len() - 1)
+    }
+
+    fn next_path(&mut self, book: &mut Book) -> Read<usize> {
+        self.expect(b' ')?;
+        self.path(book)
     }
 
     fn next_form(&mut self, book: &mut Book) -> Read<usize> {

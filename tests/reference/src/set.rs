@@ -29,6 +29,10 @@ impl Set {
         Set(std::array::from_fn(|i| self.0[i] & other.0[i]))
     }
 
+    pub fn without(&self, other: &Set) -> Set {
+        Set(std::array::from_fn(|i| self.0[i] & !other.0[i]))
+    }
+
     /// how many members there are
     pub fn len(&self) -> usize {
         self.0.iter().map(|w| w.count_ones() as usize).sum()

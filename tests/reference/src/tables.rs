@@ -90,6 +90,8 @@ pub fn encode(book: &Book) -> Tables {
             Path::Inv(d) => [1, d, 0],
             Path::Seq(d, e) => [2, d, e],
             Path::Alt(d, e) => [3, d, e],
+            Path::Star(d) => [4, d, 0],
+            Path::Plus(d) => [5, d, 0],
         };
         t.put(&[PATH_CODES, PATH_FIRSTS, PATH_SECONDS], k, &numbers);
     }
@@ -208,6 +210,8 @@ pub fn decode(t: &Tables) -> Option<Book> {
             1 => Path::Inv(below(first, k)?),
             2 => Path::Seq(below(first, k)?, below(second, k)?),
             3 => Path::Alt(below(first, k)?, below(second, k)?),
+            4 => Path::Star(below(first, k)?),
+            5 => Path::Plus(below(first, k)?),
             _ => return None,
         });
     }
