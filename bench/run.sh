@@ -12,8 +12,9 @@ bench=$here/target/release/bench
 MELIVANOUP_LIB=$(bash "$here/../callers/archive.sh")
 export MELIVANOUP_LIB
 cargo build --release --quiet --manifest-path "$here/Cargo.toml"
+cargo build --release --quiet --manifest-path "$here/books/Cargo.toml"
 mkdir -p "$out"
-books=$("$bench" books "$out")
+books=$("$here/books/target/release/books" timed "$out")
 : >"$figures"
 
 systems="proved reference"

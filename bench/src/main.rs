@@ -1,19 +1,18 @@
 //! The parts of bench/run.sh:
-//!   bench books DIR                 writes the books
 //!   bench time SYSTEM FILE REPORT   times proved, reference or sqlite on a book: nanoseconds for read, compile, run, whole
 //!   bench say SYSTEM FILE           the report of proved, reference, sqlite or direct (the reference by its direct verdicts)
+//!   bench verdicts FILE             microseconds of the slowest of the direct verdicts on some nodes and every shape
 //!   bench turtle FILE DIR           the book as data.ttl and shapes.ttl
 //!   bench breaks FILE LINES REPORT  a report from Jena's breaks
 //!   bench sqlite                    SQLite's version, where it is on the machine
 //!   bench table FIGURES             the table of all figures
 
-mod books;
 mod sql;
 mod sqlite;
 mod table;
 mod turtle;
 
-use melivanoup::{Plan, Tables, Validator, Work};
+use melivanoup::{Plan, Tables, Tallies, Validator, Work};
 use reference::{report_of, Book};
 use std::fs;
 use std::io::Write;
@@ -122,6 +121,17 @@ fn sqlite(bytes: &[u8], seconds: u64) -> (Vec<u8>, Times) {
     (text, times)
 }
 
+/// The slowest question about some nodes, far from each other, and every shape; of two rounds the better one.
+fn slowest_verdict(book: &[u8]) -> u64 {
+    let (mut tables, mut tallies) = (Tables::new(), Tallies::new());
+    let nodes = tables.read(book).expect("accepted").nodes;
+    let shapes = (0..).take_while(|&s| tables.shape_name(s).is_some()).count();
+    let mut ask = |node, shape| timed(|| tables.verdict(0, node, shape, &mut tallies).unwrap()).1;
+    let mut better = |node, shape| ask(node, shape).min(ask(node, shape));
+    let asked = (0..nodes).step_by(nodes / 16 + 1).chain(nodes.checked_sub(1));
+    asked.flat_map(|node| (0..shapes).map(move |shape| (node, shape))).map(|(node, shape)| better(node, shape)).max().unwrap_or(0)
+}
+
 fn time(system: &str, bytes: &[u8], seconds: u64) -> (Vec<u8>, Times) {
     match system {
         "proved" => proved(bytes, seconds),
@@ -135,12 +145,6 @@ fn main() {
     let words: Vec<String> = std::env::args().skip(1).collect();
     let words: Vec<&str> = words.iter().map(String::as_str).collect();
     match words[..] {
-        ["books", folder] => {
-            for (name, text) in books::all() {
-                fs::write(format!("{folder}/{name}.book"), text).unwrap();
-                println!("{name}");
-            }
-        }
         ["time", system, file, out] => {
             let (text, times) = time(system, &fs::read(file).unwrap(), 2);
             fs::write(out, text).unwrap();
@@ -151,6 +155,7 @@ fn main() {
             let text = if system == "direct" { reference::report(&bytes) } else { time(system, &bytes, 0).0 };
             std::io::stdout().write_all(&text).unwrap();
         }
+        ["verdicts", file] => println!("{}", slowest_verdict(&fs::read(file).unwrap()) / 1000),
         ["turtle", file, folder] => {
             let book = parsed(&fs::read(file).unwrap());
             fs::write(format!("{folder}/data.ttl"), turtle::data(&book)).unwrap();

@@ -55,7 +55,7 @@ pub fn queries(book: &Book) -> Vec<String> {
         let selected = query.target(target);
         let broken = query.shape(*shape, false);
         let parts = query.parts.join(",\n");
-        format!("WITH {parts}\nSELECT Node FROM {selected} INTERSECT SELECT Node FROM {broken} ORDER BY Node")
+        format!("WITH RECURSIVE {parts}\nSELECT Node FROM {selected} INTERSECT SELECT Node FROM {broken} ORDER BY Node")
     };
     book.rules.iter().map(query).collect()
 }
@@ -72,8 +72,13 @@ fn numbers(list: &[usize]) -> String {
 }
 
 impl Query<'_> {
+    /// the name of the part that comes next
+    fn next(&self) -> String {
+        format!("q{}", self.parts.len())
+    }
+
     fn part(&mut self, columns: &str, sql: String) -> String {
-        let name = format!("q{}", self.parts.len());
+        let name = self.next();
         self.parts.push(format!("{name}({columns}) AS ({sql})"));
         name
     }
@@ -111,8 +116,22 @@ impl Query<'_> {
                 format!("SELECT DISTINCT {d}.s, {e}.o FROM {d} JOIN {e} ON {d}.o = {e}.s")
             }
             Path::Alt(d, e) => format!("SELECT s, o FROM {} UNION SELECT s, o FROM {}", self.path(d), self.path(e)),
+            Path::Star(d) => {
+                let step = self.path(d);
+                self.repeat("SELECT Node, Node FROM Nodes", &step)
+            }
+            Path::Plus(d) => {
+                let step = self.path(d);
+                self.repeat(&format!("SELECT s, o FROM {step}"), &step)
+            }
         };
         self.part("s, o", sql)
+    }
+
+    /// the pairs of a query, and where a part leads on to from there, however often: for the next part, which names itself
+    fn repeat(&self, from: &str, step: &str) -> String {
+        let all = self.next();
+        format!("{from} UNION SELECT {all}.s, {step}.o FROM {all} JOIN {step} ON {all}.o = {step}.s")
     }
 
     fn end(&mut self, end: End) -> String {

@@ -81,6 +81,8 @@ fn path(book: &Book, entry: usize) -> String {
         Path::Inv(e) => format!("[ sh:inversePath {} ]", path(book, e)),
         Path::Seq(d, e) => format!("( {} {} )", path(book, d), path(book, e)),
         Path::Alt(d, e) => format!("[ sh:alternativePath ( {} {} ) ]", path(book, d), path(book, e)),
+        Path::Star(e) => format!("[ sh:zeroOrMorePath {} ]", path(book, e)),
+        Path::Plus(e) => format!("[ sh:oneOrMorePath {} ]", path(book, e)),
     }
 }
 

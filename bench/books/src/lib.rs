@@ -1,5 +1,7 @@
 //! The books that are timed, made from fixed seeds: the same bytes on every machine.
 
+mod repeats;
+
 /// splitmix64
 struct Dice(u64);
 
@@ -22,10 +24,13 @@ fn name(k: usize) -> String {
     if k < 36 { digit(k).to_string() } else { format!("{}{}", digit(k / 36), digit(k % 36)) }
 }
 
-/// name and bytes of every book
-pub fn all() -> Vec<(&'static str, String)> {
+/// A book's name and its bytes.
+pub type Book = (&'static str, String);
+
+/// The books of the table: every system is timed on each.
+pub fn timed() -> Vec<Book> {
     vec![
-        ("small", include_str!("../../examples/book-b.book").to_string()),
+        ("small", include_str!("../../../examples/book-b.book").to_string()),
         ("middle", rig(&Size { nodes: 300, facts: 1500, rules: 20, forms: 60, paths: 66 })),
         ("full", rig(&Size { nodes: 700, facts: 3600, rules: 32, forms: 105, paths: 116 })),
         ("names", names()),
@@ -34,7 +39,15 @@ pub fn all() -> Vec<(&'static str, String)> {
         ("chains", chains()),
         ("pairs", pairs()),
         ("equals", equals()),
+        ("trees", repeats::trees()),
+        ("cable", repeats::run()),
+        ("ring", repeats::ring()),
     ]
+}
+
+/// Books with repeats, made to be slow: the proved program alone is timed on each.
+pub fn slow() -> Vec<Book> {
+    repeats::slow()
 }
 
 // ---- rigs: parts, links between parts, links to numbers, words and texts; rules with conditions of every form
@@ -266,9 +279,9 @@ fn star(parts: usize, other: impl Fn(usize) -> String, ends: std::ops::Range<usi
 }
 
 /// That many shapes, the first 32 with a rule for every part.
-fn shapes_and_rules(shapes: usize, form: impl Fn(usize) -> String) -> String {
-    let shapes = (0..shapes).map(|k| format!("(shape {} {})\n", name(k), form(k)));
-    shapes.chain((0..32).map(|k| format!("(rule {} (subjects p))\n", name(k)))).collect()
+fn shapes_and_rules(count: usize, form: impl Fn(usize) -> String) -> String {
+    let shapes = (0..count).map(|k| format!("(shape {} {})\n", name(k), form(k)));
+    shapes.chain((0..count.min(32)).map(|k| format!("(rule {} (subjects p))\n", name(k)))).collect()
 }
 
 /// 42 `onelang`, each over 1,024 ends from each of 992 nodes: 32 ends with a language, no two the same. Every fourth has a `not`.
