@@ -41,9 +41,9 @@ extern "C" {
 /* The longest book, in bytes: one byte more is refused (1). */
 #define MELIVANOUP_BOOK 65536
 
-/* Measured, not proved: books need at most 0.6 MB, tables from elsewhere 1.4. Where there is less, the program ends at the
- * guard page. */
-#define MELIVANOUP_STACK 1572864
+/* Measured, not proved: books need at most 4.3 MB, tables from elsewhere 17.1: 128 KB for each seq, star and plus that stands
+ * inside another, of which a book has at most 30 and tables 127. Where there is less, the program ends at the guard page. */
+#define MELIVANOUP_STACK 17825792
 
 /* The first cells are counts; docs/LAYOUT.md has the other columns. */
 #define MELIVANOUP_CELL_NODES 0

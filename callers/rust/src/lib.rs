@@ -17,7 +17,8 @@
 //! What is promised is promised by the proofs of the library, for every content of every buffer; so all buffers here are the
 //! caller's to fill and to change, and no function is unsafe. The wrapper itself only passes slices and reads names.
 //!
-//! The functions use no heap and keep no state. They want at most [`STACK`] bytes of stack, less than Rust gives a thread.
+//! The functions use no heap and keep no state. They want at most [`STACK`] bytes of stack, which is more than
+//! Rust gives a thread: make one with `std::thread::Builder::stack_size` where paths may nest deep.
 
 mod operations;
 mod raw;
@@ -48,6 +49,7 @@ pub mod sizes {
     pub const TALLIES: usize = 8;
 }
 
-/// The stack that a call may use, in bytes: measured, not proved. Books need at most 0.6 MB, tables from elsewhere 1.4. Where there
-/// is less, the program ends at the guard page: the code touches every page of a frame in turn.
-pub const STACK: usize = 1_572_864;
+/// The stack that a call may use, in bytes: measured, not proved. Books need at most 4.3 MB, tables from elsewhere 17.1: 128 KB for
+/// each `seq`, `star` and `plus` that stands inside another, of which a book has at most 30 and tables 127. Where there is less, the
+/// program ends at the guard page: the code touches every page of a frame in turn.
+pub const STACK: usize = 17_825_792;
