@@ -1,11 +1,18 @@
 -- Tests that were passed and tests that failed, taken apart.
-use mathlib.Core.Bool.{Bool, true, false, not, _&&_, _||_, or-true, true≢false}
+use Prim.Native.Nat.{ℕ, _<_}
+use mathlib.Core.Bool.{Bool, true, false, not, cond, _&&_, _||_, or-true, true≢false}
 use mathlib.Core.Path.{_≡_, refl, sym, ap, _∙_}
 use mathlib.Core.Logic.{_⊎_, inl, inr}
+use lib.Dec.{eqb, ltb}
+use borrow.Author.Tests.{eq-eqb, eqb-true, ltb-true}
 
 pub bool-cases : (P : Bool → Type 0) (b : Bool) → (b ≡ true → P true) → (b ≡ false → P false) → P b
 bool-cases P true t f = t refl
 bool-cases P false t f = f refl
+
+-- two conditionals with one test, whose first arms are the same where the test holds
+pub cond-same : {A : Type 0} (t u : Bool) (x y d : A) → t ≡ u → (u ≡ true → x ≡ y) → cond t x d ≡ cond u y d
+cond-same t u x y d e f = ap (λ (k : Bool). cond k x d) e ∙ bool-cases (λ k. cond k x d ≡ cond k y d) u f (λ n. refl)
 
 -- both halves of a test that passed
 pub and-left : (a b : Bool) → (a && b) ≡ true → a ≡ true
@@ -82,3 +89,11 @@ pub or-known : (a b c : Bool) → (b ≡ true → a ≡ true) → (a || (b || c)
 or-known true b c h = refl
 or-known false true c h = absurd (true≢false (sym (h refl)))
 or-known false false c h = refl
+
+-- ---- tests of numbers
+pub eqb-comm : (a b : ℕ) → eqb a b ≡ eqb b a
+eqb-comm a b = same-test (eqb a b) (eqb b a) (λ e. eq-eqb b a (sym (eqb-true a b e))) (λ e. eq-eqb a b (sym (eqb-true b a e)))
+
+-- both numbers are below their bounds
+pub two-below : (a m b n : ℕ) → (ltb a m && ltb b n) ≡ true → (a < m) × (b < n)
+two-below a m b n h = (ltb-true a m (and-left (ltb a m) (ltb b n) h), ltb-true b n (and-right (ltb a m) (ltb b n) h))

@@ -5,3 +5,4 @@ pub mod Numbered
 pub mod Bytes
 pub mod Columns
 pub mod Codes
+pub mod Least

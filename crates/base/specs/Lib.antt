@@ -5,3 +5,4 @@ pub mod Bytes
 pub mod Columns
 pub mod Range
 pub mod Sizes
+pub mod Least

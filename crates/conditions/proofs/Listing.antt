@@ -13,8 +13,8 @@ use borrow.Author.Tests.{eqb-true, eqb-false, ne-eqb, lt-ltb, le-ltb, ltb-true, 
 use Rattle.base.specs.Bounded.{_⇒_, every}
 use Rattle.base.proofs.Bools.{bool-cases, never-both, and-left, and-right, and-both, implies-true, true-implies}
 use Rattle.base.proofs.Bounded.{every-at, every-all, every-more}
-use Rattle.nodeset.specs.Members.{nextFrom}
-use Rattle.nodeset.proofs.Members.{Next, next-found}
+use Rattle.base.specs.Least.{nextFrom}
+use Rattle.base.proofs.Least.{Next, next-found}
 use Rattle.conditions.specs.Searches.{firstPair, among, MembersListed}
 use Rattle.conditions.proofs.Members.{Passed}
 use Rattle.conditions.proofs.Searches.{FirstPair, pair-none, pair-at, search-pair}

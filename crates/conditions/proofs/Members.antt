@@ -1,18 +1,18 @@
 -- A search that goes from member to member of a set, and what it has seen.
 use Prim.Native.Nat.{ℕ, _+_, _≤_, _<_, zero-le}
-use mathlib.Core.Bool.{Bool, true, false, not, _&&_, _||_, and-true, and-false, or-false}
+use mathlib.Core.Bool.{Bool, true, false, _&&_, _||_, and-true, and-false, or-false}
 use mathlib.Core.List.{List}
 use mathlib.Core.Path.{_≡_, refl, sym, ap, ap₂, _∙_, subst}
 use native.Mathlib.Omega.{arith}
 use lib.Dec.{eqb, ltb}
 use lib.ListN.{length, replicate}
-use borrow.Author.Tests.{eq-eqb, eqb-true, eqb-false, ltb-true, ltb-false, lt-ltb, le-ltb}
+use borrow.Author.Tests.{eqb-true, eqb-false, ltb-true, ltb-false, lt-ltb, le-ltb}
 use Rattle.base.specs.Bounded.{_⇒_, every}
-use Rattle.base.proofs.Bools.{bool-cases, same-test}
+use Rattle.base.proofs.Bools.{bool-cases}
 use Rattle.base.proofs.Bounded.{every-at, every-all, every-more}
+use Rattle.base.specs.Least.{nextFrom}
+use Rattle.base.proofs.Least.{Next, next-found}
 use Rattle.nodeset.specs.Words.{has, wordsOf}
-use Rattle.nodeset.specs.Members.{nextFrom}
-use Rattle.nodeset.proofs.Members.{Next, next-found, next-none}
 use Rattle.nodeset.proofs.Sets.{wordsOf-ext, has-of, length-of, zeros}
 
 -- the search stands at i, which is a member or n, and q holds of all members before it
@@ -39,16 +39,6 @@ module _ (p q : ℕ → Bool) (n : ℕ) where
 
   pub passed-all : {i : ℕ} → Passed p q n i → n ≤ i → every (λ x. p x ⇒ q x) n ≡ true
   passed-all {i} s l = subst (λ (k : ℕ). every (λ x. p x ⇒ q x) k ≡ true) (let e : i ≡ n = omega (arith, s .within) in e) (s .all)
-
--- the search goes on
-pub next-after : (p : ℕ → Bool) {n x r : ℕ} → x < n → r ≡ nextFrom p (x + 1) n → x < r
-next-after p {n} {x} {r} l f = omega (arith, f, next-found p n (x + 1) (omega arith) .onward)
-
--- no member below n: the search from 0 ends at n
-pub empty-below : (p : ℕ → Bool) (n : ℕ) → eqb (nextFrom p 0 n) n ≡ every (λ x. not (p x)) n
-empty-below p n = same-test (eqb (nextFrom p 0 n) n) (every (λ x. not (p x)) n)
-    (λ e. let x : Next p 0 n (nextFrom p 0 n) = next-found p n 0 zero-le in every-all (λ x. not (p x)) n (λ j l. ap not (x .none j zero-le (subst (λ (k : ℕ). j < k) (sym (eqb-true (nextFrom p 0 n) n e)) l))))
-    (λ h. eq-eqb (nextFrom p 0 n) n (next-none p n n 0 zero-le (omega arith) (λ j l. borrow.Author.Tests.not-true (p (0 + j)) (every-at (λ x. not (p x)) n h (0 + j) (omega arith)))))
 
 -- ---- the members that have t, gathered one after the other: ws has those before x, and x is a member or n
 module _ (p t : ℕ → Bool) (n : ℕ) where

@@ -12,8 +12,8 @@ use borrow.Author.Tests.{ltb-true, ltb-false}
 use Rattle.base.specs.Bounded.{_⇒_, some}
 use Rattle.base.proofs.Bools.{bool-cases, never-both, not-implies}
 use Rattle.base.proofs.Bounded.{some-at, some-witness, some-ext, some-none, some-and, not-every}
-use Rattle.nodeset.specs.Members.{nextFrom}
-use Rattle.nodeset.proofs.Members.{Next, next-found}
+use Rattle.base.specs.Least.{nextFrom}
+use Rattle.base.proofs.Least.{Next, next-found}
 use Rattle.model.specs.Shapes.{subset, noneShared, allPairs}
 use Rattle.plan.specs.Conditions.{inOne, someInOne, someShared, somePair}
 use Rattle.plan.proofs.Complements.{not-equal, not-apart, not-pairs}

@@ -7,8 +7,8 @@ use native.Mathlib.Omega.{arith}
 use lib.Dec.{ltb}
 use borrow.Author.Tests.{ltb-true, ltb-false, not-true}
 use Rattle.base.proofs.Bools.{bool-cases, never-both, and-left, and-right}
-use Rattle.nodeset.specs.Members.{nextFrom}
-use Rattle.nodeset.proofs.Members.{Next, next-found}
+use Rattle.base.specs.Least.{nextFrom}
+use Rattle.base.proofs.Least.{Next, next-found}
 use Rattle.plan.specs.Conditions.{inOne}
 use Rattle.conditions.specs.Searches.{firstInOne}
 use Rattle.conditions.proofs.Searches.{first-none, first-at}

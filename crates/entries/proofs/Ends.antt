@@ -2,15 +2,15 @@
 use Prim.Native.Nat.{ℕ, _≤_, _<_}
 use mathlib.Core.List.{List}
 use mathlib.Core.Bool.{Bool, true, false, cond, _&&_, _||_, and-true}
-use mathlib.Core.Path.{_≡_, refl, sym, ap, _∙_}
+use mathlib.Core.Path.{_≡_, refl, ap, _∙_}
 use native.Mathlib.Omega.{arith}
 use lib.Dec.{eqb, leb}
 use lib.ListN.{replicate, length-replicate}
-use borrow.Author.Tests.{eq-eqb, eqb-true, eqb-false}
-use Rattle.base.proofs.Bools.{same-test, bool-cases}
+use borrow.Author.Tests.{eqb-false}
+use Rattle.base.proofs.Bools.{bool-cases}
 use Rattle.base.proofs.Bounded.{some-ext, some-eq}
 use Rattle.nodeset.specs.Words.{has, wordsOf, with}
-use Rattle.nodeset.proofs.Sets.{wordsOf-ext, has-of, has-zeros, zeros, with-step}
+use Rattle.nodeset.proofs.Sets.{wordsOf-ext, has-of, has-zeros, single}
 use Rattle.model.specs.Paths.{self, along}
 use Rattle.model.specs.Limits.{maxNodes}
 use Rattle.model.specs.Shapes.{within, atMost, unbounded}
@@ -28,14 +28,10 @@ pub image-zeros : (n : ℕ) (r : ℕ → ℕ → Bool) (from : List ℕ) → wit
 unfolding withImage image
 image-zeros n r from = ap (wordsOf (λ w. has (replicate 16 0) w || image n r (has from) w)) (length-replicate {A = ℕ} 16 0) ∙ wordsOf-ext (λ w. has (replicate 16 0) w || image n r (has from) w) (image n r (has from)) 16 (λ w l. ap (λ (b : Bool). b || image n r (has from) w) (has-zeros 16 w))
 
--- a set of one node
-pub single : (v : ℕ) → with (replicate 16 0) v ≡ wordsOf (λ m. eqb v m) 16
-single v = with-step (λ m. false) (λ m. eqb v m) 16 v (zeros 16) (λ m l. same-test (eqb m v) (eqb v m) (λ h. eq-eqb v m (sym (eqb-true m v h))) (λ h. eq-eqb m v (sym (eqb-true v m h))))
-
 pub image-single : (n : ℕ) (r : ℕ → ℕ → Bool) (from : List ℕ) (v : ℕ) → n ≤ maxNodes → v < n → from ≡ with (replicate 16 0) v → wordsOf (image n r (has from)) 16 ≡ wordsOf (r v) 16
 unfolding image
 image-single n r from v room l e = wordsOf-ext (image n r (has from)) (r v) 16 λ w _.
-    some-ext (λ u. has from u && r u w) (λ u. eqb v u && r u w) n (λ u lu. ap (λ (b : Bool). b && r u w) (has-of (λ m. eqb v m) 16 (e ∙ single v) u (omega arith)))
+    some-ext (λ u. has from u && r u w) (λ u. eqb v u && r u w) n (λ u lu. ap (λ (b : Bool). b && r u w) (has-of (λ m. eqb v m) 16 (e ∙ single v 16) u (omega arith)))
     ∙ some-eq (λ u. r u w) v n l
 
 -- the operand END, whatever the tables

@@ -11,9 +11,9 @@ use borrow.Rule.Slice.PartMut.{putMid}
 use lib.Seq.{take-all, drop-cons, append-snoc, set-at}
 use Rattle.base.specs.Bounded.{members}
 use Rattle.base.proofs.Bounded.{size-members, size-le}
+use Rattle.base.specs.Least.{nextFrom}
+use Rattle.base.proofs.Least.{Next, next-found}
 use Rattle.nodeset.specs.Words.{has}
-use Rattle.nodeset.specs.Members.{nextFrom}
-use Rattle.nodeset.proofs.Members.{Next, next-found}
 use Rattle.model.specs.Limits.{maxNodes, maxRules}
 use Rattle.tables.specs.Layout.{nodeCount, ruleCount}
 use Rattle.tables.specs.WellFormed.{wellFormed}

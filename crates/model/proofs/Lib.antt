@@ -5,5 +5,6 @@ pub mod Refusals
 pub mod Answers
 pub mod Lines
 pub mod Expansion
+pub mod Growth
 pub mod Repeats
 pub mod Sets

@@ -5,23 +5,19 @@ use mathlib.Core.Bool.{Bool, true, false, _&&_, _||_}
 use mathlib.Core.Logic.{_⊎_, inl, inr, ⊎-elim, _↔_}
 use mathlib.Core.Path.{_≡_, refl, sym, ap, ap₂, _∙_, subst}
 use native.Mathlib.Omega.{arith}
-use native.Mathlib.Nat.{zero-add, suc-add, le-refl}
+use native.Mathlib.Nat.{zero-add, suc-add}
 use lib.Dec.{eqb, leb}
 use borrow.Author.Tests.{eq-eqb, eqb-true, leb-true, leb-false}
-use Rattle.base.specs.Bounded.{some, size}
+use Rattle.base.specs.Bounded.{some}
 use Rattle.base.proofs.Bools.{and-left, and-right, and-both, or-cases, or-left, or-right, same-test}
-use Rattle.base.proofs.Bounded.{some-at, some-witness, some-ext, size-le, grown}
+use Rattle.base.proofs.Bounded.{some-at, some-witness, some-ext}
 use Rattle.model.specs.Repeats.{times, upTo, star, plus}
+use Rattle.model.proofs.Growth as growth
+use Rattle.model.proofs.Growth.{Still}
 
 -- r read backwards
 abbrev pub converse : (ℕ → ℕ → Bool) → ℕ → ℕ → Bool
 converse r v w = r w v
-
--- a round below k that gains nothing
-record Stop (n : ℕ) (w : ℕ → ℕ → Bool) (k : ℕ) : Type 0 where
-  at : ℕ
-  early : at < k
-  still : (v : ℕ) → v < n → w (suc at) v ≡ w at v
 
 module _ (r : ℕ → ℕ → Bool) (n : ℕ) where
   -- ---- repetitions
@@ -36,16 +32,16 @@ module _ (r : ℕ → ℕ → Bool) (n : ℕ) where
   upTo-self (suc k) v = or-left (eqb v v) (some (λ u. r v u && upTo r n k u v) n) (eq-eqb v v refl)
 
   -- the node itself, or a step and the rest
-  upTo-cases : (k v w : ℕ) → upTo r n (suc k) v w ≡ true → (v ≡ w) ⊎ ((u : ℕ) × (u < n) × (r v u ≡ true) × (upTo r n k u w ≡ true))
+  pub upTo-cases : (k v w : ℕ) → upTo r n (suc k) v w ≡ true → (v ≡ w) ⊎ ((u : ℕ) × (u < n) × (r v u ≡ true) × (upTo r n k u w ≡ true))
   unfolding upTo
   upTo-cases k v w e = ⊎-elim (λ h. inl (eqb-true v w h)) (λ h. let (u, l, q) = some-witness (λ u. r v u && upTo r n k u w) n h in inr (u, l, and-left (r v u) (upTo r n k u w) q, and-right (r v u) (upTo r n k u w) q)) (or-cases (eqb v w) (some (λ u. r v u && upTo r n k u w) n) e)
 
-  upTo-none : (v w : ℕ) → upTo r n 0 v w ≡ true → v ≡ w
+  pub upTo-none : (v w : ℕ) → upTo r n 0 v w ≡ true → v ≡ w
   unfolding upTo
   upTo-none v w e = eqb-true v w e
 
   -- one repetition more
-  upTo-suc : (k v w : ℕ) → upTo r n k v w ≡ true → upTo r n (suc k) v w ≡ true
+  pub upTo-suc : (k v w : ℕ) → upTo r n k v w ≡ true → upTo r n (suc k) v w ≡ true
   upTo-suc zero v w e = subst (λ (x : ℕ). upTo r n 1 v x ≡ true) (upTo-none v w e) (upTo-self 1 v)
   upTo-suc (suc k) v w e = ⊎-elim (λ q. subst (λ (x : ℕ). upTo r n (suc (suc k)) v x ≡ true) q (upTo-self (suc (suc k)) v)) (λ h. upTo-step (suc k) v (h .0) w (h .1) (h .2) (upTo-suc k (h .0) w (h .3))) (upTo-cases k v w e)
 
@@ -57,7 +53,7 @@ module _ (r : ℕ → ℕ → Bool) (n : ℕ) where
   upTo-le k m v w l e = subst (λ (x : ℕ). upTo r n x v w ≡ true) (let z : m - k + k ≡ m = omega arith in z) (upTo-add (m - k) k v w e)
 
   -- a repetitions and then b
-  upTo-trans : (a b v u w : ℕ) → upTo r n a v u ≡ true → upTo r n b u w ≡ true → upTo r n (a + b) v w ≡ true
+  pub upTo-trans : (a b v u w : ℕ) → upTo r n a v u ≡ true → upTo r n b u w ≡ true → upTo r n (a + b) v w ≡ true
   upTo-trans zero b v u w e f = subst (λ (m : ℕ). upTo r n m v w ≡ true) (sym (zero-add b)) (subst (λ (x : ℕ). upTo r n b x w ≡ true) (sym (upTo-none v u e)) f)
   upTo-trans (suc a) b v u w e f = ⊎-elim
       (λ q. upTo-add (suc a) b v w (subst (λ (x : ℕ). upTo r n b x w ≡ true) (sym q) f))
@@ -69,33 +65,14 @@ module _ (r : ℕ → ℕ → Bool) (n : ℕ) where
     abbrev p : ℕ → ℕ → Bool
     p k v = upTo r n k v w
 
-    next : (k : ℕ) → ((v : ℕ) → v < n → p (suc k) v ≡ p k v) → (v : ℕ) → v < n → p (suc (suc k)) v ≡ p (suc k) v
+    next : (k : ℕ) → Still n p k → Still n p (suc k)
     next k h v l = same-test (p (suc (suc k)) v) (p (suc k) v)
         (λ e. ⊎-elim (λ q. subst (λ (x : ℕ). upTo r n (suc k) v x ≡ true) q (upTo-self (suc k) v)) (λ s. upTo-step k v (s .0) w (s .1) (s .2) (sym (h (s .0) (s .1)) ∙ s .3)) (upTo-cases (suc k) v w e))
         (λ e. upTo-suc (suc k) v w e)
 
-    later : (k : ℕ) → ((v : ℕ) → v < n → p (suc k) v ≡ p k v) → (d : ℕ) → (v : ℕ) → v < n → p (suc (d + k)) v ≡ p (d + k) v
-    later k h zero v l = ap (λ (m : ℕ). p (suc m) v) (zero-add k) ∙ h v l ∙ ap (λ (m : ℕ). p m v) (sym (zero-add k))
-    later k h (suc d) v l = ap (λ (m : ℕ). p (suc m) v) (suc-add d k) ∙ next (d + k) (later k h d) v l ∙ ap (λ (m : ℕ). p m v) (sym (suc-add d k))
-
-    settled : (k : ℕ) → ((v : ℕ) → v < n → p (suc k) v ≡ p k v) → (d v : ℕ) → v < n → p (d + k) v ≡ p k v
-    settled k h zero v l = ap (λ (m : ℕ). p m v) (zero-add k)
-    settled k h (suc d) v l = ap (λ (m : ℕ). p m v) (suc-add d k) ∙ later k h d v l ∙ settled k h d v l
-
-    search-stop : (k : ℕ) → Stop n p k ⊎ (k ≤ size (p k) n)
-    search-stop zero = inr (omega arith)
-    search-stop (suc k) = ⊎-elim (λ t. inl (record { at = t .at; early = omega (arith, t .early); still = t .still })) (λ h. ⊎-elim (λ q. inl (record { at = k; early = le-refl (suc k); still = q })) (λ g. inr (omega arith)) (grown (p k) (p (suc k)) (λ v e. upTo-suc k v w e) n)) (search-stop k)
-
-    stop : Stop n p (suc n)
-    stop = ⊎-elim (λ t. t) (λ h. absurd (omega (arith, size-le (p (suc n)) n))) (search-stop (suc n))
-
     -- any number of repetitions reaches no more than n do
     pub enough : (k v : ℕ) → n ≤ k → v < n → p k v ≡ p n v
-    enough k v h l =
-        let t = stop in
-        let x : k - t .at + t .at ≡ k = omega (arith, t .early) in
-        let y : n - t .at + t .at ≡ n = omega (arith, t .early) in
-        ap (λ (m : ℕ). p m v) (sym x) ∙ settled (t .at) (t .still) (k - t .at) v l ∙ sym (settled (t .at) (t .still) (n - t .at) v l) ∙ ap (λ (m : ℕ). p m v) y
+    enough = growth.enough n p (λ k v e. upTo-suc k v w e) next
 
   pub upTo-star : (k v w : ℕ) → v < n → upTo r n k v w ≡ true → star r n v w ≡ true
   unfolding star
@@ -196,7 +173,7 @@ module _ (r : ℕ → ℕ → Bool) (n : ℕ) where
 
 -- ---- relations that agree between the numbers below n
 module _ (r q : ℕ → ℕ → Bool) (n : ℕ) (same : (v w : ℕ) → v < n → w < n → r v w ≡ q v w) where
-  upTo-agree : (k v w : ℕ) → v < n → upTo r n k v w ≡ upTo q n k v w
+  pub upTo-agree : (k v w : ℕ) → v < n → upTo r n k v w ≡ upTo q n k v w
   unfolding upTo
   upTo-agree zero v w l = refl
   upTo-agree (suc k) v w l = ap (λ (b : Bool). eqb v w || b) (some-ext (λ u. r v u && upTo r n k u w) (λ u. q v u && upTo q n k u w) n (λ u lu. ap₂ (λ (a b : Bool). a && b) (same v u l lu) (upTo-agree k u w lu)))

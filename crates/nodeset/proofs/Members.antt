@@ -1,9 +1,9 @@
--- The next member of a set: what it is, and how a search finds it.
+-- The next member of a set, as a search word by word finds it.
 use Prim.Native.Nat.{ℕ, zero, suc, _+_, _-_, _*_, _/_, _%_, _^_, _≤_, _<_}
-use mathlib.Core.Bool.{Bool, true, false, cond}
+use mathlib.Core.Bool.{Bool, true, false}
 use mathlib.Core.List.{List}
 use mathlib.Core.Path.{_≡_, refl, sym, ap, ap₂, _∙_, subst}
-use native.Mathlib.Nat.{add-zero, add-suc, suc-add, le-of-suc-le-suc, lt-of-le-of-lt, lt-of-lt-of-le, div-eq-of-lt}
+use native.Mathlib.Nat.{le-of-suc-le-suc, lt-of-le-of-lt, lt-of-lt-of-le, div-eq-of-lt}
 use native.Mathlib.Numerals.{one-add, add-one}
 use native.Mathlib.Omega.{arith}
 use lib.Dec.{eqb, ltb}
@@ -11,76 +11,15 @@ use lib.Arith.{lt-one, le-zero}
 use lib.Count.{under, trailingZeros}
 use lib.ListN.{getD}
 use lib.Pow.{shr-shr, shr-lt, shr-le, pow-mono}
-use borrow.Author.Tests.{eqb-true, ltb-true, ltb-false}
+use borrow.Author.Tests.{ltb-true, ltb-false}
 use Rattle.base.proofs.Bools.{bool-cases, never-both}
+use Rattle.base.specs.Least.{nextFrom}
+use Rattle.base.proofs.Least.{next-here, next-skip, next-none}
 use Rattle.nodeset.specs.Words.{bit, has}
-use Rattle.nodeset.specs.Members.{nextOf, nextFrom}
 use Rattle.nodeset.specs.Operations.{keeps}
 use Rattle.nodeset.specs.declared.Operation.{Operation}
 use Rattle.nodeset.proofs.Bits.{bit-zero}
 use Rattle.nodeset.proofs.Sets.{has-at}
-
--- r is the least number from i on and below n that has p, or n where there is none
-pub record Next (p : ℕ → Bool) (i n r : ℕ) : Type 0 where
-  pub onward : i ≤ r
-  pub within : r ≤ n
-  pub none : (j : ℕ) → i ≤ j → j < r → p j ≡ false
-  pub hit : r < n → p r ≡ true
-
-module _ (p : ℕ → Bool) (n : ℕ) where
-  pub next-end : (i : ℕ) → n ≤ i → nextFrom p i n ≡ n
-  unfolding nextFrom nextOf
-  next-end i l = ap (nextOf p n) (let e : n - i ≡ 0 = omega arith in e)
-
-  -- the number i itself, or one after it
-  next-step : (i : ℕ) → i < n → nextFrom p i n ≡ cond (p i) i (nextFrom p (suc i) n)
-  unfolding nextFrom nextOf
-  next-step i l =
-      let e : n - i ≡ suc (n - suc i) = omega arith in
-      let f : n - suc (n - suc i) ≡ i = omega arith in
-      ap (nextOf p n) e ∙ ap (λ (j : ℕ). cond (p j) j (nextOf p n (n - suc i))) f
-
-  pub next-here : (i : ℕ) → i < n → p i ≡ true → nextFrom p i n ≡ i
-  next-here i l h = next-step i l ∙ ap (λ (b : Bool). cond b i (nextFrom p (suc i) n)) h
-
-  next-past : (i : ℕ) → i < n → p i ≡ false → nextFrom p i n ≡ nextFrom p (suc i) n
-  next-past i l h = next-step i l ∙ ap (λ (b : Bool). cond b i (nextFrom p (suc i) n)) h
-
-  -- k numbers that have not p
-  pub next-skip : (k i : ℕ) → i + k ≤ n → ((j : ℕ) → j < k → p (i + j) ≡ false) → nextFrom p i n ≡ nextFrom p (i + k) n
-  next-skip zero i l h = ap (λ (j : ℕ). nextFrom p j n) (sym (add-zero i))
-  next-skip (suc k) i l h =
-      next-past i (omega arith) (ap p (sym (add-zero i)) ∙ h 0 (omega arith))
-      ∙ next-skip k (suc i) (omega arith) (λ j m. ap p (suc-add i j ∙ sym (add-suc i j)) ∙ h (suc j) (omega arith))
-      ∙ ap (λ (j : ℕ). nextFrom p j n) (suc-add i k ∙ sym (add-suc i k))
-
-  pub next-none : (k i : ℕ) → i ≤ n → n - i ≤ k → ((j : ℕ) → j < k → p (i + j) ≡ false) → nextFrom p i n ≡ n
-  next-none k i l m h = next-skip (n - i) i (omega arith) (λ j q. h j (omega arith)) ∙ next-end (i + (n - i)) (omega arith)
-
-  -- what the definition finds
-  found : (k i : ℕ) → i + k ≡ n → Next p i n (nextFrom p i n)
-  found zero i e = subst (λ (r : ℕ). Next p i n r) (sym (next-end i (omega arith))) (record { onward = omega arith; within = omega arith; none = λ j a b. absurd (omega arith); hit = λ l. absurd (omega arith) })
-  found (suc k) i e = bool-cases (λ b. p i ≡ b → Next p i n (nextFrom p i n)) (p i)
-      (λ _ h. subst (λ (r : ℕ). Next p i n r) (sym (next-here i (omega arith) h)) (record { onward = omega arith; within = omega arith; none = λ j a b. absurd (omega arith); hit = λ l. h }))
-      (λ _ h. let x : Next p (suc i) n (nextFrom p (suc i) n) = found k (suc i) (omega arith) in subst (λ (r : ℕ). Next p i n r) (sym (next-past i (omega arith) h)) (record {
-        onward = omega (arith, x .onward);
-        within = x .within;
-        none = λ j a b. bool-cases (λ t. eqb i j ≡ t → p j ≡ false) (eqb i j) (λ _ q. ap p (sym (eqb-true i j q)) ∙ h) (λ _ q. let ne : i ≡ j → ⊥ = borrow.Author.Tests.eqb-false i j q in x .none j (omega arith) b) refl;
-        hit = x .hit;
-      }))
-      refl
-
-  pub next-found : (i : ℕ) → i ≤ n → Next p i n (nextFrom p i n)
-  next-found i l = found (n - i) i (omega arith)
-
--- the same numbers, the same next one
-pub next-ext : (p q : ℕ → Bool) (i n : ℕ) → ((m : ℕ) → p m ≡ q m) → nextFrom p i n ≡ nextFrom q i n
-unfolding nextFrom nextOf
-next-ext p q i n h = go (n - i)
-  where
-    go : (k : ℕ) → nextOf p n k ≡ nextOf q n k
-    go zero = refl
-    go (suc k) = ap₂ (λ (b : Bool) (r : ℕ). cond b (n - suc k) r) (h (n - suc k)) (go k)
 
 -- ---- the digits of a word from a place on
 

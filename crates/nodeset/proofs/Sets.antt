@@ -15,7 +15,7 @@ use lib.Count.{ones}
 use borrow.Author.Tests.{eq-eqb, ne-eqb, eqb-true, eqb-false, lt-ltb, le-ltb, ltb-true, ltb-false}
 use Rattle.base.proofs.Lists.{zeros-at}
 use Rattle.base.specs.Bounded.{size}
-use Rattle.base.proofs.Bools.{same-test}
+use Rattle.base.proofs.Bools.{same-test, eqb-comm}
 use Rattle.base.proofs.Bounded.{size-ext, size-add, size-le}
 use Rattle.nodeset.specs.Words.{bit, has, both, wordOf, wordsFrom, wordsOf, with, union, intersection, difference, onesBoth}
 use Rattle.nodeset.proofs.Bits.{bit-or, bit-and, bit-pow, bit-zero, ones-size, wordOf-bit, wordOf-ext, wordOf-lt, bit-wordOf, wordOf-below}
@@ -240,6 +240,10 @@ module _ {a b : List ℕ} (p q : ℕ → Bool) (k : ℕ) (ea : a ≡ wordsOf p k
   pub difference-of : difference a b ≡ wordsOf (λ m. p m && not (q m)) k
   unfolding difference
   difference-of = combine-of (λ x y. x && not y) a b p q k ea eb
+
+-- a set of one number
+pub single : (v k : ℕ) → with (replicate k 0) v ≡ wordsOf (λ m. eqb v m) k
+single v k = with-step (λ m. false) (λ m. eqb v m) k v (zeros k) (λ m l. eqb-comm m v)
 
 -- what k empty words become
 pub union-zeros : (ws : List ℕ) (k : ℕ) → union (replicate k 0) ws ≡ wordsOf (has ws) k

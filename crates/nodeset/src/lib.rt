@@ -16,15 +16,16 @@
 //   NodeSet::whole        the numbers below n
 //   test, with            n is in the set; the set with n
 //   union, intersection, difference, count
+//   none_below            no number below n is in the set
 ghost use mathlib.Core.Path.{_≡_};
 ghost use mathlib.Core.Bool.{not, _&&_};
 ghost use Prim.Native.Nat.{ℕ, _+_, _*_, _≤_, _<_};
 ghost use lib.ListN.{getD, set};
 ghost use lib.Dec.{ltb};
 ghost use lib.Count.{ones};
-ghost use Rattle.base.specs.Bounded.{size};
+ghost use Rattle.base.specs.Bounded.{every, size};
+ghost use Rattle.base.specs.Least.{nextFrom};
 ghost use Rattle.nodeset.specs.Words.{bit, has, both, wordOf, wordsOf, with, union, intersection, difference, stored, onesBoth};
-ghost use Rattle.nodeset.specs.Members.{nextFrom};
 ghost use Rattle.nodeset.specs.Operations.{keeps, applied};
 
 // Word i, 0 past the end.
@@ -301,5 +302,13 @@ impl NodeSet {
     {
         let words = self.words;
         count_both(&words, &words)
+    }
+
+    // No number below n is in the set.
+    pub fn none_below(self, n: usize) -> bool
+        ensures { λ r. ⌜ r ≡ every (λ m. not (has (self .words) m)) n ⌝ }
+    {
+        let words = self.words;
+        next_member(&words, 0, n) == n
     }
 }

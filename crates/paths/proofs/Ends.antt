@@ -5,6 +5,7 @@ use mathlib.Core.List.{List}
 use mathlib.Core.Path.{_≡_, refl, sym, ap, _∙_}
 use lib.Dec.{eqb}
 use borrow.Author.Tests.{ltb-true}
+use Rattle.base.proofs.Bools.{eqb-comm}
 use Rattle.model.specs.Graph.{Triple}
 use Rattle.model.specs.Paths.{endsOf}
 use Rattle.tables.specs.Layout.{pathCount}
@@ -15,7 +16,6 @@ use Rattle.paths.specs.Ends.{endIn, endKnown}
 use Rattle.paths.specs.declared.End.{End}
 use Rattle.paths.specs.declared.End.the-variants.{Itself, Link, Path}
 use Rattle.paths.proofs.Images.{images-ext}
-use Rattle.paths.proofs.Joins.{eqb-comm}
 use Rattle.paths.proofs.Paths.{link-ends}
 use Rattle.model.specs.declared.LinkNo.{LinkNo}
 

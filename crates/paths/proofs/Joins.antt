@@ -10,7 +10,7 @@ use lib.ListN.{length, getD, take, drop, length-drop}
 use lib.Seq.{take-all}
 use borrow.Author.Tests.{eq-eqb, eqb-true, ltb-true, lt-ltb, le-ltb}
 use Rattle.base.specs.Bounded.{some}
-use Rattle.base.proofs.Bools.{and-left, and-right, and-both, same-test}
+use Rattle.base.proofs.Bools.{and-left, and-right, and-both, same-test, eqb-comm}
 use Rattle.base.proofs.Bounded.{every-at}
 use Rattle.nodeset.specs.Words.{has, with}
 use Rattle.nodeset.proofs.Sets.{wordsOf-ext, same-words, with-words, small-of, ltb-more}
@@ -24,9 +24,6 @@ use Rattle.paths.specs.Images.{startOf, setWords, Room, withImages, join
 use Rattle.paths.specs.declared.Sets.{Sets}
 use Rattle.paths.specs.declared.Sets.the-variants.{Rows, Own}
 use Rattle.paths.proofs.Images.{images-ext, images-none, images-or, images-pair}
-
-pub eqb-comm : (a b : ℕ) → eqb a b ≡ eqb b a
-eqb-comm a b = same-test (eqb a b) (eqb b a) (λ e. eq-eqb b a (sym (eqb-true a b e))) (λ e. eq-eqb a b (sym (eqb-true b a e)))
 
 -- ---- far joins the sets that near is in
 

@@ -8,11 +8,11 @@ use lib.Dec.{eqb, ltb}
 use lib.ListN.{length, getD, take, drop, replicate, length-replicate}
 use borrow.Author.Tests.{eqb-true, ne-eqb, lt-ltb, le-ltb, ltb-true, ltb-false}
 use Rattle.base.specs.Bounded.{some}
-use Rattle.base.proofs.Bools.{never-true}
+use Rattle.base.proofs.Bools.{never-true, eqb-comm}
 use Rattle.base.proofs.Bounded.{some-at, some-ext, some-none, some-eq}
+use Rattle.base.specs.Least.{nextFrom}
+use Rattle.base.proofs.Least.{found-some}
 use Rattle.nodeset.specs.Words.{has, wordsOf, union, with}
-use Rattle.nodeset.specs.Members.{nextFrom}
-use Rattle.nodeset.proofs.Members.{Next, next-found}
 use Rattle.nodeset.proofs.Sets.{has-of, has-zeros, length-of, wordsOf-ext, same-words, with-words, ltb-more}
 use Rattle.model.specs.Graph.{Triple}
 use Rattle.model.specs.Limits.{maxNodes}
@@ -24,21 +24,10 @@ use Rattle.paths.specs.Images.{converseIf, image, setCount, setWords, st
 use Rattle.paths.specs.declared.Sets.{Sets}
 use Rattle.paths.specs.declared.Sets.the-variants.{One, Rows, Own}
 use Rattle.paths.proofs.Images.{images-ext}
-use Rattle.paths.proofs.Joins.{eqb-comm}
 use Rattle.paths.proofs.Entries.{repeatedPath}
 use Rattle.paths.proofs.Codes.{mid-room}
 
 -- ---- a search for a shared member finds whether there is one
-pub found-some : (p : ℕ → Bool) (n : ℕ) {r : ℕ} → r ≡ nextFrom p 0 n → ltb r n ≡ some p n
-found-some p n {r} e = go (ltb r n) refl
-  where
-    next : Next p 0 n r
-    next = subst (Next p 0 n) (sym e) (next-found p n 0 (omega arith))
-
-    go : (b : Bool) → ltb r n ≡ b → b ≡ some p n
-    go true q = sym (some-at p n r (ltb-true r n q) (next .hit (ltb-true r n q)))
-    go false q = sym (some-ext p (λ i. false) n (λ i l. next .none i (omega arith) (let h : n ≤ r = ltb-false r n q in omega arith)) ∙ some-none n)
-
 pub meets-found : (from rows : List ℕ) (n w m : ℕ) → m ≡ length rows - 16 * w → {r : ℕ} → r ≡ nextFrom (λ v. has from v && has (take m (drop (16 * w) rows)) v) 0 n → ltb r n ≡ meetsRow from rows n w
 unfolding meetsRow
 meets-found from rows n w m q e = found-some (λ v. has from v && has (take m (drop (16 * w) rows)) v) n e ∙ some-ext (λ v. has from v && has (take m (drop (16 * w) rows)) v) (λ v. has from v && leads rows w v) n (λ v _. ap (λ (b : Bool). has from v && b) (lent-row rows w m q v))

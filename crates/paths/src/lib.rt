@@ -71,7 +71,7 @@ const SUBJECT_HEADS: usize = MAX_LINKS + MAX_FACTS;
 const SUBJECT_NEXTS: usize = SUBJECT_HEADS + MAX_NODES;
 
 // How many words the rows of all nodes take.
-const ROWS: usize = 16 * MAX_NODES;
+pub const ROWS_WORDS: usize = 16 * MAX_NODES;
 
 // The numbers of links lie below this one.
 const LINKS: u16 = MAX_LINKS as u16;
@@ -431,7 +431,7 @@ fn seq_many(
     requires { ⌜ FactsOk (now s) (now p) (now o) (now index) len n × (wellFormed (now cells) ≡ true) × (e < pathCount (now cells)) × Room sets n (now from) (now into) × (pathCodeAt (now cells) e ≡ codes.pathSeq) ⌝ }
     ensures { λ _. ⌜ now (into .exit) ≡ withEnds (setCount sets) n (triplesOf (now (s .entry)) (now (p .entry)) (now (o .entry)) len) (pathAt (now (cells .entry)) e) back (startOf sets (now (from .entry))) (now (into .entry)) ⌝ }
 {
-    let mut mid = [0u64; ROWS];
+    let mut mid = [0u64; ROWS_WORDS];
     seq_by(
         into,
         &mut mid,
@@ -497,7 +497,7 @@ fn repeat(
 {
     let a = path_first(cells, e);
     let none = path_code(cells, e) == codes::PATH_STAR;
-    let mut rows = [0u64; ROWS];
+    let mut rows = [0u64; ROWS_WORDS];
     spread(
         &mut rows,
         a,

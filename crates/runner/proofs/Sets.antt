@@ -10,7 +10,7 @@ use lib.ListN.{drop, replicate}
 use borrow.Author.Tests.{ltb-true}
 use Rattle.base.specs.Bounded.{size}
 use Rattle.base.specs.Lists.{member}
-use Rattle.base.proofs.Bools.{bool-cases, and-left}
+use Rattle.base.proofs.Bools.{bool-cases, and-left, two-below}
 use Rattle.base.proofs.Bounded.{size-beyond}
 use Rattle.nodeset.specs.Words.{has, wordsOf}
 use Rattle.nodeset.proofs.Sets.{zeros}
@@ -46,7 +46,6 @@ use Rattle.runner.specs.declared.Kind.{Kind}
 use Rattle.runner.specs.declared.Kind.the-variants.{Whole, Empty, Node, Both, Either, Path, Ends, Lang, Facts, Links}
 use Rattle.runner.specs.Kinds.{kindOf}
 use Rattle.runner.specs.Steps.{stepFrom}
-use Rattle.runner.proofs.Steps.{two-low}
 use Rattle.runner.proofs.Tests.{test-meets, opened-by, closed-by}
 
 -- the words, as the calls promise them
@@ -80,10 +79,10 @@ KindOk cs (Links condition e) = (e < formCount cs) × (formCodeAt cs e ≡ codes
 module _ (cs : List ℕ) (k : ℕ) (low : k < maxSteps) where
   -- two lower steps; a path entry and a lower step; a path entry as an END; a list of links
   lower : (i j : ℕ) → (ltb i k && ltb j k) ≡ true → (i < 65536) × (j < 65536)
-  lower i j w = let l : (i < k) × (j < k) = two-low i j k k w in (omega arith, omega arith)
+  lower i j w = let l : (i < k) × (j < k) = two-below i k j k w in (omega arith, omega arith)
 
   on-path : (p j : ℕ) → (ltb p (pathCount cs) && ltb j k) ≡ true → (p < pathCount cs) × (j < 65536) × (true ≡ true)
-  on-path p j w = let l : (p < pathCount cs) × (j < k) = two-low p j (pathCount cs) k w in (l .0, omega arith, refl)
+  on-path p j w = let l : (p < pathCount cs) × (j < k) = two-below p (pathCount cs) j k w in (l .0, omega arith, refl)
 
   an-end : (f l : ℕ) → (tables.endNumberOk cs f && ltb l (linkCount cs)) ≡ true → endKnown cs (endFor f) ≡ true
   an-end f l w = end-ok cs f (and-left (tables.endNumberOk cs f) (ltb l (linkCount cs)) w)

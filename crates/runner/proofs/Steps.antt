@@ -7,7 +7,7 @@ use lib.Dec.{ltb, leb}
 use lib.IntN.{ℤ}
 use borrow.Author.Tests.{ltb-true}
 use Rattle.base.specs.Bounded.{_⇒_, every}
-use Rattle.base.proofs.Bools.{and-left, and-right}
+use Rattle.base.proofs.Bools.{and-left, and-right, two-below}
 use Rattle.base.proofs.Bounded.{every-ext, size-ext}
 use Rattle.model.specs.Limits.{maxCount}
 use Rattle.model.specs.Shapes.{within, from}
@@ -17,10 +17,6 @@ use Rattle.tables.specs.WellFormed.{upperOk}
 use Rattle.plan.specs.Steps.{Step}
 use Rattle.plan.specs.Sets.{inStep}
 use Rattle.plan.specs.WellFormed.{stepOk}
-
--- two lower steps; a path entry and a lower step; a path entry and a link
-pub two-low : (i j k l : ℕ) → (ltb i k && ltb j l) ≡ true → (i < k) × (j < l)
-two-low i j k l w = (ltb-true i k (and-left (ltb i k) (ltb j l) w), ltb-true j l (and-right (ltb i k) (ltb j l) w))
 
 -- a right step looks only at lower steps, and there only at nodes
 module _ (cs : List ℕ) (vs : List ℤ) (k : ℕ) (f g : ℕ → ℕ → Bool) (h : (j : ℕ) → j < k → (w : ℕ) → w < nodeCount cs → f j w ≡ g j w) (v : ℕ) (low : v < nodeCount cs) where
@@ -32,13 +28,13 @@ module _ (cs : List ℕ) (vs : List ℤ) (k : ℕ) (f g : ℕ → ℕ → Bool) 
   in-step-ext (Step.isnot c) w = refl
   in-step-ext (Step.test e) w = refl
   in-step-ext (Step.untest e) w = refl
-  in-step-ext (Step.both i j) w = let l = two-low i j k k w in ap₂ (λ (a b : Bool). a && b) (h i (l .0) v low) (h j (l .1) v low)
-  in-step-ext (Step.either i j) w = let l = two-low i j k k w in ap₂ (λ (a b : Bool). a || b) (h i (l .0) v low) (h j (l .1) v low)
+  in-step-ext (Step.both i j) w = let l = two-below i k j k w in ap₂ (λ (a b : Bool). a && b) (h i (l .0) v low) (h j (l .1) v low)
+  in-step-ext (Step.either i j) w = let l = two-below i k j k w in ap₂ (λ (a b : Bool). a || b) (h i (l .0) v low) (h j (l .1) v low)
   in-step-ext (Step.count p j lo hi) w =
-      let l = two-low p j (pathCount cs) k (and-left (ltb p (pathCount cs) && ltb j k) (leb lo (suc maxCount) && upperOk cs hi) w) in
+      let l = two-below p (pathCount cs) j k (and-left (ltb p (pathCount cs) && ltb j k) (leb lo (suc maxCount) && upperOk cs hi) w) in
       ap (within lo (upperOf hi)) (size-ext (λ b. from (graphAt cs vs) (pathAt cs p) v b && f j b) (λ b. from (graphAt cs vs) (pathAt cs p) v b && g j b) (nodeCount cs) (λ b m. ap (λ (t : Bool). from (graphAt cs vs) (pathAt cs p) v b && t) (h j (l .1) b m)))
   in-step-ext (Step.every p j) w =
-      let l = two-low p j (pathCount cs) k w in
+      let l = two-below p (pathCount cs) j k w in
       every-ext (λ b. from (graphAt cs vs) (pathAt cs p) v b ⇒ f j b) (λ b. from (graphAt cs vs) (pathAt cs p) v b ⇒ g j b) (nodeCount cs) (λ b m. ap (λ (t : Bool). from (graphAt cs vs) (pathAt cs p) v b ⇒ t) (h j (l .1) b m))
   in-step-ext (Step.equal p l) w = refl
   in-step-ext (Step.unequal p l) w = refl

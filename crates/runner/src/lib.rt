@@ -5,13 +5,13 @@
 // word is written.
 use entries::end_at;
 use model::LinkNo;
-use model::MAX_NODES;
 use model::MAX_STEPS;
 use model::Refusal;
 use nodeset::NodeSet;
 use nodeset::store;
 use paths::End;
 use paths::INDEX_CELLS;
+use paths::ROWS_WORDS;
 use paths::index_table;
 use plan::PLAN_CELLS;
 use plan::steps;
@@ -58,12 +58,10 @@ ghost use Rattle.runner.specs.Steps.{stepFrom, put};
 // How long the work space must be: sixteen words for each step.
 pub const WORK_WORDS: usize = 16 * MAX_STEPS;
 
-// How many nodes are few, and how long the rows of ends are: sixteen words for each of few nodes, and of all that there may be.
+// How many nodes are few, and how many words their rows of ends take.
 const FEW_NODES: usize = 64;
 
 const FEW_ROWS: usize = 16 * FEW_NODES;
-
-const MANY_ROWS: usize = 16 * MAX_NODES;
 
 // What a run answers.
 pub enum Ran {
@@ -293,8 +291,8 @@ fn run_many(work: &mut [u64], cells: &[u16], index: &[u16], values: &[i64], plan
     requires { ⌜ Tables (now cells) (now index) × (planWellFormed (now cells) (now plan) ≡ true) × (workCount ≤ length (now work)) ⌝ }
     ensures { λ _. ⌜ now (work .exit) ≡ filled (now (cells .entry)) (now (values .entry)) (now (plan .entry)) (now (work .entry)) ⌝ }
 {
-    let mut first = [0u64; MANY_ROWS];
-    let mut second = [0u64; MANY_ROWS];
+    let mut first = [0u64; ROWS_WORDS];
+    let mut second = [0u64; ROWS_WORDS];
     run_all(work, &mut first, &mut second, cells, index, values, plan);
 }
 

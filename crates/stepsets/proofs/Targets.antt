@@ -10,7 +10,7 @@ use lib.IntN.{ℤ}
 use lib.ListN.{length, getD, replicate}
 use borrow.Author.Tests.{eq-eqb, eqb-true, lt-ltb}
 use Rattle.base.specs.Bounded.{some}
-use Rattle.base.proofs.Bools.{and-left, and-right}
+use Rattle.base.proofs.Bools.{and-left, and-right, eqb-comm}
 use Rattle.base.proofs.Lists.{any-values}
 use Rattle.chains.specs.Chains.{lastWith}
 use Rattle.chains.proofs.Chains.{last-le, last-key, some-last, walk-begins, walk-falls, walk-next}
@@ -26,7 +26,6 @@ use Rattle.tables.specs.Decode.{tripleAt, triplesAt, graphAt}
 use Rattle.tables.specs.WellFormed.{wellFormed}
 use Rattle.tables.proofs.WellFormed.{sound}
 use Rattle.paths.specs.Facts.{Tables}
-use Rattle.paths.proofs.Joins.{eqb-comm}
 use Rattle.stepsets.specs.Conditions.{nodesOf}
 use Rattle.stepsets.specs.Targets.{nodeOf, picks, picked, chosen, ByLink}
 use Rattle.stepsets.specs.declared.Target.{Target}

@@ -8,7 +8,7 @@ use lib.IntN.{ℤ}
 use borrow.Author.Tests.{ltb-true}
 use Rattle.base.specs.Numbered.{below}
 use Rattle.base.proofs.Numbered.{at-number, below-number}
-use Rattle.base.proofs.Bools.{and-left, and-right}
+use Rattle.base.proofs.Bools.{and-left, and-right, two-below}
 use Rattle.model.specs.Limits.{maxCount}
 use Rattle.model.specs.Paths.{Path, predicate, inverse, sequence, alternative, zeroOrMore, oneOrMore}
 use Rattle.model.specs.Shapes.{Shape, conj, disj, neg, count, forAll}
@@ -18,18 +18,14 @@ use Rattle.tables.specs.Decode.{pathOf, pathEntryAt, pathAt, shapeOf, en
 use Rattle.tables.specs.WellFormed.{pathEntryOk, entryOk, upperOk}
 use Rattle.tables.proofs.WellFormed.{Sound}
 
--- both of two lower numbers
-lower : (a b e : ℕ) → (ltb a e && ltb b e) ≡ true → (a < e) × (b < e)
-lower a b e w = (ltb-true a e (and-left (ltb a e) (ltb b e) w), ltb-true b e (and-right (ltb a e) (ltb b e) w))
-
 module _ (cs : List ℕ) (e : ℕ) where
   -- a right entry looks at lower numbers only
   pub path-parts : (x : PathEntry) → pathEntryOk cs e x ≡ true → (f g : ℕ → Path) → ((k : ℕ) → k < e → f k ≡ g k) → pathOf x f ≡ pathOf x g
   unfolding pathEntryOk pathOf
   path-parts (link p) w f g h = refl
   path-parts (inv a) w f g h = ap inverse (h a (ltb-true a e w))
-  path-parts (seq a b) w f g h = ap₂ sequence (h a (lower a b e w .0)) (h b (lower a b e w .1))
-  path-parts (alt a b) w f g h = ap₂ alternative (h a (lower a b e w .0)) (h b (lower a b e w .1))
+  path-parts (seq a b) w f g h = ap₂ sequence (h a (two-below a e b e w .0)) (h b (two-below a e b e w .1))
+  path-parts (alt a b) w f g h = ap₂ alternative (h a (two-below a e b e w .0)) (h b (two-below a e b e w .1))
   path-parts (star a) w f g h = ap zeroOrMore (h a (ltb-true a e w))
   path-parts (plus a) w f g h = ap oneOrMore (h a (ltb-true a e w))
   path-parts PathEntry.bad w f g h = refl
@@ -39,8 +35,8 @@ module _ (cs : List ℕ) (e : ℕ) where
   shape-parts Entry.top w f g h = refl
   shape-parts (Entry.is c) w f g h = refl
   shape-parts (Entry.shape s) w f g h = h (rootAt cs s) (ltb-true (rootAt cs s) e (and-right (ltb s (shapeCount cs)) (ltb (rootAt cs s) e) w))
-  shape-parts (Entry.conj a b) w f g h = ap₂ conj (h a (lower a b e w .0)) (h b (lower a b e w .1))
-  shape-parts (Entry.disj a b) w f g h = ap₂ disj (h a (lower a b e w .0)) (h b (lower a b e w .1))
+  shape-parts (Entry.conj a b) w f g h = ap₂ conj (h a (two-below a e b e w .0)) (h b (two-below a e b e w .1))
+  shape-parts (Entry.disj a b) w f g h = ap₂ disj (h a (two-below a e b e w .0)) (h b (two-below a e b e w .1))
   shape-parts (Entry.neg a) w f g h = ap neg (h a (ltb-true a e w))
   shape-parts (Entry.kind k) w f g h = refl
   shape-parts (Entry.datatype t) w f g h = refl

@@ -9,7 +9,7 @@ use lib.Dec.{eqb, ltb}
 use lib.IntN.{ℤ}
 use lib.ListN.{length, getD}
 use borrow.Author.Tests.{ltb-true, le-leb}
-use Rattle.base.proofs.Bools.{bool-cases, and-right}
+use Rattle.base.proofs.Bools.{bool-cases, cond-same, and-right}
 use Rattle.base.proofs.Lists.{at-values}
 use Rattle.consoles.specs.Tallies.{consoleCount, noTallies, greatest}
 use Rattle.model.specs.Answers.{Answer, refusal}
@@ -31,10 +31,6 @@ use Rattle.verdict.specs.Sessions.{questionsOf, answersTo, givenIn, session, vi
 use Rattle.verdict.proofs.Sessions.{tallied-length, tally-counts}
 use Rattle.validation.specs.Verdicts.{inBook, answerIn, viewIn}
 use Rattle.validation.proofs.Tables.{fine, names′, cells′, values′, cells-read, values-read, still-long}
-
--- two conditionals with one test, whose first arms are the same where the test holds
-cond-same : (t u : Bool) (x y d : Answer Bool) → t ≡ u → (u ≡ true → x ≡ y) → cond t x d ≡ cond u y d
-cond-same t u x y d e f = ap (λ (k : Bool). cond k x d) e ∙ bool-cases (λ k. cond k x d ≡ cond k y d) u f (λ n. refl)
 
 module _ (s ns cs : List ℕ) (vs : List ℤ) (e : longEnough ns cs vs ≡ true) (b : Book) (v : valid b ≡ true) (r : render b ≡ s) where
   shape-read : (shape : ℕ) → shape < shapeCount (encodeCells b) → shapeAt (encodeCells b) (encodeValues b) (rootAt (encodeCells b) shape) ≡ def (schema b) shape

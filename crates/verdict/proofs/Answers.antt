@@ -8,17 +8,18 @@ use lib.IntN.{ℤ}
 use lib.ListN.{length, take}
 use lib.Seq.{length-take-le}
 use borrow.Author.Tests.{ltb-true, leb-true, le-leb, lt-leb}
-use Rattle.base.proofs.Bools.{bool-cases, and-left, and-right}
+use Rattle.base.proofs.Bools.{bool-cases, and-right, two-below}
 use Rattle.nodeset.specs.Words.{stored}
 use Rattle.consoles.specs.Tallies.{consoleCount, counted}
 use Rattle.consoles.proofs.Counting.{stored-same, stored-counted}
-use Rattle.model.specs.Answers.{Answer, value, refusal, isGiven, checkedThen}
+use Rattle.model.specs.Answers.{Answer, value, refusal, isGiven}
+use Rattle.model.proofs.Answers.{given-passed}
 use Rattle.model.specs.Shapes.{conforms}
 use Rattle.tables.specs.Layout.{cellCount, valueCount, nodeCount, shapeCount, rootAt}
 use Rattle.tables.specs.Decode.{graphAt, shapeAt}
 use Rattle.tables.specs.WellFormed.{wellFormed}
 use Rattle.tables.specs.Sizes.{longEnough}
-use Rattle.verdict.specs.Answers.{Question, Reply, hasBoth, conformsAt, answerOn, verdictAnswer, tallied, replied, reply}
+use Rattle.verdict.specs.Answers.{Question, Reply, hasBoth, conformsAt, toConsole, answerOn, verdictAnswer, tallied, replied, reply}
 
 module _ (cs : List ℕ) (vs : List ℤ) (q : Question) where
   pub on-malformed : wellFormed cs ≡ false → refusal 9 0 ≡ answerOn cs vs q
@@ -28,7 +29,7 @@ module _ (cs : List ℕ) (vs : List ℤ) (q : Question) where
   -- there: what is said of node and shape
   module _ (w : wellFormed cs ≡ true) {there : Bool} (et : hasBoth cs q ≡ there) where
     pub places-there : there ≡ true → (q .node < nodeCount cs) × (q .shape < shapeCount cs)
-    places-there h = (ltb-true (q .node) (nodeCount cs) (and-left (ltb (q .node) (nodeCount cs)) (ltb (q .shape) (shapeCount cs)) (et ∙ h)), ltb-true (q .shape) (shapeCount cs) (and-right (ltb (q .node) (nodeCount cs)) (ltb (q .shape) (shapeCount cs)) (et ∙ h)))
+    places-there h = two-below (q .node) (nodeCount cs) (q .shape) (shapeCount cs) (et ∙ h)
 
     pub on-absent : there ≡ false → refusal 10 0 ≡ answerOn cs vs q
     unfolding answerOn
@@ -43,13 +44,13 @@ module _ (cs : List ℕ) (vs : List ℤ) (q : Question) where
       unfolding answerOn
       on-given k e ee hb = rw (w, et ∙ h, k) (ap value (sym hb ∙ ap (λ (e : ℕ). conforms (graphAt cs vs) (shapeAt cs vs e) (q .node)) ee))
 
--- what was given passed every test; here the first and the last
-given-tests : (long formed there last b : Bool) → isGiven (checkedThen long formed there (cond last (value b) (refusal 11 0))) ≡ true → (long ≡ true) × (last ≡ true)
-given-tests true true true true b g = (refl, refl)
-given-tests true true true false b g = (refl, g)
-given-tests true true false last b g = absurd (true≢false (sym g))
-given-tests true false there last b g = absurd (true≢false (sym g))
-given-tests false formed there last b g = absurd (true≢false (sym g))
+-- the verdict is given to a console
+to-console : (q : Question) (b : Bool) → isGiven (toConsole q b) ≡ true → ltb (q .console) consoleCount ≡ true
+to-console q b = go (ltb (q .console) consoleCount)
+  where
+    go : (t : Bool) → isGiven {A = Bool} (cond t (value b) (refusal 11 0)) ≡ true → t ≡ true
+    go true g = refl
+    go false g = g
 
 module _ (ns cs : List ℕ) (vs : List ℤ) (ts : List ℕ) (q : Question) where
   pub verdict-short : longEnough ns cs vs ≡ false → refusal 8 0 ≡ verdictAnswer ns cs vs ts q
@@ -69,8 +70,10 @@ module _ (ns cs : List ℕ) (vs : List ℤ) (ts : List ℕ) (q : Question) where
   pub given-console : isGiven (verdictAnswer ns cs vs ts q) ≡ true → (q .console < consoleCount) × (consoleCount ≤ length ts)
   unfolding verdictAnswer answerOn
   given-console g =
-      let p = given-tests (longEnough ns cs vs && leb consoleCount (length ts)) (wellFormed (take cellCount cs)) (hasBoth (take cellCount cs) q) (ltb (q .console) consoleCount) (conformsAt (take cellCount cs) (take valueCount vs) q) g in
-      (ltb-true (q .console) consoleCount (p .1), leb-true consoleCount (length ts) (and-right (longEnough ns cs vs) (leb consoleCount (length ts)) (p .0)))
+      let cs′ = take cellCount cs in
+      let x = toConsole q (conformsAt cs′ (take valueCount vs) q) in
+      let p = given-passed (longEnough ns cs vs && leb consoleCount (length ts)) (wellFormed cs′) (hasBoth cs′ q) x g in
+      (ltb-true (q .console) consoleCount (to-console q (conformsAt cs′ (take valueCount vs) q) (ap isGiven (sym (p .3)) ∙ g)), leb-true consoleCount (length ts) (and-right (longEnough ns cs vs) (leb consoleCount (length ts)) (p .0)))
 
   -- ---- lent tallies
   pub lent-short : length ts < consoleCount → refusal 8 0 ≡ verdictAnswer ns cs vs ts q

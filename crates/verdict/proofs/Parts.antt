@@ -7,7 +7,7 @@ use mathlib.Core.Path.{_≡_, refl, sym, ap, ap₂, _∙_, subst}
 use native.Mathlib.Omega.{arith}
 use lib.Dec.{eqb, ltb, leb}
 use borrow.Author.Tests.{eq-eqb, eqb-true, eqb-false, ltb-true, leb-true}
-use Rattle.base.proofs.Bools.{bool-cases, and-left, and-right, or-cases}
+use Rattle.base.proofs.Bools.{bool-cases, and-left, and-right, or-cases, two-below}
 use Rattle.nodeset.specs.Words.{has, wordsOf}
 use Rattle.nodeset.proofs.Sets.{has-of}
 use Rattle.base.proofs.Bounded.{some-at}
@@ -62,9 +62,6 @@ module _ (cs : List ℕ) (e : ℕ) where
     lower : (n a b : ℕ) → formCodeAt cs e ≡ n → firstBy n (rootAt cs (formFirstAt cs e)) (formFirstAt cs e) (formSecondAt cs e) ≡ a → secondBy n a (formSecondAt cs e) ≡ b → a < e → b < e → Lower
     lower n a b q f g la lb = (subst (λ (x : ℕ). x < e) (sym (first-by n q ∙ f)) la, subst (λ (x : ℕ). x < e) (sym (second-by n q ∙ ap (λ (x : ℕ). secondBy n x (formSecondAt cs e)) f ∙ g)) lb)
 
-    two : (a b : ℕ) → (ltb a e && ltb b e) ≡ true → (a < e) × (b < e)
-    two a b h = (ltb-true a e (and-left (ltb a e) (ltb b e) h), ltb-true b e (and-right (ltb a e) (ltb b e) h))
-
     lower-shape : formCodeAt cs e ≡ codes.formShape → Lower
     unfolding entryOf entryOk
     lower-shape q =
@@ -73,11 +70,11 @@ module _ (cs : List ℕ) (e : ℕ) where
 
     lower-and : formCodeAt cs e ≡ codes.formAnd → Lower
     unfolding entryOf entryOk
-    lower-and q = let h = two (formFirstAt cs e) (formSecondAt cs e) (right-by cs t [] e l codes.formAnd q) in lower codes.formAnd (formFirstAt cs e) (formSecondAt cs e) q refl refl (h .0) (h .1)
+    lower-and q = let h = two-below (formFirstAt cs e) e (formSecondAt cs e) e (right-by cs t [] e l codes.formAnd q) in lower codes.formAnd (formFirstAt cs e) (formSecondAt cs e) q refl refl (h .0) (h .1)
 
     lower-or : formCodeAt cs e ≡ codes.formOr → Lower
     unfolding entryOf entryOk
-    lower-or q = let h = two (formFirstAt cs e) (formSecondAt cs e) (right-by cs t [] e l codes.formOr q) in lower codes.formOr (formFirstAt cs e) (formSecondAt cs e) q refl refl (h .0) (h .1)
+    lower-or q = let h = two-below (formFirstAt cs e) e (formSecondAt cs e) e (right-by cs t [] e l codes.formOr q) in lower codes.formOr (formFirstAt cs e) (formSecondAt cs e) q refl refl (h .0) (h .1)
 
     lower-not : formCodeAt cs e ≡ codes.formNot → Lower
     unfolding entryOf entryOk

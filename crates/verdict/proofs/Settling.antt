@@ -10,8 +10,8 @@ use borrow.Author.Tests.{not-true}
 use Rattle.base.specs.Bounded.{_⇒_, every}
 use Rattle.base.proofs.Bools.{bool-cases, implies-true, true-implies}
 use Rattle.base.proofs.Bounded.{every-at, every-all}
+use Rattle.base.specs.Least.{nextFrom}
 use Rattle.nodeset.specs.Words.{has, wordsOf, with}
-use Rattle.nodeset.specs.Members.{nextFrom}
 use Rattle.nodeset.proofs.Sets.{has-of}
 use Rattle.model.specs.Shapes.{conforms}
 use Rattle.model.specs.Limits.{maxNodes, maxForms}

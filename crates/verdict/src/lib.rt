@@ -19,7 +19,6 @@ use entries::lang_holds;
 use entries::links_hold;
 use entries::sets_hold;
 use model::MAX_FORMS;
-use model::MAX_NODES;
 use model::MAX_PATHS;
 use model::NodeNo;
 use model::Refusal;
@@ -30,6 +29,7 @@ use nodeset::next_member;
 use nodeset::test;
 use paths::End;
 use paths::INDEX_CELLS;
+use paths::ROWS_WORDS;
 use paths::index_table;
 use stepsets::Condition;
 use stepsets::Kept;
@@ -55,7 +55,6 @@ ghost use mathlib.Core.Path.{_≡_};
 ghost use mathlib.Core.Bool.{true, not, cond, _&&_};
 ghost use Prim.Native.Nat.{ℕ, _+_, _*_, _<_, _≤_};
 ghost use lib.ListN.{length};
-ghost use Rattle.base.specs.Bounded.{every};
 ghost use Rattle.nodeset.specs.Words.{has, wordsOf, with};
 ghost use Rattle.model.specs.Answers.{isGiven};
 ghost use Rattle.model.specs.Shapes.{conforms};
@@ -70,10 +69,8 @@ ghost use Rattle.verdict.specs.Answers.{question, answerOf, replyOf, ans
 ghost use Rattle.verdict.specs.Memo.{yesPlace, noPlace, Ready, Decided, Settled, memoCount};
 ghost use Rattle.verdict.specs.Parts.{looksAtEnds, hasParts, firstPart, secondPart, looksAt, PartsKnown, ConformingSet, Enough};
 
-// How long the memo is: 32 words for each entry; and the rows of ends: sixteen for each node.
+// How long the memo is: 32 words for each entry.
 const MEMO_WORDS: usize = 32 * MAX_FORMS;
-
-const ROWS_WORDS: usize = 16 * MAX_NODES;
 
 // Node v is known to conform to entry e.
 fn known(memo: &[u64], e: usize, v: NodeNo) -> bool
@@ -342,21 +339,13 @@ fn fill(memo: &mut [u64], e: usize, nodes: NodeSet, cells: &[u16], index: &[u16]
     }
 }
 
-// No node below n is in the set.
-fn none_below(set: NodeSet, n: usize) -> bool
-    ensures { λ r. ⌜ r ≡ every (λ v. not (has (set .words) v)) n ⌝ }
-{
-    let words = set.words;
-    next_member(&words, 0, n) == n
-}
-
 // It becomes known of each node of want whether it conforms to entry e.
 fn settle(memo: &mut [u64], e: usize, want: NodeSet, cells: &[u16], index: &[u16], values: &[i64])
     requires { ⌜ Ready (now cells) (now index) (now values) (now memo) e ⌝ }
     ensures { λ _. ⌜ Settled (now (cells .entry)) (now (values .entry)) (now (memo .entry)) (now (memo .exit)) e (want .words) ⌝ }
 {
     let nodes = unsettled(memo, e, want);
-    if none_below(nodes, node_count(cells)) {
+    if nodes.none_below(node_count(cells)) {
         return;
     }
     if has_parts(cells, e) {

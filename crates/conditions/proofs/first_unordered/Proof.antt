@@ -9,6 +9,7 @@ use lib.ListN.{getD, length-replicate}
 use borrow.Author.Needs.{needs}
 use Rattle.base.specs.Bounded.{every}
 use Rattle.base.proofs.Bounded.{every-more}
+use Rattle.base.proofs.Least.{next-after}
 use Rattle.nodeset.specs.Words.{has}
 use Rattle.model.specs.Limits.{maxNodes}
 use Rattle.tables.specs.Codes as codes
@@ -17,7 +18,7 @@ use Rattle.tables.specs.Decode.{termAt}
 use Rattle.conditions.specs.Pairs.{unordered, comesBack}
 use Rattle.conditions.specs.Searches.{firstPair, among, pairFound, MembersListed}
 use Rattle.conditions.specs.declared.FoundPair.the-variants.{NoPair}
-use Rattle.conditions.proofs.Members.{Passed, passed-none, passed-more, passed-all, next-after}
+use Rattle.conditions.proofs.Members.{Passed, passed-none, passed-more, passed-all}
 use Rattle.conditions.proofs.Listing.{listed-once, quiet, passedBy, pair-miss, row-quiet, pair-hit}
 use Rattle.conditions.proofs.Terms.{read-back}
 use Rattle.conditions.proofs.Pairs.{order-test}

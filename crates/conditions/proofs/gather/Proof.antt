@@ -4,9 +4,9 @@ use mathlib.Core.Bool.{_&&_}
 use mathlib.Core.Path.{_≡_, refl, _∙_}
 use native.Mathlib.Omega.{arith}
 use lib.ListN.{length, length-set}
+use Rattle.base.proofs.Least.{next-after}
 use borrow.Author.Needs.{needs}
 use Rattle.nodeset.specs.Words.{has}
-use Rattle.conditions.proofs.Members.{next-after}
 use Rattle.conditions.proofs.Listing.{Gathering, gathering-none, gathering-more, gathering-done}
 use Rattle.conditions.proofs.gather.Statement.{statement}
 use Rattle.conditions.proofs.gather.Tie as tie

@@ -4,11 +4,12 @@ use mathlib.Core.Bool.{_&&_}
 use Prim.Native.Nat.{ℕ, _-_}
 use native.Mathlib.Omega.{arith}
 use lib.Dec.{eqb, ltb}
+use Rattle.base.proofs.Least.{next-after}
 use borrow.Author.Needs.{needs}
 use Rattle.nodeset.specs.Words.{has, wordsOf}
 use Rattle.tables.specs.Codes as codes
 use Rattle.tables.specs.Layout.{nodeCount, kindAt}
-use Rattle.conditions.proofs.Members.{next-after, Gathered, gathered-none, gathered-more, gathered-length, gathered-all}
+use Rattle.conditions.proofs.Members.{Gathered, gathered-none, gathered-more, gathered-length, gathered-all}
 use Rattle.conditions.proofs.with_language.Statement.{statement}
 use Rattle.conditions.proofs.with_language.Tie as tie
 

@@ -4,11 +4,12 @@ use mathlib.Core.Bool.{Bool}
 use mathlib.Core.Path.{_≡_, refl, sym, ap₂, _∙_}
 use native.Mathlib.Omega.{arith}
 use lib.Count.{trailing-le}
+use Rattle.base.specs.Least.{nextFrom}
+use Rattle.base.proofs.Least.{next-end}
 use borrow.Author.Needs.{needs}
 use Rattle.nodeset.specs.Words.{bit, has}
-use Rattle.nodeset.specs.Members.{nextFrom}
 use Rattle.nodeset.specs.Operations.{keeps}
-use Rattle.nodeset.proofs.Members.{next-end, search-hit, search-past, search-end, search-on, kept-digits}
+use Rattle.nodeset.proofs.Members.{search-hit, search-past, search-end, search-on, kept-digits}
 use Rattle.nodeset.proofs.next_kept.Statement.{statement}
 use Rattle.nodeset.proofs.next_kept.Tie as tie
 

@@ -3,10 +3,10 @@ use Prim.Native.Nat.{ℕ}
 use mathlib.Core.List.{List}
 use mathlib.Core.Bool.{Bool, true, false, _||_}
 use mathlib.Core.Path.{_≡_, refl, _∙_}
+use Rattle.base.specs.Least.{nextFrom}
+use Rattle.base.proofs.Least.{next-ext}
 use borrow.Author.Needs.{needs}
 use Rattle.nodeset.specs.Words.{has}
-use Rattle.nodeset.specs.Members.{nextFrom}
-use Rattle.nodeset.proofs.Members.{next-ext}
 use Rattle.nodeset.proofs.next_member.Statement.{statement}
 use Rattle.nodeset.proofs.next_member.Tie as tie
 

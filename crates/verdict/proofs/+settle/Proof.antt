@@ -16,7 +16,7 @@ use Rattle.verdict.proofs.asked.Reads as asked-reads
 use Rattle.verdict.proofs.fill.Reads as fill-reads
 use Rattle.verdict.proofs.first_part.Reads as first-part-reads
 use Rattle.verdict.proofs.has_parts.Reads as has-parts-reads
-use Rattle.verdict.proofs.none_below.Reads as none-below-reads
+use Rattle.nodeset.proofs.NodeSet.none_below.Reads as none-below-reads
 use Rattle.verdict.proofs.second_part.Reads as second-part-reads
 use Rattle.verdict.proofs.unsettled.Reads as unsettled-reads
 use Rattle.verdict.proofs.+settle.{statement}

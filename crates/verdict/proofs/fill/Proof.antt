@@ -3,10 +3,10 @@ use mathlib.Core.Path.{_≡_, sym, _∙_}
 use Prim.Native.Nat.{_-_, _<_}
 use native.Mathlib.Omega.{arith}
 use lib.ListN.{length}
+use Rattle.base.proofs.Least.{next-after}
 use borrow.Author.Needs.{needs}
 use Rattle.nodeset.specs.Words.{has}
 use Rattle.tables.specs.Layout.{nodeCount}
-use Rattle.conditions.proofs.Members.{next-after}
 use Rattle.entries.proofs.Codes.{nodes-le}
 use Rattle.verdict.proofs.Settling.{Filling, filling-none, filling-more, filling-all, entry-lt}
 use Rattle.verdict.proofs.fill.Statement.{statement}

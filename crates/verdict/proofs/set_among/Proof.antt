@@ -4,6 +4,7 @@ use mathlib.Core.Bool.{Bool, _&&_}
 use mathlib.Core.Path.{_≡_, ap₂, _∙_}
 use native.Mathlib.Omega.{arith}
 use lib.Dec.{ltb}
+use Rattle.base.proofs.Least.{next-after}
 use borrow.Author.Needs.{needs}
 use borrow.Author.Tests.{lt-ltb}
 use Rattle.nodeset.specs.Words.{has}
@@ -11,7 +12,7 @@ use Rattle.nodeset.proofs.Sets.{has-of}
 use Rattle.model.specs.Shapes.{conforms}
 use Rattle.tables.specs.Layout.{nodeCount}
 use Rattle.tables.specs.Decode.{graphAt, shapeAt}
-use Rattle.conditions.proofs.Members.{Gathered, gathered-none, gathered-more, gathered-length, gathered-all, next-after}
+use Rattle.conditions.proofs.Members.{Gathered, gathered-none, gathered-more, gathered-length, gathered-all}
 use Rattle.entries.proofs.Codes.{nodes-le}
 use Rattle.verdict.proofs.set_among.Statement.{statement}
 use Rattle.verdict.proofs.set_among.Tie as tie
