@@ -4,14 +4,17 @@ use mathlib.Core.Bool.{true}
 use mathlib.Core.Path.{_≡_, refl}
 use Rattle.base.specs.Bytes.{bytes}
 use Rattle.base.specs.Bounded.{some, every, one, size, members}
+use Rattle.base.specs.Least.{nextOf, nextFrom}
 use Rattle.base.specs.Lists.{anyb, allb, member}
 use Rattle.model.specs.Graph.{valueOf, datatypeOf, languageOf, holds, hasTriple}
 use Rattle.model.specs.Repeats.{upTo, star, plus}
-use Rattle.model.specs.Paths.{ends, endsOf}
+use Rattle.model.specs.Paths.{sequence, ends, endsOf}
 use Rattle.model.specs.Shapes.{isKind, satisfies, within, subset, noneShared, allPairs, less, lessEq, sameLang, conforms, expand}
+use Rattle.model.specs.PathNumbers.{partsOf, endPaths, pathsOf, pathsOfAll, bookPaths}
+use Rattle.model.specs.Rounds.{settled, rounds, roundsIn}
 use Rattle.model.specs.Rules.{subjectsOf, selects, violates, violations}
 use Rattle.model.specs.Books.{newTerms, newTriples, newShapes, newNames, joins, collect, graphOf, schemaFrom, schema, listOf, builtIn, names, nodes, links}
-use Rattle.model.specs.Cases.{agree, bookB, bookC, bookD, starred, rows, repeats}
+use Rattle.model.specs.Cases.{agree, mount, twin, bookB, bookC, bookD, starred, rows, repeats, roundsAgree, searches}
 
 pub starred-hold : agree bookB starred ≡ true
 unfolding some every one size anyb allb member valueOf datatypeOf languageOf holds hasTriple ends endsOf isKind satisfies within subset noneShared allPairs less lessEq sameLang conforms expand newTerms newTriples newShapes collect graphOf schemaFrom schema agree
@@ -26,6 +29,11 @@ pub repeats-hold : agree bookD repeats ≡ true
 unfolding some every one size anyb allb member valueOf datatypeOf languageOf holds hasTriple upTo star plus ends endsOf isKind satisfies within subset noneShared allPairs less lessEq sameLang conforms expand newTerms newTriples newShapes collect graphOf schemaFrom schema agree
 repeats-hold = refl
 
+-- document 02, Job 7
+pub searches-hold : roundsAgree bookD searches ≡ true
+unfolding some every nextOf nextFrom anyb hasTriple upTo star plus ends subset settled rounds newTerms newTriples collect graphOf roundsAgree
+searches-hold = refl
+
 -- book B's rule lists `left`, its node 0
 pub list-of-B : listOf bookB (record { shape = 0; target = subjectsOf 2 }) ≡ 0 ∷ []
 unfolding some every one size members anyb allb member valueOf datatypeOf languageOf holds hasTriple ends endsOf isKind satisfies within subset noneShared allPairs less lessEq sameLang conforms expand selects violates violations newTerms newTriples newShapes collect graphOf schemaFrom schema listOf
@@ -38,3 +46,12 @@ names-of-B = refl
 pub links-of-B : names links bookB ≡ bytes "a" ∷ bytes "mount" ∷ bytes "twin" ∷ []
 unfolding newNames joins collect builtIn names
 links-of-B = refl
+
+-- the paths of its shape, by number, and the rounds of the last from `left`
+pub paths-of-B : bookPaths bookB ≡ twin ∷ mount ∷ sequence twin mount ∷ []
+unfolding newShapes collect partsOf endPaths pathsOf pathsOfAll bookPaths
+paths-of-B = refl
+
+pub rounds-of-B : roundsIn bookB 0 2 ≡ 1
+unfolding some every nextOf nextFrom anyb hasTriple upTo ends subset settled rounds newTerms newTriples newShapes collect graphOf partsOf endPaths pathsOf pathsOfAll bookPaths roundsIn
+rounds-of-B = refl

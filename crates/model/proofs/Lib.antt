@@ -7,4 +7,6 @@ pub mod Lines
 pub mod Expansion
 pub mod Growth
 pub mod Repeats
+pub mod PathNumbers
+pub mod Rounds
 pub mod Sets

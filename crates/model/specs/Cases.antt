@@ -1,13 +1,15 @@
 -- The cases of document 01 over its book B: the starred ones, which one theorem proves, a case or two for each other row of Table 1, and
--- cases of the repeated paths of document 02, Job 1.
+-- cases of the repeated paths of document 02, Job 1, and of their rounds, Job 7.
 use Prim.Native.Nat.{ℕ}
 use mathlib.Core.List.{List, [], _∷_}
 use mathlib.Core.Bool.{Bool, true, false, Bool·beq, _&&_}
+use lib.Dec.{eqb}
 use lib.IntN.{pos, negsuc}
 use Rattle.base.specs.Bytes.{bytes}
 use Rattle.model.specs.Graph.{iri, blankNode, numeric, plain, tagged}
 use Rattle.model.specs.Paths.{Path, predicate, inverse, sequence, alternative, zeroOrMore, oneOrMore, self, along}
 use Rattle.model.specs.Shapes.{Shape, top, hasShape, hasValue, conj, disj, neg, test, count, forAll, equals, disjoint, closed, lessThan, lessThanEq, uniqueLang, nodeKind, datatype, languageIn, minInclusive, minExclusive, maxInclusive, maxExclusive, anIri, aBlank, aLiteral, atMost, unbounded, conforms, expand}
+use Rattle.model.specs.Rounds.{roundsOf}
 use Rattle.model.specs.Rules.{subjectsOf}
 use Rattle.model.specs.Books.{Book, link, type, lang, node, fact, shape, rule, graphOf, schema}
 
@@ -177,4 +179,31 @@ repeats =
     ∷ case (count 1 unbounded (zeroOrMore (zeroOrMore feeds)) (hasValue 5)) 0 false
     ∷ case (equals (along (sequence (zeroOrMore feeds) home)) 2) 2 true
     ∷ case (disjoint (along (zeroOrMore feeds)) 1) 4 false
+    ∷ []
+
+-- document 02, Job 7: a path, a node, and the rounds of the path's `star` from there
+pub data Search : Type 0 where
+  search : Path → ℕ → ℕ → Search
+
+unfoldable pub roundsAgree : Book → List Search → Bool
+roundsAgree b [] = true
+roundsAgree b (search e v answer ∷ cs) = eqb (roundsOf (graphOf b) e v) answer && roundsAgree b cs
+
+-- along the chain, from its start, its middle and its end; back from the literal; on the ring; by two cables at once; along a path
+-- that is a `star` or a `plus` itself; by a link without facts; all ways at once
+abbrev pub searches : List Search
+searches =
+    search feeds 0 3
+    ∷ search feeds 2 1
+    ∷ search feeds 3 0
+    ∷ search (inverse feeds) 3 3
+    ∷ search feeds 4 1
+    ∷ search (sequence feeds feeds) 0 1
+    ∷ search (sequence feeds feeds) 4 0
+    ∷ search (zeroOrMore feeds) 0 1
+    ∷ search (zeroOrMore feeds) 3 0
+    ∷ search (oneOrMore feeds) 4 1
+    ∷ search (predicate 0) 0 0
+    ∷ search (alternative feeds home) 1 2
+    ∷ search (alternative feeds (inverse feeds)) 1 2
     ∷ []

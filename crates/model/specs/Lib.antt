@@ -7,6 +7,8 @@ pub mod Paths
 pub mod Shapes
 pub mod Rules
 pub mod Books
+pub mod PathNumbers
+pub mod Rounds
 pub mod Sizes
 pub mod Valid
 pub mod Cases
