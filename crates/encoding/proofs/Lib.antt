@@ -4,6 +4,7 @@ pub mod Graph
 pub mod Paths
 pub mod Shapes
 pub mod Schema
+pub mod PathNumbers
 pub mod WellFormed
 pub mod Names
 pub mod Unused

@@ -1,8 +1,8 @@
 // The operations for programs in C and Rust, as a static library. Each function calls one operation and has its promise: it
 // returns the number of the refusal, or 0 where there is none, and writes all else that the operation answers through lent
 // numbers, which are 0 where a refusal leaves nothing to say.
-// Operations: melivanoup_read, melivanoup_verdict, melivanoup_compile, melivanoup_run, melivanoup_list, melivanoup_validate,
-// melivanoup_report.
+// Operations: melivanoup_read, melivanoup_verdict, melivanoup_rounds, melivanoup_compile, melivanoup_run, melivanoup_list,
+// melivanoup_validate, melivanoup_report.
 use compiler::Compiled;
 use compiler::compile;
 use consoles::CONSOLES;
@@ -16,6 +16,7 @@ use reader::ReadAnswer;
 use reader::read;
 use report::Page;
 use report::report_part;
+use rounds::Searched;
 use runner::Ran;
 use runner::run;
 use validation::Validated;
@@ -28,6 +29,7 @@ ghost use Rattle.model.specs.Refusals.{codeOf, lineOf};
 ghost use Rattle.model.specs.Answers.{refusalNumber, refusalLine, valueOr};
 ghost use Rattle.reader.specs.Answers.{noCounts, readAnswer, namesOf, cellsOf, valuesOf};
 ghost use Rattle.verdict.specs.Answers.{question, reply};
+ghost use Rattle.rounds.specs.Answers.{roundsAnswer};
 ghost use Rattle.compiler.specs.Answers.{compileAnswer, planAfter};
 ghost use Rattle.runner.specs.Run.{runAnswer, workAfter};
 ghost use Rattle.lists.specs.Answers.{listAnswer, rowAfter};
@@ -124,6 +126,31 @@ pub extern "C" fn melivanoup_verdict(
         }
         Judged::No => 0,
         Judged::Refused(r) => number(r),
+    }
+}
+
+// The rounds of the star of a path entry from a node: how many repetitions of the path lead to all that any number of them does.
+#[no_mangle]
+pub extern "C" fn melivanoup_rounds(
+    names: &[u8],
+    cells: &[u16],
+    values: &[i64],
+    node: usize,
+    path: usize,
+    rounds: &mut usize,
+) -> u32
+    ensures { λ r. ⌜ r ≡ refusalNumber (roundsAnswer (now (names .entry)) (now (cells .entry)) (now (values .entry)) node path) ⌝ }
+    ensures { λ _. ⌜ now (rounds .exit) ≡ valueOr 0 (roundsAnswer (now (names .entry)) (now (cells .entry)) (now (values .entry)) node path) ⌝ }
+{
+    match rounds::rounds(names, cells, values, node, path) {
+        Searched::Rounds(k) => {
+            *rounds = k;
+            0
+        }
+        Searched::Refused(r) => {
+            *rounds = 0;
+            number(r)
+        }
     }
 }
 

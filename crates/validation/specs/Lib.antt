@@ -2,3 +2,4 @@ pub mod Lent
 pub mod Claim
 pub mod Whole
 pub mod Verdicts
+pub mod Rounds
