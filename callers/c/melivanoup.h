@@ -49,6 +49,7 @@ extern "C" {
 #define MELIVANOUP_CELL_NODES 0
 #define MELIVANOUP_CELL_SHAPES 4
 #define MELIVANOUP_CELL_FACTS 5 /* fact lines, repeats included */
+#define MELIVANOUP_CELL_PATHS 6 /* path entries: each path and each part of one, in the order in which they end */
 #define MELIVANOUP_CELL_RULES 9
 
 /* The number of the shape of rule r stands at cells[MELIVANOUP_RULE_SHAPES + r], that of a plan's steps at
@@ -76,7 +77,7 @@ enum melivanoup_refusal {
   MELIVANOUP_LIMIT = 7,     /* another limit is passed */
   MELIVANOUP_SHORT = 8,     /* a lent slice is shorter than its size */
   MELIVANOUP_MALFORMED = 9, /* tables, plan or lists that are not well formed; those of an accepted book always are */
-  MELIVANOUP_ABSENT = 10,   /* a node, shape, rule or part of the report that the book does not have */
+  MELIVANOUP_ABSENT = 10,   /* a node, shape, path entry, rule or part of the report that the book does not have */
   MELIVANOUP_CONSOLE = 11   /* a console number above 7 */
 };
 
@@ -93,6 +94,12 @@ uint32_t melivanoup_read(const uint8_t *book, size_t book_len, uint8_t *names, s
 uint32_t melivanoup_verdict(const uint8_t *names, size_t names_len, const uint16_t *cells, size_t cells_len,
                             const int64_t *values, size_t values_len, size_t console, size_t node, size_t shape,
                             uint32_t *tallies, size_t tallies_len, uint32_t *conforms);
+
+/* How far a search along a path entry goes from a node: the rounds of the path's star. *rounds: the least k such that the nodes
+ * within k repetitions of the path are those within k + 1, and so all that any number of them leads to; within 0 is the node
+ * itself. It is below the number of nodes reached, so at most 1,023; 0 on a refusal (8, 9, 10). */
+uint32_t melivanoup_rounds(const uint8_t *names, size_t names_len, const uint16_t *cells, size_t cells_len,
+                           const int64_t *values, size_t values_len, size_t node, size_t path, size_t *rounds);
 
 /* The plan of the tables, by document 01's table of steps. *steps: how many it has, at most four for each form entry and two
  * for each rule; 0 on a refusal (8, 9). */

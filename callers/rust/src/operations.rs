@@ -41,6 +41,7 @@ pub struct Counts {
 const CELL_NODES: usize = 0;
 const CELL_SHAPES: usize = 4;
 const CELL_FACTS: usize = 5;
+const CELL_PATHS: usize = 6;
 const CELL_RULES: usize = 9;
 const RULE_SHAPES: usize = 16_506;
 const PLAN_STEPS: usize = 0;
@@ -85,6 +86,22 @@ impl Tables {
         };
         Refusal::check(number, 0)?;
         Ok(conforms == CONFORMS)
+    }
+
+    /// How far a search along a path entry goes from a node, both by number: the least number of repetitions within which the
+    /// path leads to the nodes that it leads to within one more, and so to all that any number of them leads to. The node itself
+    /// is reached within none. The answer is below the number of nodes reached.
+    pub fn rounds(&self, node: usize, path: usize) -> Result<usize, Refusal> {
+        let mut rounds = 0;
+        // SAFETY: as in `read`.
+        let number = unsafe {
+            raw::melivanoup_rounds(
+                self.names.as_ptr(), self.names.len(), self.cells.as_ptr(), self.cells.len(), self.values.as_ptr(),
+                self.values.len(), node, path, &mut rounds,
+            )
+        };
+        Refusal::check(number, 0)?;
+        Ok(rounds)
     }
 
     /// Compiles the rules of the tables into a plan, and gives its number of steps.
@@ -132,6 +149,11 @@ impl Tables {
     /// The counts that stand in the tables.
     pub fn counts(&self) -> Counts {
         Counts { nodes: self.cell(CELL_NODES), facts: self.cell(CELL_FACTS), rules: self.cell(CELL_RULES) }
+    }
+
+    /// How many path entries stand in the tables: each path and each part of one, in the order in which they end.
+    pub fn paths(&self) -> usize {
+        self.cell(CELL_PATHS)
     }
 
     /// The name of a node; none where the tables have no such node.

@@ -52,7 +52,7 @@ impl fmt::Display for Ground {
             Ground::Limit => "more names, facts, rules, conditions, paths or list items than a book may have",
             Ground::Short => "a lent buffer is too short",
             Ground::Malformed => "the tables, the plan or the lists are not well formed",
-            Ground::Absent => "the book has no such node, shape or rule",
+            Ground::Absent => "the book has no such node, shape, path or rule",
             Ground::Console => "the consoles have the numbers 0 to 7",
         })
     }

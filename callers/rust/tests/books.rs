@@ -4,6 +4,7 @@ use melivanoup::{sizes, Ground, Plan, Refusal, Tables, Tallies, Validator, Work}
 use std::path::PathBuf;
 
 const B: &[u8] = include_bytes!("../../../examples/book-b.book");
+const SPLITTERS: &[u8] = include_bytes!("../../../examples/splitters.book");
 
 /// every example: its name, its bytes, its report
 fn examples() -> Vec<(String, Vec<u8>, String)> {
@@ -86,6 +87,23 @@ fn verdicts_on_book_b() {
 }
 
 #[test]
+fn rounds_among_the_splitters() {
+    let mut tables = Tables::new();
+    let counts = tables.read(SPLITTERS).unwrap();
+    let before = tables.clone();
+    let rounds = |name, path| tables.rounds(tables.node(name).unwrap(), path);
+    // path entries 0 to 2 are feeds, (inv feeds), (plus (inv feeds)), and so are 3 to 5; 6 and 7 are feeds, (star feeds)
+    assert_eq!([rounds("desk", 0), rounds("split-3", 3), rounds("lamp-4", 6)], [Ok(4), Ok(2), Ok(0)]);
+    assert_eq!([rounds("lamp-3", 1), rounds("desk", 4)], [Ok(4), Ok(0)]);
+    assert_eq!([rounds("lamp-3", 2), rounds("desk", 5), rounds("desk", 7)], [Ok(1), Ok(0), Ok(1)]);
+    assert_eq!(tables.paths(), 8);
+    for (node, path) in [(counts.nodes, 0), (0, 8), (counts.nodes, 8), (usize::MAX, 0), (0, usize::MAX)] {
+        assert_eq!(tables.rounds(node, path), Err(refused(Ground::Absent, 0)), "node {node}, path entry {path}");
+    }
+    assert_eq!(tables, before);
+}
+
+#[test]
 fn each_refusal_of_a_book_has_its_ground_and_line() {
     let deep = format!("(shape s {}true{})\n", "(not ".repeat(32), ")".repeat(32));
     let full: String = (0..1025).map(|k| format!("(thing n{k})\n")).collect();
@@ -115,6 +133,7 @@ fn short_buffers_and_strange_tables_are_refused() {
     let empty = Tables { names: vec![], cells: vec![], values: vec![] };
     assert_eq!(empty.clone().read(B).map(|_| ()), short);
     assert_eq!(empty.verdict(0, 0, 0, &mut Tallies::new()).map(|_| ()), short);
+    assert_eq!(empty.rounds(0, 0).map(|_| ()), short);
     let mut tables = Tables::new();
     tables.read(B).unwrap();
     assert_eq!(tables.compile(&mut Plan { cells: vec![] }).map(|_| ()), short);
@@ -126,6 +145,7 @@ fn short_buffers_and_strange_tables_are_refused() {
     assert_eq!(work, Work::new(), "a refusal changes nothing");
     tables.cells[0] = 1025;
     assert_eq!(tables.compile(&mut plan).map(|_| ()), strange);
+    assert_eq!(tables.rounds(0, 9).map(|_| ()), strange, "9 comes before 10");
     tables.cells[0] = 4;
     tables.compile(&mut plan).unwrap();
     tables.run(&plan, &mut work).unwrap();

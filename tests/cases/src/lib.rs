@@ -1,8 +1,8 @@
 //! Cases by hand for the proved library: `data/SUBJECT.txt` has them, `data/SUBJECT.out` what they must write. The questions of
 //! `tests/asks` have each a file of their own.
 //!
-//! The texts of `verdict`, `plan` and `runner` give tables and a plan line by line: a word, numbers (0 where one is left out),
-//! and what they are. The codes are those of docs/LAYOUT.md.
+//! The texts of `verdict`, `rounds`, `plan` and `runner` give tables and a plan line by line: a word, numbers (0 where one is
+//! left out), and what they are. The codes are those of docs/LAYOUT.md.
 //!
 //! | Line | Meaning |
 //! |---|---|

@@ -3,16 +3,21 @@
 //! | Question | Answer |
 //! |---|---|
 //! | `verdict NODE SHAPE`, by console 0 | `yes`, `no` or `refused N` |
+//! | `rounds NODE PATHENTRY` | the number, or `refused N` |
 //! | `session`, then lines `CONSOLE NODE SHAPE` | such a line for each; then `tallies T0 .. T7` |
 //!
 //! A session begins with eight zeros, or with what a line `from T0 .. T7` says.
 
-use melivanoup::{Tables, Tallies};
+use melivanoup::{Refusal, Tables, Tallies};
 use std::collections::BTreeSet;
 use std::path::{Path, PathBuf};
 
 fn numbers<T: std::str::FromStr>(words: &str) -> Vec<T> {
     words.split(' ').map(|word| word.parse().unwrap_or_else(|_| panic!("{words:?}: {word:?} is no number"))).collect()
+}
+
+fn refused(why: Refusal) -> String {
+    format!("refused {}\n", why.ground.number())
 }
 
 /// The answer to `CONSOLE NODE SHAPE`.
@@ -22,8 +27,15 @@ fn verdict(tables: &Tables, words: &str, tallies: &mut Tallies) -> String {
     match tables.verdict(console, node, shape, tallies) {
         Ok(true) => "yes\n".to_owned(),
         Ok(false) => "no\n".to_owned(),
-        Err(why) => format!("refused {}\n", why.ground.number()),
+        Err(why) => refused(why),
     }
+}
+
+/// The answer to `NODE PATHENTRY`.
+fn rounds(tables: &Tables, words: &str) -> String {
+    let question: Vec<usize> = numbers(words);
+    let [node, path] = question[..] else { panic!("{words:?} is no question") };
+    tables.rounds(node, path).map_or_else(refused, |rounds| format!("{rounds}\n"))
 }
 
 /// Direct questions, one after the other; the tallies are handed on.
@@ -46,6 +58,7 @@ fn answer(ask: &Path) -> String {
     let lines: Vec<&str> = text.lines().collect();
     match lines[0].split_once(' ').unwrap_or((lines[0], "")) {
         ("session", "") => session(&tables, &lines[1..]),
+        ("rounds", question) => rounds(&tables, question),
         ("verdict", question) => verdict(&tables, &format!("0 {question}"), &mut Tallies::new()),
         _ => panic!("{}: what is {:?}?", ask.display(), lines[0]),
     }

@@ -1,5 +1,5 @@
 //! Tables made to be slow, of 1,024 nodes and up to 4,096 facts, and what the verdict says of one node of each; their plans are
-//! run too. All of it with the stack that the wrapper says is enough.
+//! run too. Then how far searches along such paths go. All of it with the stack that the wrapper says is enough.
 
 use cases::{Input, Line};
 use melivanoup::{Plan, Tallies, Work, STACK};
@@ -32,13 +32,26 @@ fn dense() -> Input {
 const LEVELS: usize = 42;
 const RUN: usize = 24;
 
-/// A chain of things, the first facts by link 0, the next by link 1, and so on.
-fn chain() -> Input {
+/// How many repeats such a nest has in a book that opens as many brackets as it may.
+const BOOK_LEVELS: usize = 15;
+
+/// A chain of things, the first facts by link 0, as many by link 1, and so on.
+fn chain(links: usize, facts: usize) -> Input {
     let mut made = Input::new();
-    made.store(&Line::new(&format!("cell 1 {LEVELS} links")));
+    made.store(&Line::new(&format!("cell 1 {links} links")));
     (0..1024).for_each(|_| _ = add(&mut made, "node 0".into()));
-    (0..LEVELS * RUN).for_each(|v| _ = add(&mut made, format!("fact {v} {} {}", v / RUN, v + 1)));
+    (0..links * facts).for_each(|v| _ = add(&mut made, format!("fact {v} {} {}", v / facts, v + 1)));
     made
+}
+
+/// A chain for each level.
+fn chains() -> Input {
+    chain(LEVELS, RUN)
+}
+
+/// All nodes in one chain.
+fn one_chain() -> Input {
+    chain(1, 1023)
 }
 
 /// A ring of things by link 0; by link 1 node 7 leads to sixteen of them.
@@ -51,17 +64,21 @@ fn ring() -> Input {
     made
 }
 
+/// A path that is a link.
+fn link(made: &mut Input, number: usize) -> usize {
+    add(made, format!("path 0 {number}"))
+}
+
 /// A path of two links, by which each node leads to each.
 fn everywhere(made: &mut Input) -> usize {
-    let to = add(made, "path 0 0".into());
-    let from = add(made, "path 0 1".into());
+    let (to, from) = (link(made, 0), link(made, 1));
     add(made, format!("path 2 {to} {from}"))
 }
 
 /// A repeat by which each node leads to each.
 fn star(made: &mut Input) -> usize {
-    let link = add(made, "path 0 1".into());
-    add(made, format!("path 4 {link}"))
+    let first = link(made, 1);
+    add(made, format!("path 4 {first}"))
 }
 
 fn form(made: &mut Input, code: usize, first: usize, second: usize) -> usize {
@@ -82,16 +99,21 @@ fn all_in_all(made: &mut Input, path: Make) -> usize {
     shape(made, f)
 }
 
-/// `star` of itself and a link, one in the other, over a link and a chain of its own for each: a node leads to itself and to the
-/// last chain.
-fn star_in_star(made: &mut Input) -> usize {
-    let link = add(made, "path 0 0".into());
-    let mut path = add(made, format!("path 4 {link}"));
-    for level in 1..LEVELS {
-        let link = add(made, format!("path 0 {level}"));
-        let through = add(made, format!("path 2 {path} {link}"));
+/// `star` of itself and a link, one in the other, with the link of each level.
+fn nest(made: &mut Input, levels: usize, number: fn(usize) -> usize) -> usize {
+    let first = link(made, number(0));
+    let mut path = add(made, format!("path 4 {first}"));
+    for level in 1..levels {
+        let next = link(made, number(level));
+        let through = add(made, format!("path 2 {path} {next}"));
         path = add(made, format!("path 4 {through}"));
     }
+    path
+}
+
+/// A nest with a link and a chain of its own for each level: a node leads to itself and to the last chain.
+fn star_in_star(made: &mut Input) -> usize {
+    let path = nest(made, LEVELS, |level| level);
     count(made, path, RUN + 1)
 }
 
@@ -114,9 +136,9 @@ fn star_then_star(made: &mut Input) -> usize {
 
 /// `seq` in `seq`, as deep as there are path entries, over one link: a node leads to each.
 fn seq_in_seq(made: &mut Input) -> usize {
-    let link = add(made, "path 0 1".into());
-    let mut path = link;
-    (1..128).for_each(|_| path = add(made, format!("path 2 {path} {link}")));
+    let first = link(made, 1);
+    let mut path = first;
+    (1..128).for_each(|_| path = add(made, format!("path 2 {path} {first}")));
     count(made, path, 1024)
 }
 
@@ -146,7 +168,7 @@ fn twice(made: &mut Input) -> usize {
 fn links(made: &mut Input) -> usize {
     let mut f = form(made, 0, 0, 0);
     for _ in 0..111 {
-        let path = add(made, "path 0 1".into());
+        let path = link(made, 1);
         f = form(made, 14, path, f);
     }
     shape(made, f)
@@ -167,11 +189,11 @@ fn many(made: &mut Input, path: Make, code: usize, second: usize) -> usize {
 
 /// `onelang` along repeats, as often as there is room for, at sixteen nodes.
 fn at_sixteen(made: &mut Input) -> usize {
-    let to = add(made, "path 0 1".into());
+    let to = link(made, 1);
     let mut f = form(made, 0, 0, 0);
     for _ in 0..54 {
-        let link = add(made, "path 0 0".into());
-        let path = add(made, format!("path 4 {link}"));
+        let first = link(made, 0);
+        let path = add(made, format!("path 4 {first}"));
         let condition = form(made, 20, path, 0);
         f = form(made, 3, f, condition);
     }
@@ -200,6 +222,47 @@ fn ask(title: &str, mut made: Input, make: Make) -> String {
     }
 }
 
+/// The rounds of each path entry from node 0, or of the last entry alone.
+fn search(title: &str, mut made: Input, make: Make, each: bool) -> String {
+    make(&mut made);
+    let tables = made.tables();
+    let first = if each { 0 } else { tables.paths() - 1 };
+    let mut written = format!("{title}:");
+    for path in first..tables.paths() {
+        let (told, late) = timed("told", || tables.rounds(0, path));
+        written += &told.map_or_else(|why| format!(" {why}"), |rounds| format!(" {rounds}{late}"));
+    }
+    written + "\n"
+}
+
+/// Searches that take many rounds, or along paths with much in them.
+fn searches() -> String {
+    let far: [(&str, fn() -> Input, Make, bool); 6] = [
+        ("rounds of a link along a chain", one_chain, |made| link(made, 0), true),
+        ("rounds of a link around a ring", ring, |made| link(made, 0), true),
+        ("rounds of stars in stars, along a chain", one_chain, |made| nest(made, BOOK_LEVELS, |_| 0), true),
+        ("rounds of stars in stars, each with a chain of its own", chains, star_in_star, true),
+        ("rounds of stars of stars", dense, star_of_star, false),
+        ("rounds of seqs in seqs", dense, seq_in_seq, false),
+    ];
+    far.iter().map(|&(title, graph, make, each)| search(title, graph(), make, each)).collect()
+}
+
+/// The longest chain. The best of some calls, since other work may hold one up.
+#[test]
+fn a_chain_is_searched_in_ten_milliseconds() {
+    let mut made = one_chain();
+    let path = link(&mut made, 0);
+    let tables = made.tables();
+    let best = (0..20).map(|_| {
+        let begun = Instant::now();
+        assert_eq!(tables.rounds(0, path), Ok(1023));
+        begun.elapsed()
+    });
+    let best = best.min().unwrap();
+    assert!(best < Duration::from_millis(10), "{best:?}");
+}
+
 #[test]
 fn the_slowest_tables_are_answered_in_time() {
     let slow: [(&str, fn() -> Input, Make); 15] = [
@@ -213,13 +276,13 @@ fn the_slowest_tables_are_answered_in_time() {
         ("all in all along stars", dense, |made| all_in_all(made, star)),
         ("count of a star at every node", dense, |made| many(made, star, 13, 0)),
         ("lesseq of a star at every node", dense, |made| many(made, star, 19, 1)),
-        ("stars in stars, each with a chain of its own", chain, star_in_star),
+        ("stars in stars, each with a chain of its own", chains, star_in_star),
         ("stars of stars", dense, star_of_star),
         ("stars after stars", dense, star_then_star),
         ("seqs in seqs", dense, seq_in_seq),
         ("onelang of a star at sixteen nodes", ring, at_sixteen),
     ];
-    let all = move || slow.iter().map(|&(title, graph, make)| ask(title, graph(), make)).collect::<String>();
+    let all = move || slow.iter().map(|&(title, graph, make)| ask(title, graph(), make)).collect::<String>() + &searches();
     // the code here takes a little of the stack too
     let run = std::thread::Builder::new().stack_size(STACK + (256 << 10)).spawn(all).expect("a thread");
     cases::compare_file("speed", &run.join().expect("an end"));

@@ -7,7 +7,7 @@ use reference::plan::{self, Plan, PLAN_CELLS};
 use reference::set::Set;
 use reference::tables::{self, Tables, CELLS, NAMES, VALUES};
 use reference::verdicts::{self, Question, TALLIES};
-use reference::{reader, Book};
+use reference::{reader, rounds, Book};
 use std::fmt::Debug;
 
 const WORK: usize = 8192;
@@ -267,6 +267,7 @@ impl Case<'_> {
         let book = tables::decode(t);
         self.compile(t, &book)?;
         self.verdicts(t, &book)?;
+        self.rounds(t, &book)?;
         self.report(t, &book)?;
         let Some(book) = book else {
             let cells = garbage(self.r, PLAN_CELLS);
@@ -336,16 +337,20 @@ impl Case<'_> {
         } else if nodes * shapes <= 100 {
             asked.extend((0..nodes).flat_map(|v| (0..shapes).map(move |s| (v, s))));
         } else {
-            // the first nodes oftener: they have more facts
-            let node = || if self.r.once_in(2) { self.r.below(nodes.min(8)) } else { self.r.below(nodes) };
-            asked.extend((0..40).map(|_| (node(), self.r.below(shapes))));
+            asked.extend((0..40).map(|_| (self.some_node(nodes), self.r.below(shapes))));
         }
         let far = self.r.pick(&[1, 1024, usize::MAX]);
         asked.extend([(nodes, 0), (0, shapes), (nodes.saturating_add(far), shapes), (self.r.below(1024), self.r.below(64))]);
         // each in turn changes places with one before it
         (1..asked.len()).for_each(|k| asked.swap(k, self.r.below(k + 1)));
-        let console = || if self.r.once_in(8) { self.r.pick(&[7, 8, 9, 15, 16, 1 << 32, usize::MAX]) } else { self.r.below(TALLIES) };
+        let console =
+            || if self.r.once_in(8) { self.r.pick(&[7, 8, 9, 15, 16, 1 << 32, usize::MAX]) } else { self.r.below(TALLIES) };
         asked.into_iter().map(|(node, shape)| Question { console: console(), node, shape }).collect()
+    }
+
+    /// A number below that of the nodes, oftener one of the first: they have more facts.
+    fn some_node(&self, nodes: usize) -> usize {
+        self.r.below(if self.r.once_in(2) { nodes.min(8) } else { nodes })
     }
 
     /// From eight zeros a console has the same answers and the same tally where it asks alone.
@@ -361,6 +366,37 @@ impl Case<'_> {
         self.same(&format!("verdict: the answers to console {console}, beside others and alone"), heard, alone)?;
         let what = format!("verdict: the tally of console {console}, beside others and alone");
         self.same(&what, tallies[console], tallies_alone[console])
+    }
+
+    /// How far searches along paths go.
+    fn rounds(&mut self, t: &Tables, book: &Option<Book>) -> Outcome {
+        let three = self.three(t);
+        let ends = book.as_ref().map_or(Vec::new(), Book::ends);
+        let before = three.clone();
+        for (node, path) in self.searches(&three, book) {
+            let told = if three.enough() { rounds::ask(book.as_ref(), &ends, node, path) } else { Err(8) };
+            let expected = told.map_or_else(|refusal| (refusal, 0), |rounds| (0, rounds));
+            let answer = library::rounds(three.lent(), node, path);
+            self.same(&format!("rounds of path entry {path} from node {node}: refusal, rounds"), answer, expected)?;
+        }
+        self.same("rounds: the tables are as before", three == before, true)
+    }
+
+    /// Every node and path entry, or some of many; and numbers that are not there, some of them there in their last 16 bits.
+    fn searches(&mut self, three: &Three, book: &Option<Book>) -> Vec<(usize, usize)> {
+        let (nodes, paths) = book.as_ref().map_or((2, 2), |book| (book.nodes(), book.paths.len()));
+        let far = self.r.pick(&[1, 1 << 16, 1 << 32, usize::MAX - 1024]);
+        let mut asked = vec![(nodes, 0), (0, paths), (nodes, paths), (self.r.below(1024), self.r.below(128))];
+        if !three.enough() || nodes * paths == 0 {
+            return asked;
+        }
+        asked.extend([(self.r.below(nodes) + far, 0), (0, self.r.below(paths) + far)]);
+        if nodes * paths <= 40 {
+            asked.extend((0..nodes).flat_map(|v| (0..paths).map(move |e| (v, e))));
+        } else {
+            asked.extend((0..20).map(|_| (self.some_node(nodes), self.r.below(paths))));
+        }
+        asked
     }
 
     /// Parts of a report with lists of any content.

@@ -58,6 +58,17 @@ fn quick(book: &Book) -> bool {
     costs(book).iter().all(|&cost| cost <= 100_000)
 }
 
+/// Facts from any node to any; or rings by link 0, each node leading so many nodes on, with a few such facts beside them.
+fn facts(r: &Random, nodes: usize, links: usize) -> Vec<(usize, usize, usize)> {
+    let any = |_| (r.below(nodes), r.below(links), r.below(nodes));
+    if r.once_in(3) {
+        let step = r.between(1, nodes);
+        let rings = (0..nodes).map(|v| (v, 0, (v + step) % nodes));
+        return rings.chain((0..r.below(4)).map(any)).collect();
+    }
+    (0..r.below(3 * nodes + 1)).map(any).collect()
+}
+
 /// What well-formed tables may say, though no book says it.
 fn book(r: &Random) -> Book {
     let mut b = Book::default();
@@ -76,7 +87,7 @@ fn book(r: &Random) -> Book {
         });
     }
     if nodes > 0 && links > 0 {
-        b.facts = (0..r.below(3 * nodes + 1)).map(|_| (r.below(nodes), r.below(links), r.below(nodes))).collect();
+        b.facts = facts(r, nodes, links);
         for k in 0..r.below(12) {
             b.paths.push(match r.below(8) {
                 1 if k > 0 => Path::Inv(r.below(k)),

@@ -19,6 +19,10 @@ unsafe extern "C" {
         names: *const u8, names_len: usize, cells: *const u16, cells_len: usize, values: *const i64, values_len: usize,
         console: usize, node: usize, shape: usize, tallies: *mut u32, tallies_len: usize, conforms: *mut u32,
     ) -> u32;
+    fn melivanoup_rounds(
+        names: *const u8, names_len: usize, cells: *const u16, cells_len: usize, values: *const i64, values_len: usize,
+        node: usize, path: usize, rounds: *mut usize,
+    ) -> u32;
     fn melivanoup_compile(
         names: *const u8, names_len: usize, cells: *const u16, cells_len: usize, values: *const i64, values_len: usize,
         plan: *mut u16, plan_len: usize, steps: *mut usize,
@@ -76,6 +80,18 @@ pub fn verdict(t: Lent, q: Question, tallies: &mut [u32]) -> (u32, u32) {
         )
     };
     (refusal, conforms)
+}
+
+/// the refusal and the number of rounds
+pub fn rounds(t: Lent, node: usize, path: usize) -> (u32, usize) {
+    let mut rounds = BEFORE;
+    let refusal = unsafe {
+        melivanoup_rounds(
+            t.names.as_ptr(), t.names.len(), t.cells.as_ptr(), t.cells.len(), t.values.as_ptr(), t.values.len(), node, path,
+            &mut rounds,
+        )
+    };
+    (refusal, rounds)
 }
 
 /// the refusal and the number of steps

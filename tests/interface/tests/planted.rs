@@ -129,15 +129,15 @@ fn change_uses(file: &Text) -> Vec<Change> {
 }
 
 /// In the source: the constants, cases and definitions that callers depend on, by how their lines begin.
-const DEPENDED: [&str; 36] = [
+const DEPENDED: [&str; 37] = [
     "pub const NAMES:", "pub const CELLS:", "pub const VALUES:", "pub const PLAN_CELLS:", "pub const WORK_WORDS:",
     "pub const LIST_PLACES:", "pub const LENGTH_PLACES:", "pub const PAGE_BYTES:", "pub const SHAPE_NAMES:",
     "pub const RULE_SHAPES:", "pub const NODE_KINDS:", "pub const NODE_TYPES:", "pub const NAME_BYTES:",
     "pub const BREAK_BYTES:", "pub const MAX_BYTES:", "pub const MAX_NODES:", "pub const MAX_LINKS:", "pub const MAX_TYPES:",
     "pub const MAX_LANGS:", "pub const MAX_SHAPES:", "pub const MAX_RULES:", "pub const MAX_FACTS:", "pub const MAX_FORMS:",
-    "pub const MAX_PATHS:", "pub const MAX_ITEMS:", "pub const MAX_NAME:", "pub const MAX_STEPS:", "nodeCount cs =", "shapeCount cs =",
-    "factCount cs =", "ruleCount cs =", "stepCount ps =", "nameBytes =", "  refusalNumber (value a) =", "oneIf b =",
-    "        Refusal::",
+    "pub const MAX_PATHS:", "pub const MAX_ITEMS:", "pub const MAX_NAME:", "pub const MAX_STEPS:", "nodeCount cs =",
+    "shapeCount cs =", "factCount cs =", "pathCount cs =", "ruleCount cs =", "stepCount ps =", "nameBytes =",
+    "  refusalNumber (value a) =", "oneIf b =", "        Refusal::",
 ];
 
 /// Each number that callers depend on one more, and each sum; each test of a length against another constant.
@@ -201,7 +201,7 @@ fn sites(text: &str) -> Vec<Site> {
 fn change_functions(file: &Text) -> Vec<Change> {
     let mut planter = Planter::new(file);
     let found = sites(&file.text);
-    assert!(found.len() >= 7, "{}: {} functions", file.path, found.len());
+    assert!(found.len() >= 8, "{}: {} functions", file.path, found.len());
     for site in found {
         let whole = &file.text[site.whole.clone()];
         let more = if file.text[site.list.clone()].contains(':') { "more: usize" } else { ", size_t more" };
@@ -314,7 +314,7 @@ fn every_planted_change_is_reported() {
     let texts = Sources::read(&Path::new(env!("CARGO_MANIFEST_DIR")).join("../.."));
     assert!(compare(&texts).differences.is_empty(), "the tree itself has a difference, so no planted one would show");
     let named: usize = texts.wrapper.iter().map(|file| numbers(&file.text).len()).sum();
-    assert!(named >= 31 && named == numbers(&texts.header.text).len(), "{named} numbers in the wrapper");
+    assert!(named >= 34 && named == numbers(&texts.header.text).len(), "{named} numbers in the wrapper");
     let source: Vec<_> = texts.code.iter().chain(&texts.definitions).flat_map(|file| file.text.lines()).collect();
     for start in DEPENDED {
         assert!(source.iter().any(|line| line.starts_with(start)), "no line of the source begins with {start:?}");

@@ -3,6 +3,7 @@
 
 pub mod plan;
 pub mod reader;
+pub mod rounds;
 pub mod set;
 pub mod tables;
 pub mod verdicts;
