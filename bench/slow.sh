@@ -1,7 +1,7 @@
 #!/usr/bin/env bash
 # bash bench/slow.sh [BOOK ..]: books made to be slow, by paths that repeat. For each the milliseconds of a whole run, the best of
-# three, and where the library is built already of the slowest direct verdict. The report must be the reference's. PROGRAM names
-# the program (default target/bin/validate); nothing of it is built or proved here.
+# three, and where the library is built already of the slowest direct verdict and of the slowest question for rounds. The report
+# must be the reference's. PROGRAM names the program (default target/bin/validate); nothing of it is built or proved here.
 set -eu
 here=$(cd "$(dirname "$0")" && pwd)
 program=${PROGRAM:-$here/../target/bin/validate}
@@ -15,10 +15,10 @@ build() {
 
 build "$here/books"
 build "$here/../tests/reference"
-verdicts=
+questions=
 if [ -f "$MELIVANOUP_LIB/libmelivanoup.a" ]; then
     build "$here"
-    verdicts=$here/target/release/bench
+    questions=$here/target/release/bench
 fi
 mkdir -p "$out"
 books=$("$here/books/target/release/books" slow "$out")
@@ -29,8 +29,8 @@ ms() {
 }
 
 wrong=0
-echo "| Book | ms | slowest verdict, ms |"
-echo "|---|---|---|"
+echo "| Book | ms | slowest verdict, ms | slowest rounds, ms |"
+echo "|---|---|---|---|"
 for book in ${*:-$books}; do
     best=
     for _ in 1 2 3; do
@@ -41,8 +41,12 @@ for book in ${*:-$books}; do
     done
     "$here/../tests/reference/target/release/report" <"$out/$book.book" | cmp - "$out/$book.out" >&2 ||
         { echo "$book: the reports DIFFER" >&2; wrong=1; }
-    slowest=
-    if [ -n "$verdicts" ]; then slowest=$(ms "$("$verdicts" verdicts "$out/$book.book")"); fi
-    echo "| $book | $(ms "$best") | $slowest |"
+    verdict=
+    rounds=
+    if [ -n "$questions" ]; then
+        verdict=$(ms "$("$questions" verdicts "$out/$book.book")")
+        rounds=$(ms "$("$questions" rounds "$out/$book.book")")
+    fi
+    echo "| $book | $(ms "$best") | $verdict | $rounds |"
 done
 [ $wrong = 0 ] || { echo "a report differs, or the program failed"; exit 1; }

@@ -2,6 +2,7 @@
 //!   bench time SYSTEM FILE REPORT   times proved, reference or sqlite on a book: nanoseconds for read, compile, run, whole
 //!   bench say SYSTEM FILE           the report of proved, reference, sqlite or direct (the reference by its direct verdicts)
 //!   bench verdicts FILE             microseconds of the slowest of the direct verdicts on some nodes and every shape
+//!   bench rounds FILE               the same of the rounds of every path entry from some nodes
 //!   bench turtle FILE DIR           the book as data.ttl and shapes.ttl
 //!   bench breaks FILE LINES REPORT  a report from Jena's breaks
 //!   bench sqlite                    SQLite's version, where it is on the machine
@@ -121,15 +122,24 @@ fn sqlite(bytes: &[u8], seconds: u64) -> (Vec<u8>, Times) {
     (text, times)
 }
 
-/// The slowest question about some nodes, far from each other, and every shape; of two rounds the better one.
+/// The slowest question about some nodes, far from each other, and each of so many others; of two rounds the better one.
+fn slowest(nodes: usize, others: usize, mut ask: impl FnMut(usize, usize) -> u64) -> u64 {
+    let mut better = |node, other| ask(node, other).min(ask(node, other));
+    let asked = (0..nodes).step_by(nodes / 16 + 1).chain(nodes.checked_sub(1));
+    asked.flat_map(|node| (0..others).map(move |other| (node, other))).map(|(node, other)| better(node, other)).max().unwrap_or(0)
+}
+
 fn slowest_verdict(book: &[u8]) -> u64 {
     let (mut tables, mut tallies) = (Tables::new(), Tallies::new());
     let nodes = tables.read(book).expect("accepted").nodes;
     let shapes = (0..).take_while(|&s| tables.shape_name(s).is_some()).count();
-    let mut ask = |node, shape| timed(|| tables.verdict(0, node, shape, &mut tallies).unwrap()).1;
-    let mut better = |node, shape| ask(node, shape).min(ask(node, shape));
-    let asked = (0..nodes).step_by(nodes / 16 + 1).chain(nodes.checked_sub(1));
-    asked.flat_map(|node| (0..shapes).map(move |shape| (node, shape))).map(|(node, shape)| better(node, shape)).max().unwrap_or(0)
+    slowest(nodes, shapes, |node, shape| timed(|| tables.verdict(0, node, shape, &mut tallies).unwrap()).1)
+}
+
+fn slowest_rounds(book: &[u8]) -> u64 {
+    let mut tables = Tables::new();
+    let nodes = tables.read(book).expect("accepted").nodes;
+    slowest(nodes, tables.paths(), |node, path| timed(|| tables.rounds(node, path).unwrap()).1)
 }
 
 fn time(system: &str, bytes: &[u8], seconds: u64) -> (Vec<u8>, Times) {
@@ -156,6 +166,7 @@ fn main() {
             std::io::stdout().write_all(&text).unwrap();
         }
         ["verdicts", file] => println!("{}", slowest_verdict(&fs::read(file).unwrap()) / 1000),
+        ["rounds", file] => println!("{}", slowest_rounds(&fs::read(file).unwrap()) / 1000),
         ["turtle", file, folder] => {
             let book = parsed(&fs::read(file).unwrap());
             fs::write(format!("{folder}/data.ttl"), turtle::data(&book)).unwrap();
