@@ -82,7 +82,7 @@ module _ (r : ℕ → ℕ → Bool) (n v : ℕ) where
         (λ e. ⊎-elim (λ f. f) (λ f. last-step r n k v (f .0) w lw (sym (h (f .0) (f .1)) ∙ f .2) (f .3)) (last-cases r n (suc k) v w l e))
         (λ e. upTo-suc r n (suc k) v w e)
 
-    -- no repetition reaches the start
+    -- by no repetition at all the start itself is reached
     start-counts : 1 ≤ size (within 0) n
     start-counts = ⊎-elim (λ h. absurd (never-both (upTo-self r n 0 v) (h v l))) (λ h. omega arith) (grown (λ w. false) (within 0) (λ w e. absurd (never-both e refl)) n)
 
