@@ -9,7 +9,7 @@ use lib.ListN.{length, getD, take, drop, replicate, length-replicate}
 use borrow.Author.Tests.{eqb-true, ne-eqb, lt-ltb, le-ltb, ltb-true, ltb-false}
 use Rattle.base.specs.Bounded.{some}
 use Rattle.base.proofs.Bools.{never-true, eqb-comm}
-use Rattle.base.proofs.Bounded.{some-at, some-ext, some-none, some-eq}
+use Rattle.base.proofs.Bounded.{some-ext, some-none, some-eq}
 use Rattle.base.specs.Least.{nextFrom}
 use Rattle.base.proofs.Least.{found-some}
 use Rattle.nodeset.specs.Words.{has, wordsOf, union, with}

@@ -26,7 +26,7 @@ use Rattle.model.proofs.Repeats.{upTo-self, upTo-none, upTo-suc}
 use Rattle.model.proofs.Rounds.{last-cases, last-step, settled-none}
 use Rattle.paths.specs.Images.{image}
 use Rattle.paths.proofs.Images.{image-ext}
-use Rattle.rounds.specs.Levels.{imageWords, atDistance, After}
+use Rattle.rounds.specs.Levels.{imageWords}
 
 -- ---- the rows of a set's members, one after the other
 module _ (rows : List ℕ) (n : ℕ) (from : List ℕ) where
@@ -84,6 +84,18 @@ module _ (rows : List ℕ) (n : ℕ) (from : List ℕ) where
 
   pub joined-all : {ws : List ℕ} {u : ℕ} → Joined ws u → n ≤ u → ws ≡ imageWords rows n from
   joined-all {u = u} j l = j .words ∙ ap (λ (i : ℕ). wordsOf (imageTo i) 16) (let z : u ≡ n = omega (arith, j .within) in z)
+
+-- ---- the sets of a search
+module _ (r : ℕ → ℕ → Bool) (n v : ℕ) where
+  -- w is reached from v by k repetitions and no fewer
+  unfoldable pub atDistance : ℕ → ℕ → Bool
+  atDistance zero w = eqb v w
+  atDistance (suc k) w = upTo r n (suc k) v w && not (upTo r n k v w)
+
+  -- after k rounds
+  pub record After (k : ℕ) (reached frontier : List ℕ) : Type 0 where
+    pub all : reached ≡ wordsOf (upTo r n k v) 16
+    pub new : frontier ≡ wordsOf (atDistance k) 16
 
 -- ---- one round after the other
 or-without : (a b : Bool) → (b && not a) ≡ ((a || b) && not a)

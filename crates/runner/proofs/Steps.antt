@@ -5,9 +5,8 @@ use mathlib.Core.Bool.{Bool, true, _&&_, _||_}
 use mathlib.Core.Path.{_≡_, refl, ap, ap₂}
 use lib.Dec.{ltb, leb}
 use lib.IntN.{ℤ}
-use borrow.Author.Tests.{ltb-true}
 use Rattle.base.specs.Bounded.{_⇒_, every}
-use Rattle.base.proofs.Bools.{and-left, and-right, two-below}
+use Rattle.base.proofs.Bools.{and-left, two-below}
 use Rattle.base.proofs.Bounded.{every-ext, size-ext}
 use Rattle.model.specs.Limits.{maxCount}
 use Rattle.model.specs.Shapes.{within, from}

@@ -7,8 +7,7 @@ use Rattle.base.proofs.Least.{none-more}
 use Rattle.closure.specs.Rows.{leads}
 use Rattle.model.specs.Rounds.{settled}
 use Rattle.model.proofs.Rounds.{unsettled-low, rounds-found}
-use Rattle.rounds.specs.Levels.{After}
-use Rattle.rounds.proofs.Levels.{after-none, after-more, none-new}
+use Rattle.rounds.proofs.Levels.{After, after-none, after-more, none-new}
 use borrow.Author.Needs.{needs}
 use Rattle.rounds.proofs.search.Statement.{statement}
 use Rattle.rounds.proofs.search.Tie as tie
