@@ -61,6 +61,10 @@ pub never-both : {a : Bool} → a ≡ true → a ≡ false → ⊥
 never-both {a = true} e f = true≢false f
 never-both {a = false} e f = true≢false (sym e)
 
+pub not-not : (b : Bool) → not (not b) ≡ b
+not-not true = refl
+not-not false = refl
+
 pub not-and : (a b : Bool) → not (a && b) ≡ (not a || not b)
 not-and true b = refl
 not-and false b = refl

@@ -13,7 +13,7 @@ use borrow.Author.Tests.{eq-eqb, lt-ltb, le-ltb}
 use Rattle.base.specs.Bounded.{some, every, one, size, members}
 use Rattle.base.specs.Lists.{member, allb, ascending}
 use Rattle.base.proofs.Lists.{member-append, ascending-snoc, allb-append}
-use Rattle.base.proofs.Bools.{and-left, and-right, and-both, or-cases, or-swap, same-test, never-both, not-and}
+use Rattle.base.proofs.Bools.{and-left, and-right, and-both, or-cases, or-swap, same-test, never-both, not-not, not-and}
 
 -- ---- every
 pub every-at : (p : ℕ → Bool) (n : ℕ) → every p n ≡ true → (i : ℕ) → i < n → p i ≡ true
@@ -90,6 +90,9 @@ pub not-every : (p q : ℕ → Bool) (n : ℕ) → ((i : ℕ) → i < n → not 
 unfolding every some
 not-every p q zero h = refl
 not-every p q (suc n) h = not-and (p n) (every p n) ∙ ap₂ (λ (a b : Bool). a || b) (h n (le-refl (suc n))) (not-every p q n (λ i l. h i (le-trans l (le-suc n))))
+
+pub some-every : (p : ℕ → Bool) (n : ℕ) → some p n ≡ not (every (λ i. not (p i)) n)
+some-every p n = sym (not-every (λ i. not (p i)) p n (λ i _. not-not (p i)))
 
 -- ---- size
 pub one-le : (b : Bool) → one b ≤ 1

@@ -64,14 +64,14 @@ module _ (p : ℕ → Bool) (n : ℕ) where
   pub next-found : (i : ℕ) → i ≤ n → Next p i n (nextFrom p i n)
   next-found i l = found (n - i) i (omega arith)
 
--- the same numbers, the same next one
-pub next-ext : (p q : ℕ → Bool) (i n : ℕ) → ((m : ℕ) → p m ≡ q m) → nextFrom p i n ≡ nextFrom q i n
+-- the same numbers below n, the same next one
+pub next-ext : (p q : ℕ → Bool) (i n : ℕ) → ((m : ℕ) → m < n → p m ≡ q m) → nextFrom p i n ≡ nextFrom q i n
 unfolding nextFrom nextOf
-next-ext p q i n h = go (n - i)
+next-ext p q i n h = go (n - i) (omega arith)
   where
-    go : (k : ℕ) → nextOf p n k ≡ nextOf q n k
-    go zero = refl
-    go (suc k) = ap₂ (λ (b : Bool) (r : ℕ). cond b (n - suc k) r) (h (n - suc k)) (go k)
+    go : (k : ℕ) → k ≤ n → nextOf p n k ≡ nextOf q n k
+    go zero l = refl
+    go (suc k) l = ap₂ (λ (b : Bool) (r : ℕ). cond b (n - suc k) r) (h (n - suc k) (omega arith)) (go k (omega arith))
 
 -- the search goes on
 pub next-after : (p : ℕ → Bool) {n x r : ℕ} → x < n → r ≡ nextFrom p (x + 1) n → x < r

@@ -12,9 +12,10 @@ use Rattle.model.specs.Paths.{sequence, ends, endsOf}
 use Rattle.model.specs.Shapes.{isKind, satisfies, within, subset, noneShared, allPairs, less, lessEq, sameLang, conforms, expand}
 use Rattle.model.specs.PathNumbers.{partsOf, endPaths, pathsOf, pathsOfAll, bookPaths}
 use Rattle.model.specs.Rounds.{settled, rounds, roundsIn}
+use Rattle.model.specs.Nearest.{at, spareWithin, hops, lowest, nearest, nearestIn}
 use Rattle.model.specs.Rules.{subjectsOf, selects, violates, violations}
 use Rattle.model.specs.Books.{newTerms, newTriples, newShapes, newNames, joins, collect, graphOf, schemaFrom, schema, listOf, builtIn, names, nodes, links}
-use Rattle.model.specs.Cases.{agree, mount, twin, bookB, bookC, bookD, starred, rows, repeats, roundsAgree, searches}
+use Rattle.model.specs.Cases.{agree, mount, twin, bookB, bookC, bookD, starred, rows, repeats, roundsAgree, searches, nearestFound, nearestTold, spares}
 
 pub starred-hold : agree bookB starred ≡ true
 unfolding some every one size anyb allb member valueOf datatypeOf languageOf holds hasTriple ends endsOf isKind satisfies within subset noneShared allPairs less lessEq sameLang conforms expand newTerms newTriples newShapes collect graphOf schemaFrom schema agree
@@ -33,6 +34,11 @@ repeats-hold = refl
 pub searches-hold : roundsAgree bookD searches ≡ true
 unfolding some every nextOf nextFrom anyb hasTriple upTo star plus ends subset settled rounds newTerms newTriples collect graphOf roundsAgree
 searches-hold = refl
+
+-- document 02, Job 11
+pub spares-hold : nearestFound bookD spares ≡ nearestTold spares
+unfolding some every one size nextOf nextFrom anyb allb member valueOf datatypeOf languageOf holds hasTriple upTo star plus ends endsOf isKind satisfies within subset noneShared allPairs less lessEq sameLang conforms spareWithin hops lowest nearest newTerms newTriples collect graphOf nearestFound nearestTold
+spares-hold = refl
 
 -- book B's rule lists `left`, its node 0
 pub list-of-B : listOf bookB (record { shape = 0; target = subjectsOf 2 }) ≡ 0 ∷ []
@@ -55,3 +61,8 @@ paths-of-B = refl
 pub rounds-of-B : roundsIn bookB 0 2 ≡ 1
 unfolding some every nextOf nextFrom anyb hasTriple upTo ends subset settled rounds newTerms newTriples newShapes collect graphOf partsOf endPaths pathsOf pathsOfAll bookPaths roundsIn
 rounds-of-B = refl
+
+-- from `left` along that path the height of `right` is the nearest node at which nothing is out of level
+pub nearest-of-B : nearestIn bookB 0 2 0 ≡ at 1 3
+unfolding some every one size nextOf nextFrom anyb allb member valueOf datatypeOf languageOf holds hasTriple upTo star ends endsOf isKind satisfies within subset noneShared allPairs less lessEq sameLang conforms expand spareWithin hops lowest nearest newTerms newTriples newShapes collect graphOf schemaFrom schema partsOf endPaths pathsOf pathsOfAll bookPaths nearestIn
+nearest-of-B = refl

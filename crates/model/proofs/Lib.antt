@@ -9,4 +9,5 @@ pub mod Growth
 pub mod Repeats
 pub mod PathNumbers
 pub mod Rounds
+pub mod Nearest
 pub mod Sets

@@ -121,11 +121,11 @@ module _ (r : ℕ → ℕ → Bool) (n : ℕ) where
   unfolding times
   times-none v w = (eqb-true v w, eq-eqb v w)
 
-  times-upTo : (k v w : ℕ) → times r n k v w ≡ true → upTo r n k v w ≡ true
+  pub times-upTo : (k v w : ℕ) → times r n k v w ≡ true → upTo r n k v w ≡ true
   times-upTo zero v w e = subst (λ (x : ℕ). upTo r n 0 v x ≡ true) (times-none v w .0 e) (upTo-self 0 v)
   times-upTo (suc k) v w e = let h = times-next k v w e in upTo-step k v (h .0) w (h .1) (h .2) (times-upTo k (h .0) w (h .3))
 
-  upTo-times : (k v w : ℕ) → upTo r n k v w ≡ true → (m : ℕ) × (m ≤ k) × (times r n m v w ≡ true)
+  pub upTo-times : (k v w : ℕ) → upTo r n k v w ≡ true → (m : ℕ) × (m ≤ k) × (times r n m v w ≡ true)
   upTo-times zero v w e = (0, omega arith, times-none v w .1 (upTo-none v w e))
   upTo-times (suc k) v w e = ⊎-elim (λ q. (0, omega arith, times-none v w .1 q)) (λ h. let (m, l, q) = upTo-times k (h .0) w (h .3) in (suc m, omega arith, times-step m v (h .0) w (h .1) (h .2) q)) (upTo-cases k v w e)
 

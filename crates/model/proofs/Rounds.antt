@@ -11,7 +11,7 @@ use lib.Dec.{leb}
 use borrow.Author.Tests.{not-true, leb-true, leb-false}
 use Rattle.base.specs.Bounded.{some, every, size}
 use Rattle.base.proofs.Bools.{bool-cases, and-left, and-right, never-both, never-true, same-test}
-use Rattle.base.proofs.Bounded.{some-witness, every-at, every-all, not-every, size-le, size-ext, grown}
+use Rattle.base.proofs.Bounded.{some-witness, every-at, every-all, some-every, size-le, size-ext, grown}
 use Rattle.base.proofs.Least.{Next, next-found, next-ext, least-is}
 use Rattle.model.specs.Repeats.{upTo, star, plus}
 use Rattle.model.specs.Shapes.{sameMembers}
@@ -68,13 +68,9 @@ module _ (r : ℕ → ℕ → Bool) (n v : ℕ) where
   -- a round that is not past the last reaches a node that none before it did
   new-node : (k : ℕ) → settled r n v k ≡ false → (w : ℕ) × (w < n) × (upTo r n (suc k) v w ≡ true) × (upTo r n k v w ≡ false)
   new-node k e =
-      let some-new : some (new k) n ≡ true = sym (not-every (λ w. not (new k w)) (new k) n (λ w _. twice (new k w))) ∙ ap not (sym (settled-none k) ∙ e) in
+      let some-new : some (new k) n ≡ true = some-every (new k) n ∙ ap not (sym (settled-none k) ∙ e) in
       let (w, l, h) = some-witness (new k) n some-new in
       (w, l, and-left (within (suc k) w) (not (within k w)) h, not-true (within k w) (and-right (within (suc k) w) (not (within k w)) h))
-    where
-      twice : (b : Bool) → not (not b) ≡ b
-      twice true = refl
-      twice false = refl
 
   module _ (l : v < n) where
     next : (k : ℕ) → Still n within k → Still n within (suc k)
@@ -142,7 +138,7 @@ module _ (r : ℕ → ℕ → Bool) (n v : ℕ) where
 -- relations that agree between the numbers below n
 pub rounds-ext : (r q : ℕ → ℕ → Bool) (n v : ℕ) → ((v w : ℕ) → v < n → w < n → r v w ≡ q v w) → v < n → rounds r n v ≡ rounds q n v
 unfolding rounds settled
-rounds-ext r q n v same l = next-ext (settled r n v) (settled q n v) 0 n (λ k i. sameMembers n (λ w. upTo-agree r q n same k v w l i) (λ w. upTo-agree r q n same (suc k) v w l i))
+rounds-ext r q n v same l = next-ext (settled r n v) (settled q n v) 0 n (λ k _ i. sameMembers n (λ w. upTo-agree r q n same k v w l i) (λ w. upTo-agree r q n same (suc k) v w l i))
 
 -- a relation that leads on through nodes has at most one round
 pub rounds-transitive : (r : ℕ → ℕ → Bool) (n v : ℕ) → ((v u w : ℕ) → v < n → u < n → w < n → r v u ≡ true → r u w ≡ true → r v w ≡ true) → v < n → rounds r n v ≤ 1

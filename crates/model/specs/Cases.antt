@@ -1,5 +1,5 @@
 -- The cases of document 01 over its book B: the starred ones, which one theorem proves, a case or two for each other row of Table 1, and
--- cases of the repeated paths of document 02, Job 1, and of their rounds, Job 7.
+-- cases of document 02: of the repeated paths, Job 1, of their rounds, Job 7, and of the nearest spare along them, Job 11.
 use Prim.Native.Nat.{ℕ}
 use mathlib.Core.List.{List, [], _∷_}
 use mathlib.Core.Bool.{Bool, true, false, Bool·beq, _&&_}
@@ -10,6 +10,7 @@ use Rattle.model.specs.Graph.{iri, blankNode, numeric, plain, tagged}
 use Rattle.model.specs.Paths.{Path, predicate, inverse, sequence, alternative, zeroOrMore, oneOrMore, self, along}
 use Rattle.model.specs.Shapes.{Shape, top, hasShape, hasValue, conj, disj, neg, test, count, forAll, equals, disjoint, closed, lessThan, lessThanEq, uniqueLang, nodeKind, datatype, languageIn, minInclusive, minExclusive, maxInclusive, maxExclusive, anIri, aBlank, aLiteral, atMost, unbounded, conforms, expand}
 use Rattle.model.specs.Rounds.{roundsOf}
+use Rattle.model.specs.Nearest.{Nearest, at, noSpare, nearestOf}
 use Rattle.model.specs.Rules.{subjectsOf}
 use Rattle.model.specs.Books.{Book, link, type, lang, node, fact, shape, rule, graphOf, schema}
 
@@ -206,4 +207,37 @@ searches =
     ∷ search (predicate 0) 0 0
     ∷ search (alternative feeds home) 1 2
     ∷ search (alternative feeds (inverse feeds)) 1 2
+    ∷ []
+
+-- document 02, Job 11: a path, a shape and a node, and the nearest node from there along the path that conforms to the shape
+pub data Spare : Type 0 where
+  spare : Path → Shape → ℕ → Nearest → Spare
+
+unfoldable pub nearestFound : Book → List Spare → List Nearest
+nearestFound b [] = []
+nearestFound b (spare e φ v answer ∷ cs) = nearestOf (graphOf b) e φ v ∷ nearestFound b cs
+
+unfoldable pub nearestTold : List Spare → List Nearest
+nearestTold [] = []
+nearestTold (spare e φ v answer ∷ cs) = answer ∷ nearestTold cs
+
+-- the nearer of two, whichever has the lower number; the start itself, before others; of two as near the lower; one that no cable leads to; back
+-- from the literal, and to it; on the ring; by two cables at once; along a path that is a `star` or a `plus` itself; a shape that none meets
+abbrev pub spares : List Spare
+spares =
+    spare feeds (disj (hasValue 1) (hasValue 2)) 0 (at 1 1)
+    ∷ spare (inverse feeds) (disj (hasValue 1) (hasValue 2)) 3 (at 1 2)
+    ∷ spare feeds top 2 (at 0 2)
+    ∷ spare feeds (count 1 (atMost 1) feeds top) 1 (at 0 1)
+    ∷ spare (alternative feeds (inverse feeds)) (neg (hasValue 1)) 1 (at 1 0)
+    ∷ spare feeds (hasValue 4) 0 noSpare
+    ∷ spare feeds (hasValue 0) 1 noSpare
+    ∷ spare (inverse feeds) (hasValue 0) 3 (at 3 0)
+    ∷ spare feeds (test (nodeKind aLiteral)) 0 (at 3 3)
+    ∷ spare feeds (neg (hasValue 4)) 4 (at 1 5)
+    ∷ spare (sequence feeds feeds) (hasValue 2) 0 (at 1 2)
+    ∷ spare (sequence feeds feeds) (hasValue 3) 0 noSpare
+    ∷ spare (zeroOrMore feeds) (hasValue 3) 0 (at 1 3)
+    ∷ spare (oneOrMore feeds) (hasValue 0) 0 (at 0 0)
+    ∷ spare feeds (neg top) 0 noSpare
     ∷ []

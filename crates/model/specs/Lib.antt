@@ -9,6 +9,7 @@ pub mod Rules
 pub mod Books
 pub mod PathNumbers
 pub mod Rounds
+pub mod Nearest
 pub mod Sizes
 pub mod Valid
 pub mod Cases

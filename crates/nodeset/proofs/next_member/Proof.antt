@@ -15,7 +15,7 @@ or-itself true = refl
 or-itself false = refl
 
 itself : (ws : List ℕ) (i n : ℕ) {r : ℕ} → r ≡ nextFrom (λ m. has ws m || has ws m) i n → r ≡ nextFrom (has ws) i n
-itself ws i n e = e ∙ next-ext (λ m. has ws m || has ws m) (has ws) i n (λ m. or-itself (has ws m))
+itself ws i n e = e ∙ next-ext (λ m. has ws m || has ws m) (has ws) i n (λ m _. or-itself (has ws m))
 
 next-kept-requires : tie.Need-next-kept-requires
 next-kept-requires c κs = search needs
