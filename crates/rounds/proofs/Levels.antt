@@ -20,10 +20,10 @@ use Rattle.nodeset.proofs.Sets.{zeros, wordsOf-ext, has-of, length-of, union-of
 use Rattle.closure.specs.Rows.{leads, taken, Within}
 use Rattle.closure.proofs.Rows.{leads-node}
 use Rattle.model.specs.Limits.{maxNodes}
-use Rattle.model.specs.Repeats.{upTo}
-use Rattle.model.specs.Rounds.{settled}
-use Rattle.model.proofs.Repeats.{upTo-self, upTo-none, upTo-suc}
-use Rattle.model.proofs.Rounds.{last-cases, last-step, settled-none}
+use Rattle.model.specs.Repeats.{upTo, star}
+use Rattle.model.specs.Rounds.{settled, rounds}
+use Rattle.model.proofs.Repeats.{upTo-self, upTo-none, upTo-suc, upTo-star}
+use Rattle.model.proofs.Rounds.{last-cases, last-step, settled-none, rounds-reach}
 use Rattle.paths.specs.Images.{image}
 use Rattle.paths.proofs.Images.{image-ext}
 use Rattle.rounds.specs.Levels.{imageWords}
@@ -113,12 +113,12 @@ module _ (rows : List ℕ) (n v : ℕ) (few : n ≤ maxNodes) (inside : Within n
   after-none e f = record { all = e; new = f }
 
   -- a round reaches what it is the first to reach, and what some round before it was
-  first-reached : (k u : ℕ) → atDistance r n v k u ≡ true → upTo r n k v u ≡ true
+  pub first-reached : (k u : ℕ) → atDistance r n v k u ≡ true → upTo r n k v u ≡ true
   unfolding atDistance
   first-reached zero u e = subst (λ (x : ℕ). upTo r n 0 v x ≡ true) (eqb-true v u e) (upTo-self r n 0 v)
   first-reached (suc k) u e = and-left (upTo r n (suc k) v u) (not (upTo r n k v u)) e
 
-  reached-first : (k u : ℕ) → upTo r n k v u ≡ true → (atDistance r n v k u ≡ true) ⊎ ((j : ℕ) × (suc j ≡ k) × (upTo r n j v u ≡ true))
+  pub reached-first : (k u : ℕ) → upTo r n k v u ≡ true → (atDistance r n v k u ≡ true) ⊎ ((j : ℕ) × (suc j ≡ k) × (upTo r n j v u ≡ true))
   unfolding atDistance
   reached-first zero u e = inl (eq-eqb v u (upTo-none r n v u e))
   reached-first (suc k) u e = bool-cases (λ b. upTo r n k v u ≡ b → ((upTo r n (suc k) v u && not b) ≡ true) ⊎ ((j : ℕ) × (suc j ≡ suc k) × (upTo r n j v u ≡ true))) (upTo r n k v u)
@@ -159,3 +159,20 @@ module _ (rows : List ℕ) (n v : ℕ) (few : n ≤ maxNodes) (inside : Within n
   none-new k {frontier = frontier} a =
       every-ext (λ w. not (has frontier w)) (λ w. not (upTo r n (suc k) v w && not (upTo r n k v w))) n (λ w lw. ap not (has-of (atDistance r n v (k + 1)) 16 (a .new) w (omega arith) ∙ ap (λ (m : ℕ). atDistance r n v m w) (add-one k)))
       ∙ sym (settled-none r n v k)
+
+  -- ---- what the search reaches in the end
+  -- only nodes
+  reached-node : (k w : ℕ) → w < maxNodes → upTo r n k v w ≡ true → w < n
+  reached-node zero w lw e = subst (λ (x : ℕ). x < n) (upTo-none r n v w e) l
+  reached-node (suc k) w lw e = ⊎-elim (λ f. reached-node k w lw f) (λ f. leads-node n inside (f .0) w lw (f .3) .1) (last-cases r n k v w l e)
+
+  pub star-node : (w : ℕ) → w < maxNodes → star r n v w ≡ true → w < n
+  unfolding star
+  star-node w lw e = reached-node n w lw e
+
+  -- one round past the last: all that any number of repetitions reaches
+  pub reached-all : (k : ℕ) {reached frontier : List ℕ} → After r n v (k + 1) reached frontier → rounds r n v ≡ k → reached ≡ wordsOf (star r n v) 16
+  unfolding star
+  reached-all k a e = a .all ∙ wordsOf-ext (upTo r n (k + 1) v) (upTo r n n v) 16 (λ w lw. same-test (upTo r n (k + 1) v w) (upTo r n n v w)
+      (λ f. upTo-star r n (k + 1) v w l f)
+      (λ f. ap (λ (m : ℕ). upTo r n m v w) (add-one k) ∙ upTo-suc r n k v w (ap (λ (m : ℕ). upTo r n m v w) (sym e) ∙ rounds-reach r n v l w (reached-node n w lw f) ∙ f)))

@@ -28,10 +28,12 @@ ghost use Rattle.nodeset.specs.Words.{wordsOf, union, difference};
 ghost use Rattle.closure.specs.Rows.{leads, rowsOf, Within};
 ghost use Rattle.model.specs.Limits.{maxNodes};
 ghost use Rattle.model.specs.Paths.{ends};
+ghost use Rattle.model.specs.Repeats.{star};
 ghost use Rattle.model.specs.Rounds.{rounds};
 ghost use Rattle.tables.specs.Layout.{cellCount, nodeCount, pathCount};
 ghost use Rattle.tables.specs.Decode.{triplesAt, pathAt};
 ghost use Rattle.tables.specs.WellFormed.{wellFormed};
+ghost use Rattle.paths.specs.Facts.{Tables};
 ghost use Rattle.rounds.specs.Levels.{imageWords};
 ghost use Rattle.rounds.specs.Answers.{answerOf, roundsAt, roundsAnswer};
 
@@ -52,14 +54,14 @@ fn image(set: NodeSet, rows: &[u64], n: usize) -> NodeSet
 }
 
 // A search after some rounds: the nodes reached, and its frontier, those of them that the last round was the first to reach.
-struct Level {
-    reached: NodeSet,
-    frontier: NodeSet,
+pub struct Level {
+    pub reached: NodeSet,
+    pub frontier: NodeSet,
 }
 
 impl Level {
     // No round yet: node v alone, where it is below 1,024.
-    fn start(v: usize) -> Level
+    pub fn start(v: usize) -> Level
         ensures { λ r. ⌜ (r .reached .words ≡ wordsOf (λ w. eqb v w) 16) × (r .frontier .words ≡ wordsOf (λ w. eqb v w) 16) ⌝ }
     {
         let none = NodeSet::EMPTY;
@@ -71,7 +73,7 @@ impl Level {
     }
 
     // One round more.
-    fn next(self, rows: &[u64], n: usize) -> Level
+    pub fn next(self, rows: &[u64], n: usize) -> Level
         requires { ⌜ (n ≤ maxNodes) × (16 * n ≤ length (now rows)) ⌝ }
         ensures { λ r. ⌜ r .reached .words ≡ union (self .reached .words) (imageWords (now (rows .entry)) n (self .frontier .words)) ⌝ }
         ensures { λ r. ⌜ r .frontier .words ≡ difference (imageWords (now (rows .entry)) n (self .frontier .words)) (self .reached .words) ⌝ }
@@ -85,31 +87,39 @@ impl Level {
     }
 }
 
-// The rounds of the search from node v: how many reach a node that none before them did.
-fn search(rows: &[u64], v: usize, n: usize) -> usize
+// What a search comes to: the nodes that it reaches, and how many rounds reach one that none before them did.
+pub struct Reached {
+    pub nodes: NodeSet,
+    pub rounds: usize,
+}
+
+// The search from node v, until a round reaches nothing more.
+pub fn search(rows: &[u64], v: usize, n: usize) -> Reached
     requires { ⌜ (v < n) × (n ≤ maxNodes) × (16 * n ≤ length (now rows)) × Within n (now rows) ⌝ }
-    ensures { λ r. ⌜ r ≡ rounds (leads (now (rows .entry))) n v ⌝ }
+    ensures { λ r. ⌜ r .rounds ≡ rounds (leads (now (rows .entry))) n v ⌝ }
+    ensures { λ r. ⌜ r .nodes .words ≡ wordsOf (star (leads (now (rows .entry))) n v) 16 ⌝ }
 {
     let mut level = Level::start(v);
     let mut count: usize = 0;
     loop {
         level = level.next(rows, n);
         if level.frontier.none_below(n) {
-            return count;
+            let nodes = level.reached;
+            return Reached {
+                nodes,
+                rounds: count,
+            };
         }
         count += 1;
     }
 }
 
 // The rows, which are empty, become the ends of path entry e.
-fn path_rows(rows: &mut [u64], cells: &[u16], e: usize)
-    requires { ⌜ (now rows ≡ replicate (16 * maxNodes) 0) × (cellCount ≤ length (now cells)) × (wellFormed (now cells) ≡ true) × (e < pathCount (now cells)) ⌝ }
+pub fn path_rows(rows: &mut [u64], cells: &[u16], index: &[u16], e: usize)
+    requires { ⌜ (now rows ≡ replicate (16 * maxNodes) 0) × Tables (now cells) (now index) × (e < pathCount (now cells)) ⌝ }
     ensures { λ _. ⌜ now (rows .exit) ≡ rowsOf (nodeCount (now (cells .entry))) (ends (nodeCount (now (cells .entry))) (triplesAt (now (cells .entry))) (pathAt (now (cells .entry)) e)) (16 * maxNodes) ⌝ }
 {
-    // the chains of the facts, made once
-    let mut index = [0u16; INDEX_CELLS];
-    index_table(&mut index, cells);
-    all_table_ends(rows, End::Path(e), cells, &index);
+    all_table_ends(rows, End::Path(e), cells, index);
 }
 
 // The rounds of the star of path entry e from node v.
@@ -117,9 +127,13 @@ fn path_rounds(cells: &[u16], v: NodeNo, e: usize) -> usize
     requires { ⌜ (cellCount ≤ length (now cells)) × (wellFormed (now cells) ≡ true) × (v .0 < nodeCount (now cells)) × (e < pathCount (now cells)) ⌝ }
     ensures { λ r. ⌜ r ≡ roundsAt (now (cells .entry)) (v .0) e ⌝ }
 {
+    // the chains of the facts, made once
+    let mut index = [0u16; INDEX_CELLS];
+    index_table(&mut index, cells);
     let mut rows = [0u64; ROWS_WORDS];
-    path_rows(&mut rows, cells, e);
-    search(&rows, v.0 as usize, node_count(cells))
+    path_rows(&mut rows, cells, &index, e);
+    let found = search(&rows, v.0 as usize, node_count(cells));
+    found.rounds
 }
 
 // What is answered.

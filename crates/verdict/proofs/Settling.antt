@@ -20,7 +20,7 @@ use Rattle.tables.specs.Decode.{graphAt, shapeAt}
 use Rattle.conditions.proofs.Members.{Passed, passed-none, passed-more, passed-all}
 use Rattle.paths.specs.Facts.{Tables}
 use Rattle.entries.proofs.Codes.{nodes-le, sound-of}
-use Rattle.verdict.specs.Memo.{yesPlace, noPlace, settled, MemoRight, Ready, Settled, memoCount}
+use Rattle.verdict.specs.Memo.{yesPlace, noPlace, settled, MemoRight, Ready, Decided, Settled, memoCount}
 use Rattle.verdict.specs.Parts.{firstPart, secondPart, looksAt, PartsKnown}
 use Rattle.verdict.proofs.Memo.{with-new, settled-grows, known-right, right-none, right-more, grows-more, settled-more}
 
@@ -108,10 +108,14 @@ parts-settled {cs} {vs} e {a} {b} nodes {ws} {one} {two} {three} looks ea s eb t
 pub entry-lt : {cs index : List ℕ} {vs : List ℤ} {memo : List ℕ} {e : ℕ} → Ready cs index vs memo e → e < maxForms
 entry-lt {cs} r = omega (arith, r .entry, sound-of cs (r .tables) .forms)
 
--- ---- one question: at first nothing is known, and one node is wanted
+-- ---- a question: at first nothing is known
 pub ready-none : {cs index : List ℕ} {vs : List ℤ} {e : ℕ} → Tables cs index → e < formCount cs → Ready cs index vs (replicate memoCount 0) e
 ready-none {cs} {index} {vs} t l = record { tables = t; size = length-replicate {A = ℕ} memoCount 0; right = right-none cs vs memoCount; entry = l }
 
-pub one-known : {cs : List ℕ} {vs : List ℤ} {start memo : List ℕ} {e : ℕ} {want : List ℕ} (v : ℕ) → want ≡ with (replicate 16 0) v → Settled cs vs start memo e want → v < nodeCount cs → nodeCount cs ≤ maxNodes → has memo (yesPlace e v) ≡ conforms (graphAt cs vs) (shapeAt cs vs e) v
-one-known {cs} {vs} {start} {memo} {e} {want} v ew s l room =
-    known-right cs vs memo e v (s .right) (omega arith) (s .all v l (ap (λ (ws : List ℕ). has ws v) ew ∙ with-new (replicate 16 0) v (omega (arith, length-replicate {A = ℕ} 16 0))))
+-- the nodes of which it is known in the end that they conform
+pub known-decided : {cs : List ℕ} {vs : List ℤ} {start memo : List ℕ} {e : ℕ} {want set : List ℕ} → Settled cs vs start memo e want → nodeCount cs ≤ maxNodes → set ≡ wordsOf (λ v. has memo (yesPlace e v)) 16 → Decided cs vs e want set
+known-decided {cs} {vs} {start} {memo} {e} s room es v l h = has-of (λ v. has memo (yesPlace e v)) 16 es v (omega (arith, l, room)) ∙ known-right cs vs memo e v (s .right) (omega (arith, l, room)) (s .all v l h)
+
+-- one node is wanted
+pub one-wanted : {want : List ℕ} (v : ℕ) → want ≡ with (replicate 16 0) v → v < maxNodes → has want v ≡ true
+one-wanted v e l = ap (λ (ws : List ℕ). has ws v) e ∙ with-new (replicate 16 0) v (omega (arith, length-replicate {A = ℕ} 16 0))

@@ -358,6 +358,23 @@ fn settle(memo: &mut [u64], e: usize, want: NodeSet, cells: &[u16], index: &[u16
     fill(memo, e, nodes, cells, index, values);
 }
 
+// Of the nodes of want, those that conform to entry e; of others nothing is said. What becomes known of its parts is kept meanwhile,
+// so that no verdict is found twice.
+pub fn conforming_among(
+    cells: &[u16],
+    index: &[u16],
+    values: &[i64],
+    e: usize,
+    want: NodeSet,
+) -> NodeSet
+    requires { ⌜ Tables (now cells) (now index) × (e < formCount (now cells)) ⌝ }
+    ensures { λ r. ⌜ Decided (now (cells .entry)) (now (values .entry)) e (want .words) (r .words) ⌝ }
+{
+    let mut memo = [0u64; MEMO_WORDS];
+    settle(&mut memo, e, want, cells, index, values);
+    row(&memo, 32 * e)
+}
+
 // Node v conforms to entry e.
 fn conforming(cells: &[u16], values: &[i64], e: usize, v: NodeNo) -> bool
     requires { ⌜ (cellCount ≤ length (now cells)) × (wellFormed (now cells) ≡ true) × (e < formCount (now cells)) × (v .0 < nodeCount (now cells)) ⌝ }
@@ -366,10 +383,10 @@ fn conforming(cells: &[u16], values: &[i64], e: usize, v: NodeNo) -> bool
     // the chains of the facts, made once
     let mut index = [0u16; INDEX_CELLS];
     index_table(&mut index, cells);
-    let mut memo = [0u64; MEMO_WORDS];
     let none = NodeSet::EMPTY;
-    settle(&mut memo, e, none.with(v.0 as usize), cells, &index, values);
-    known(&memo, e, v)
+    let x = v.0 as usize;
+    let set = conforming_among(cells, &index, values, e, none.with(x));
+    set.test(x)
 }
 
 // What is answered.

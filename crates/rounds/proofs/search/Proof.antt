@@ -5,9 +5,9 @@ use mathlib.Core.Path.{_≡_, sym, _∙_}
 use native.Mathlib.Omega.{arith}
 use Rattle.base.proofs.Least.{none-more}
 use Rattle.closure.specs.Rows.{leads}
-use Rattle.model.specs.Rounds.{settled}
+use Rattle.model.specs.Rounds.{settled, rounds}
 use Rattle.model.proofs.Rounds.{unsettled-low, rounds-found}
-use Rattle.rounds.proofs.Levels.{After, after-none, after-more, none-new}
+use Rattle.rounds.proofs.Levels.{After, after-none, after-more, none-new, reached-all}
 use borrow.Author.Needs.{needs}
 use Rattle.rounds.proofs.search.Statement.{statement}
 use Rattle.rounds.proofs.search.Tie as tie
@@ -40,12 +40,19 @@ level-after c =
     let pre = c .before .before .before .before .pre in
     after-more (a .rows .now) (a .n) (a .v) (pre .1) (pre .3) (pre .0) (c .before .loop .inv .0) (c .next .ensures .0) (c .next .ensures .1)
 
-returns : tie.Need-returns Inv-loop μ-loop
-returns c =
+-- the count is the number of rounds
+counted : (c : tie.Then1 Inv-loop μ-loop) → let a = c .before .before .before .before .before .before .args in rounds (leads (a .rows .now)) (a .n) (a .v) ≡ c .before .before .before .loop .count
+counted c =
     let a = c .before .before .before .before .before .before .args in
     let pre = c .before .before .before .before .before .before .pre in
     let t = c .before .before .before .loop in
-    sym (rounds-found (leads (a .rows .now)) (a .n) (a .v) (pre .0) (t .count) (t .inv .1) (sym (none-new (a .rows .now) (a .n) (a .v) (pre .1) (pre .3) (pre .0) (t .count) (level-after (c .before .before))) ∙ sym (c .before .none-below .ensures) ∙ c .if1 .taken))
+    rounds-found (leads (a .rows .now)) (a .n) (a .v) (pre .0) (t .count) (t .inv .1) (sym (none-new (a .rows .now) (a .n) (a .v) (pre .1) (pre .3) (pre .0) (t .count) (level-after (c .before .before))) ∙ sym (c .before .none-below .ensures) ∙ c .if1 .taken)
+
+returns : tie.Need-returns Inv-loop μ-loop
+returns c =
+    let a = c .before .before .before .before .before .before .before .args in
+    let pre = c .before .before .before .before .before .before .before .pre in
+    (sym (counted (c .before)), reached-all (a .rows .now) (a .n) (a .v) (pre .1) (pre .3) (pre .0) (c .before .before .before .before .loop .count) (level-after (c .before .before .before)) (counted (c .before)))
 
 -- no number up to this one has settled
 still-growing : (c : tie.Else1 Inv-loop μ-loop) → let a = c .before .before .before .before .before .before .args in (j : ℕ) → j < c .before .before .before .loop .count + 1 → settled (leads (a .rows .now)) (a .n) (a .v) j ≡ false
