@@ -1,8 +1,8 @@
 // The operations for programs in C and Rust, as a static library. Each function calls one operation and has its promise: it
 // returns the number of the refusal, or 0 where there is none, and writes all else that the operation answers through lent
 // numbers, which are 0 where a refusal leaves nothing to say.
-// Operations: melivanoup_read, melivanoup_verdict, melivanoup_rounds, melivanoup_compile, melivanoup_run, melivanoup_list,
-// melivanoup_validate, melivanoup_report.
+// Operations: melivanoup_read, melivanoup_verdict, melivanoup_rounds, melivanoup_nearest, melivanoup_compile, melivanoup_run,
+// melivanoup_list, melivanoup_validate, melivanoup_report.
 use compiler::Compiled;
 use compiler::compile;
 use consoles::CONSOLES;
@@ -12,6 +12,7 @@ use lists::Listed;
 use lists::list;
 use model::Refusal;
 use model::code;
+use nearest::Spare;
 use reader::ReadAnswer;
 use reader::read;
 use report::Page;
@@ -30,6 +31,8 @@ ghost use Rattle.model.specs.Answers.{refusalNumber, refusalLine, valueOr};
 ghost use Rattle.reader.specs.Answers.{noCounts, readAnswer, namesOf, cellsOf, valuesOf};
 ghost use Rattle.verdict.specs.Answers.{question, reply};
 ghost use Rattle.rounds.specs.Answers.{roundsAnswer};
+ghost use Rattle.model.specs.Nearest.{noSpare};
+ghost use Rattle.nearest.specs.Answers.{nearestAnswer};
 ghost use Rattle.compiler.specs.Answers.{compileAnswer, planAfter};
 ghost use Rattle.runner.specs.Run.{runAnswer, workAfter};
 ghost use Rattle.lists.specs.Answers.{listAnswer, rowAfter};
@@ -37,7 +40,7 @@ ghost use Rattle.validation.specs.Claim.{Demand3};
 ghost use Rattle.validation.specs.Lent.{lent};
 ghost use Rattle.validation.specs.Whole.{validateAnswer, after};
 ghost use Rattle.report.specs.Answers.{partAnswer, partAfter};
-ghost use Rattle.melivanoup.specs.Numbers.{oneIf, answerBy};
+ghost use Rattle.melivanoup.specs.Numbers.{oneIf, foundIn, hopsIn, nodeIn, answerBy};
 
 // The number of a refusal.
 fn number(r: Refusal) -> u32
@@ -151,6 +154,39 @@ pub extern "C" fn melivanoup_rounds(
             *rounds = 0;
             number(r)
         }
+    }
+}
+
+// The nearest spare from a node along a path entry: 1 where there is one, else 0; how many repetitions away it is, and its number.
+#[no_mangle]
+pub extern "C" fn melivanoup_nearest(
+    names: &[u8],
+    cells: &[u16],
+    values: &[i64],
+    node: usize,
+    path: usize,
+    shape: usize,
+    found: &mut u32,
+    hops: &mut usize,
+    spare: &mut usize,
+) -> u32
+    ensures { λ r. ⌜ r ≡ refusalNumber (nearestAnswer (now (names .entry)) (now (cells .entry)) (now (values .entry)) node path shape) ⌝ }
+    ensures { λ _. ⌜ now (found .exit) ≡ oneIf (foundIn (valueOr noSpare (nearestAnswer (now (names .entry)) (now (cells .entry)) (now (values .entry)) node path shape))) ⌝ }
+    ensures { λ _. ⌜ now (hops .exit) ≡ hopsIn (valueOr noSpare (nearestAnswer (now (names .entry)) (now (cells .entry)) (now (values .entry)) node path shape)) ⌝ }
+    ensures { λ _. ⌜ now (spare .exit) ≡ nodeIn (valueOr noSpare (nearestAnswer (now (names .entry)) (now (cells .entry)) (now (values .entry)) node path shape)) ⌝ }
+{
+    *found = 0;
+    *hops = 0;
+    *spare = 0;
+    match nearest::nearest(names, cells, values, node, path, shape) {
+        Spare::At(k, w) => {
+            *found = 1;
+            *hops = k;
+            *spare = w.0 as usize;
+            0
+        }
+        Spare::NoSpare => 0,
+        Spare::Refused(r) => number(r),
     }
 }
 

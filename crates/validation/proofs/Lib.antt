@@ -3,6 +3,7 @@ pub mod Whole
 pub mod Tables
 pub mod Verdicts
 pub mod Rounds
+pub mod Nearest
 pub mod ByHand
 pub mod BookB
 pub mod WrongPrograms

@@ -33,7 +33,7 @@ use Rattle.validation.specs.Verdicts.{inBook, answerIn, viewIn}
 use Rattle.validation.proofs.Tables.{fine, names′, cells′, values′, cells-read, values-read, still-long}
 
 module _ (s ns cs : List ℕ) (vs : List ℤ) (e : longEnough ns cs vs ≡ true) (b : Book) (v : valid b ≡ true) (r : render b ≡ s) where
-  shape-read : (shape : ℕ) → shape < shapeCount (encodeCells b) → shapeAt (encodeCells b) (encodeValues b) (rootAt (encodeCells b) shape) ≡ def (schema b) shape
+  pub shape-read : (shape : ℕ) → shape < shapeCount (encodeCells b) → shapeAt (encodeCells b) (encodeValues b) (rootAt (encodeCells b) shape) ≡ def (schema b) shape
   unfolding schemaAt
   shape-read shape low =
       sym (at-values (λ i. shapeAt (encodeCells b) (encodeValues b) (rootAt (encodeCells b) i)) (shapeCount (encodeCells b)) shape top low)

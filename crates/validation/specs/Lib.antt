@@ -3,3 +3,4 @@ pub mod Claim
 pub mod Whole
 pub mod Verdicts
 pub mod Rounds
+pub mod Nearest
