@@ -1,7 +1,8 @@
 #!/usr/bin/env bash
 # bash bench/slow.sh [BOOK ..]: books made to be slow, by paths that repeat. For each the milliseconds of a whole run, the best of
-# three, and where the library is built already of the slowest direct verdict and of the slowest question for rounds. The report
-# must be the reference's. PROGRAM names the program (default target/bin/validate); nothing of it is built or proved here.
+# three, and where the library is built already of the slowest direct verdict and of the slowest questions for rounds and for the
+# nearest spare. The report must be the reference's. PROGRAM names the program (default target/bin/validate); nothing of it is
+# built or proved here.
 set -eu
 here=$(cd "$(dirname "$0")" && pwd)
 program=${PROGRAM:-$here/../target/bin/validate}
@@ -29,8 +30,8 @@ ms() {
 }
 
 wrong=0
-echo "| Book | ms | slowest verdict, ms | slowest rounds, ms |"
-echo "|---|---|---|---|"
+echo "| Book | ms | slowest verdict, ms | slowest rounds, ms | slowest nearest, ms |"
+echo "|---|---|---|---|---|"
 for book in ${*:-$books}; do
     best=
     for _ in 1 2 3; do
@@ -43,10 +44,12 @@ for book in ${*:-$books}; do
         { echo "$book: the reports DIFFER" >&2; wrong=1; }
     verdict=
     rounds=
+    nearest=
     if [ -n "$questions" ]; then
         verdict=$(ms "$("$questions" verdicts "$out/$book.book")")
         rounds=$(ms "$("$questions" rounds "$out/$book.book")")
+        nearest=$(ms "$("$questions" nearest "$out/$book.book")")
     fi
-    echo "| $book | $(ms "$best") | $verdict | $rounds |"
+    echo "| $book | $(ms "$best") | $verdict | $rounds | $nearest |"
 done
 [ $wrong = 0 ] || { echo "a report differs, or the program failed"; exit 1; }

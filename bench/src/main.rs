@@ -3,6 +3,7 @@
 //!   bench say SYSTEM FILE           the report of proved, reference, sqlite or direct (the reference by its direct verdicts)
 //!   bench verdicts FILE             microseconds of the slowest of the direct verdicts on some nodes and every shape
 //!   bench rounds FILE               the same of the rounds of every path entry from some nodes
+//!   bench nearest FILE              the same of the nearest spare from few nodes along some path entries, for the shapes in turn
 //!   bench turtle FILE DIR           the book as data.ttl and shapes.ttl
 //!   bench breaks FILE LINES REPORT  a report from Jena's breaks
 //!   bench sqlite                    SQLite's version, where it is on the machine
@@ -122,24 +123,37 @@ fn sqlite(bytes: &[u8], seconds: u64) -> (Vec<u8>, Times) {
     (text, times)
 }
 
-/// The slowest question about some nodes, far from each other, and each of so many others; of two rounds the better one.
-fn slowest(nodes: usize, others: usize, mut ask: impl FnMut(usize, usize) -> u64) -> u64 {
+/// The slowest question about so many nodes and the last, far from each other, and each of so many others; of two rounds the
+/// better one.
+fn slowest(nodes: usize, some: usize, others: usize, mut ask: impl FnMut(usize, usize) -> u64) -> u64 {
     let mut better = |node, other| ask(node, other).min(ask(node, other));
-    let asked = (0..nodes).step_by(nodes / 16 + 1).chain(nodes.checked_sub(1));
+    let asked = (0..nodes).step_by(nodes / some + 1).chain(nodes.checked_sub(1));
     asked.flat_map(|node| (0..others).map(move |other| (node, other))).map(|(node, other)| better(node, other)).max().unwrap_or(0)
+}
+
+fn shapes(tables: &Tables) -> usize {
+    (0..).take_while(|&s| tables.shape_name(s).is_some()).count()
 }
 
 fn slowest_verdict(book: &[u8]) -> u64 {
     let (mut tables, mut tallies) = (Tables::new(), Tallies::new());
     let nodes = tables.read(book).expect("accepted").nodes;
-    let shapes = (0..).take_while(|&s| tables.shape_name(s).is_some()).count();
-    slowest(nodes, shapes, |node, shape| timed(|| tables.verdict(0, node, shape, &mut tallies).unwrap()).1)
+    slowest(nodes, 16, shapes(&tables), |node, shape| timed(|| tables.verdict(0, node, shape, &mut tallies).unwrap()).1)
 }
 
 fn slowest_rounds(book: &[u8]) -> u64 {
     let mut tables = Tables::new();
     let nodes = tables.read(book).expect("accepted").nodes;
-    slowest(nodes, tables.paths(), |node, path| timed(|| tables.rounds(node, path).unwrap()).1)
+    slowest(nodes, 16, tables.paths(), |node, path| timed(|| tables.rounds(node, path).unwrap()).1)
+}
+
+fn slowest_nearest(book: &[u8]) -> u64 {
+    let mut tables = Tables::new();
+    let nodes = tables.read(book).expect("accepted").nodes;
+    let (paths, shapes) = (tables.paths(), shapes(&tables));
+    // every eighth, from the last on
+    let path = |k: usize| paths - 1 - 8 * k;
+    slowest(nodes, 2, paths.div_ceil(8), |node, k| timed(|| tables.nearest(node, path(k), k % shapes).unwrap()).1)
 }
 
 fn time(system: &str, bytes: &[u8], seconds: u64) -> (Vec<u8>, Times) {
@@ -167,6 +181,7 @@ fn main() {
         }
         ["verdicts", file] => println!("{}", slowest_verdict(&fs::read(file).unwrap()) / 1000),
         ["rounds", file] => println!("{}", slowest_rounds(&fs::read(file).unwrap()) / 1000),
+        ["nearest", file] => println!("{}", slowest_nearest(&fs::read(file).unwrap()) / 1000),
         ["turtle", file, folder] => {
             let book = parsed(&fs::read(file).unwrap());
             fs::write(format!("{folder}/data.ttl"), turtle::data(&book)).unwrap();

@@ -65,6 +65,9 @@ extern "C" {
 /* What the verdict writes of a node that meets the shape; 0 of one that does not. */
 #define MELIVANOUP_CONFORMS 1
 
+/* What nearest writes where there is a spare; 0 where there is none. */
+#define MELIVANOUP_FOUND 1
+
 /* Why a call was refused. 1 to 7 are the book writer's: 2 to 7 come with a line, counted from 1. 8 to 11 are the caller's. */
 enum melivanoup_refusal {
   MELIVANOUP_NONE = 0,
@@ -100,6 +103,14 @@ uint32_t melivanoup_verdict(const uint8_t *names, size_t names_len, const uint16
  * itself. It is below the number of nodes reached, so at most 1,023; 0 on a refusal (8, 9, 10). */
 uint32_t melivanoup_rounds(const uint8_t *names, size_t names_len, const uint16_t *cells, size_t cells_len,
                            const int64_t *values, size_t values_len, size_t node, size_t path, size_t *rounds);
+
+/* The nearest spare: which node that meets a shape is fewest hops from a node, a hop being one repetition of a path entry.
+ * *found: 1 where some number of repetitions leads to such a node, else 0. *hops: the fewest that do, so at most 1,023; 0 where
+ * the node itself meets the shape. *spare: the lowest number among those that so many lead to and that meet it. *hops and *spare
+ * are 0 where *found is; all three on a refusal (8, 9, 10). */
+uint32_t melivanoup_nearest(const uint8_t *names, size_t names_len, const uint16_t *cells, size_t cells_len,
+                            const int64_t *values, size_t values_len, size_t node, size_t path, size_t shape,
+                            uint32_t *found, size_t *hops, size_t *spare);
 
 /* The plan of the tables, by document 01's table of steps. *steps: how many it has, at most four for each form entry and two
  * for each rule; 0 on a refusal (8, 9). */

@@ -25,7 +25,7 @@ mod raw;
 mod refusal;
 mod validator;
 
-pub use operations::{Counts, Plan, Tables, Tallies, Work};
+pub use operations::{Counts, Plan, Spare, Tables, Tallies, Work};
 pub use refusal::{Ground, Refusal};
 pub use validator::{Report, Rule, Validator};
 

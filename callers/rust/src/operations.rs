@@ -37,6 +37,14 @@ pub struct Counts {
     pub rules: usize,
 }
 
+/// A node that meets the shape asked for, and how far it is from the start.
+#[derive(Clone, Copy, Debug, PartialEq, Eq)]
+pub struct Spare {
+    /// the fewest repetitions of the path that lead there
+    pub hops: usize,
+    pub node: usize,
+}
+
 // Where things stand, named as in callers/c/melivanoup.h.
 const CELL_NODES: usize = 0;
 const CELL_SHAPES: usize = 4;
@@ -50,6 +58,9 @@ const SHAPE_NAMES: usize = 43_008;
 
 /// the verdict's answer for a node that meets the shape
 const CONFORMS: u32 = 1;
+
+/// the answer of `nearest` where there is a spare
+const FOUND: u32 = 1;
 
 impl Tables {
     /// Zeros: the tables of no book.
@@ -102,6 +113,22 @@ impl Tables {
         };
         Refusal::check(number, 0)?;
         Ok(rounds)
+    }
+
+    /// The nearest spare: which node that meets a shape is fewest hops from a node, a hop being one repetition of a path entry,
+    /// all by number. The node itself is no hop away; of those that are equally near it is the one with the lowest number. None
+    /// where no number of repetitions leads to a node that meets the shape.
+    pub fn nearest(&self, node: usize, path: usize, shape: usize) -> Result<Option<Spare>, Refusal> {
+        let (mut found, mut hops, mut spare) = (0, 0, 0);
+        // SAFETY: as in `read`.
+        let number = unsafe {
+            raw::melivanoup_nearest(
+                self.names.as_ptr(), self.names.len(), self.cells.as_ptr(), self.cells.len(), self.values.as_ptr(),
+                self.values.len(), node, path, shape, &mut found, &mut hops, &mut spare,
+            )
+        };
+        Refusal::check(number, 0)?;
+        Ok((found == FOUND).then_some(Spare { hops, node: spare }))
     }
 
     /// Compiles the rules of the tables into a plan, and gives its number of steps.

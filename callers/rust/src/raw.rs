@@ -13,6 +13,10 @@ unsafe extern "C" {
         names: *const u8, names_len: usize, cells: *const u16, cells_len: usize, values: *const i64, values_len: usize,
         node: usize, path: usize, rounds: *mut usize,
     ) -> u32;
+    pub fn melivanoup_nearest(
+        names: *const u8, names_len: usize, cells: *const u16, cells_len: usize, values: *const i64, values_len: usize,
+        node: usize, path: usize, shape: usize, found: *mut u32, hops: *mut usize, spare: *mut usize,
+    ) -> u32;
     pub fn melivanoup_compile(
         names: *const u8, names_len: usize, cells: *const u16, cells_len: usize, values: *const i64, values_len: usize,
         plan: *mut u16, plan_len: usize, steps: *mut usize,

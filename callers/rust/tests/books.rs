@@ -5,6 +5,7 @@ use std::path::PathBuf;
 
 const B: &[u8] = include_bytes!("../../../examples/book-b.book");
 const SPLITTERS: &[u8] = include_bytes!("../../../examples/splitters.book");
+const SPARES: &[u8] = include_bytes!("../../../examples/spares.book");
 
 /// every example: its name, its bytes, its report
 fn examples() -> Vec<(String, Vec<u8>, String)> {
@@ -104,6 +105,35 @@ fn rounds_among_the_splitters() {
 }
 
 #[test]
+fn the_nearest_spare_of_a_dead_lamp() {
+    let mut tables = Tables::new();
+    let counts = tables.read(SPARES).unwrap();
+    let before = tables.clone();
+    let [spare, covered] = ["spare", "covered"].map(|name| tables.shape(name).unwrap());
+    let nearest = |name, path| {
+        let told = tables.nearest(tables.node(name).unwrap(), path, spare).unwrap();
+        told.map(|spare| (spare.hops, tables.node_name(spare.node).unwrap()))
+    };
+    // path entries 0 and 1 are state, lights; 2 to 6 are next, next, (inv next), (alt next (inv next)) and the star of that
+    assert_eq!(nearest("lamp-4", 5), Some((2, "lamp-6")), "lamp-5 is nearer and dead, lamp-1 is farther off");
+    assert_eq!([nearest("lamp-4", 3), nearest("lamp-4", 4)], [Some((2, "lamp-6")), Some((3, "lamp-1"))]);
+    assert_eq!([nearest("lamp-2", 2), nearest("lamp-2", 5)], [Some((4, "lamp-6")), Some((1, "lamp-1"))]);
+    assert_eq!([nearest("lamp-1", 5), nearest("lamp-7", 2), nearest("lamp-8", 5)], [Some((0, "lamp-1")), None, None]);
+    assert_eq!(nearest("lamp-4", 6), Some((1, "lamp-1")), "its star once leads to every lamp of the run");
+    for node in 0..counts.nodes {
+        let found = tables.nearest(node, 5, spare).unwrap().is_some();
+        let told = tables.verdict(0, node, covered, &mut Tallies::new());
+        assert_eq!(told, Ok(found), "node {node}: there is a spare where its star has one");
+    }
+    let (nodes, most) = (counts.nodes, usize::MAX);
+    for (node, path, shape) in [(nodes, 0, 0), (0, 7, 0), (0, 0, 3), (nodes, 7, 3), (most, 0, 0), (0, most, 0), (0, 0, most)] {
+        let told = tables.nearest(node, path, shape);
+        assert_eq!(told, Err(refused(Ground::Absent, 0)), "node {node}, path entry {path}, shape {shape}");
+    }
+    assert_eq!(tables, before);
+}
+
+#[test]
 fn each_refusal_of_a_book_has_its_ground_and_line() {
     let deep = format!("(shape s {}true{})\n", "(not ".repeat(32), ")".repeat(32));
     let full: String = (0..1025).map(|k| format!("(thing n{k})\n")).collect();
@@ -134,6 +164,7 @@ fn short_buffers_and_strange_tables_are_refused() {
     assert_eq!(empty.clone().read(B).map(|_| ()), short);
     assert_eq!(empty.verdict(0, 0, 0, &mut Tallies::new()).map(|_| ()), short);
     assert_eq!(empty.rounds(0, 0).map(|_| ()), short);
+    assert_eq!(empty.nearest(0, 0, 0).map(|_| ()), short);
     let mut tables = Tables::new();
     tables.read(B).unwrap();
     assert_eq!(tables.compile(&mut Plan { cells: vec![] }).map(|_| ()), short);
@@ -146,6 +177,7 @@ fn short_buffers_and_strange_tables_are_refused() {
     tables.cells[0] = 1025;
     assert_eq!(tables.compile(&mut plan).map(|_| ()), strange);
     assert_eq!(tables.rounds(0, 9).map(|_| ()), strange, "9 comes before 10");
+    assert_eq!(tables.nearest(0, 0, 9).map(|_| ()), strange, "9 comes before 10");
     tables.cells[0] = 4;
     tables.compile(&mut plan).unwrap();
     tables.run(&plan, &mut work).unwrap();

@@ -53,6 +53,23 @@ pub fn cases(text: &str) -> (Input, Vec<Case<'_>>) {
     (common, cases)
 }
 
+/// Each title of a text, and what is told at its lines `ask`; the other lines store.
+pub fn asked(text: &str, ask: impl Fn(&mut Input, &Line) -> String) -> String {
+    let (empty, parts) = cases(text);
+    let mut written = String::new();
+    for part in parts {
+        written += &format!("- {}\n", part.title);
+        let mut input = empty.clone();
+        for line in &part.lines {
+            match line.word {
+                "ask" => written += &ask(&mut input, line),
+                _ => input.store(line),
+            }
+        }
+    }
+    written
+}
+
 /// Tables and a plan, both with places past what they must have, which are not zero; and how much of them is lent.
 #[derive(Clone)]
 pub struct Input {

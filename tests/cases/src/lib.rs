@@ -1,8 +1,8 @@
 //! Cases by hand for the proved library: `data/SUBJECT.txt` has them, `data/SUBJECT.out` what they must write. The questions of
 //! `tests/asks` have each a file of their own.
 //!
-//! The texts of `verdict`, `rounds`, `plan` and `runner` give tables and a plan line by line: a word, numbers (0 where one is
-//! left out), and what they are. The codes are those of docs/LAYOUT.md.
+//! The texts of `verdict`, `rounds`, `nearest`, `plan` and `runner` give tables and a plan line by line: a word, numbers (0 where
+//! one is left out), and what they are. The codes are those of docs/LAYOUT.md.
 //!
 //! | Line | Meaning |
 //! |---|---|
@@ -17,7 +17,7 @@ mod compare;
 mod input;
 
 pub use compare::{compare, compare_file};
-pub use input::{cases, column, places, Case, Input, Line};
+pub use input::{asked, cases, column, places, Case, Input, Line};
 
 /// A file of `data`.
 pub fn bytes(file: &str) -> Vec<u8> {

@@ -4,6 +4,7 @@
 //! |---|---|
 //! | `verdict NODE SHAPE`, by console 0 | `yes`, `no` or `refused N` |
 //! | `rounds NODE PATHENTRY` | the number, or `refused N` |
+//! | `nearest NODE PATHENTRY SHAPE` | `at HOPS NODE`, `no spare` or `refused N` |
 //! | `session`, then lines `CONSOLE NODE SHAPE` | such a line for each; then `tallies T0 .. T7` |
 //!
 //! A session begins with eight zeros, or with what a line `from T0 .. T7` says.
@@ -38,6 +39,17 @@ fn rounds(tables: &Tables, words: &str) -> String {
     tables.rounds(node, path).map_or_else(refused, |rounds| format!("{rounds}\n"))
 }
 
+/// The answer to `NODE PATHENTRY SHAPE`.
+fn nearest(tables: &Tables, words: &str) -> String {
+    let question: Vec<usize> = numbers(words);
+    let [node, path, shape] = question[..] else { panic!("{words:?} is no question") };
+    match tables.nearest(node, path, shape) {
+        Ok(Some(spare)) => format!("at {} {}\n", spare.hops, spare.node),
+        Ok(None) => "no spare\n".to_owned(),
+        Err(why) => refused(why),
+    }
+}
+
 /// Direct questions, one after the other; the tallies are handed on.
 fn session(tables: &Tables, lines: &[&str]) -> String {
     let (mut written, mut tallies) = (String::new(), Tallies::new());
@@ -59,6 +71,7 @@ fn answer(ask: &Path) -> String {
     match lines[0].split_once(' ').unwrap_or((lines[0], "")) {
         ("session", "") => session(&tables, &lines[1..]),
         ("rounds", question) => rounds(&tables, question),
+        ("nearest", question) => nearest(&tables, question),
         ("verdict", question) => verdict(&tables, &format!("0 {question}"), &mut Tallies::new()),
         _ => panic!("{}: what is {:?}?", ask.display(), lines[0]),
     }

@@ -18,24 +18,6 @@ fn ask(input: &mut Input, line: &Line) -> String {
     format!("{}: {}\n", line.text, told(input, node, path))
 }
 
-/// The cases of `rounds.txt`.
-fn small() -> String {
-    let text = cases::text("rounds.txt");
-    let (empty, parts) = cases::cases(&text);
-    let mut written = String::new();
-    for part in parts {
-        written += &format!("- {}\n", part.title);
-        let mut input = empty.clone();
-        for line in &part.lines {
-            match line.word {
-                "ask" => written += &ask(&mut input, line),
-                _ => input.store(line),
-            }
-        }
-    }
-    written
-}
-
 /// A ring of so many nodes by one link, and what is told of the link from the last of them.
 fn ring(nodes: usize) -> String {
     let mut input = Input::new();
@@ -51,5 +33,5 @@ fn ring(nodes: usize) -> String {
 #[test]
 fn rounds_are_as_the_definitions_say() {
     let rings: String = [1, 2, 3, 63, 64, 65, 127, 128, 129, 1023, 1024].map(ring).concat();
-    cases::compare_file("rounds", &(small() + "- rings\n" + &rings));
+    cases::compare_file("rounds", &(cases::asked(&cases::text("rounds.txt"), ask) + "- rings\n" + &rings));
 }

@@ -1,8 +1,9 @@
 //! Tables made to be slow, of 1,024 nodes and up to 4,096 facts, and what the verdict says of one node of each; their plans are
-//! run too. Then how far searches along such paths go. All of it with the stack that the wrapper says is enough.
+//! run too. Then how far searches along such paths go, and the nearest spares along them. All of it with the stack that the
+//! wrapper says is enough.
 
 use cases::{Input, Line};
-use melivanoup::{Plan, Tallies, Work, STACK};
+use melivanoup::{Plan, Spare, Tallies, Work, STACK};
 use std::time::{Duration, Instant};
 
 /// A guard against what does not end, and no figure of speed: each takes well under a second.
@@ -248,19 +249,117 @@ fn searches() -> String {
     far.iter().map(|&(title, graph, make, each)| search(title, graph(), make, each)).collect()
 }
 
-/// The longest chain. The best of some calls, since other work may hold one up.
+/// A node, to be searched for along a path.
+fn far(made: &mut Input, path: Make, node: usize) -> usize {
+    path(made);
+    let entry = form(made, 1, node, 0);
+    shape(made, entry)
+}
+
+/// A blank node, of which there is none, to be searched for along a path.
+fn none(made: &mut Input, path: Make) -> usize {
+    path(made);
+    let entry = form(made, 6, 1, 0);
+    shape(made, entry)
+}
+
+/// What does not meet a shape.
+fn broken(made: &mut Input, make: Make) -> usize {
+    let met = make(made);
+    let part = form(made, 2, met, 0);
+    let entry = form(made, 5, part, 0);
+    shape(made, entry)
+}
+
+fn one_link(made: &mut Input) -> usize {
+    link(made, 0)
+}
+
+fn either_way(made: &mut Input) -> usize {
+    let first = one_link(made);
+    let back = add(made, format!("path 1 {first}"));
+    add(made, format!("path 3 {first} {back}"))
+}
+
+/// A node from which a repeat of the link leads to all but one, to be searched for along the link: a ring has none.
+fn all_but_one(made: &mut Input) -> usize {
+    let first = one_link(made);
+    let star = add(made, format!("path 4 {first}"));
+    let shape = count(made, star, 1023);
+    one_link(made);
+    shape
+}
+
+/// From node 0 around a ring, along the last path entry.
+const AROUND: [(&str, Make, Option<Spare>); 4] = [
+    ("nearest around a ring, before the start", |made| far(made, one_link, 1023), Some(Spare { hops: 1023, node: 1023 })),
+    ("nearest around a ring, either way", |made| far(made, either_way, 512), Some(Spare { hops: 512, node: 512 })),
+    ("nearest around a ring, none", |made| none(made, one_link), None),
+    ("nearest around a ring, none by its star", all_but_one, None),
+];
+
+/// The nearest spare from node 0, along the last path entry.
+fn hunt(title: &str, mut made: Input, make: Make) -> String {
+    let shape = make(&mut made);
+    let tables = made.tables();
+    let (told, late) = timed("told", || tables.nearest(0, tables.paths() - 1, shape));
+    match told {
+        Ok(Some(spare)) => format!("{title}: at {} {}{late}\n", spare.hops, spare.node),
+        Ok(None) => format!("{title}: no spare{late}\n"),
+        Err(why) => format!("{title}: {why}\n"),
+    }
+}
+
+/// Spares that are far, or none; and shapes and paths with much in them.
+fn hunts() -> String {
+    let slow: [(&str, fn() -> Input, Make); 12] = [
+        ("nearest along a chain", one_chain, |made| far(made, one_link, 1023)),
+        ("nearest along stars in stars", one_chain, |made| far(made, |made| nest(made, BOOK_LEVELS, |_| 0), 1023)),
+        ("nearest that breaks stars in stars, each with a chain of its own", chains, |made| broken(made, star_in_star)),
+        ("nearest that breaks stars of stars", dense, |made| broken(made, star_of_star)),
+        ("nearest that breaks stars after stars", dense, |made| broken(made, star_then_star)),
+        ("nearest that breaks seqs in seqs", dense, |made| broken(made, seq_in_seq)),
+        ("nearest that breaks all in all", dense, |made| broken(made, |made| all_in_all(made, everywhere))),
+        ("nearest that breaks all in all along stars", dense, |made| broken(made, |made| all_in_all(made, star))),
+        ("nearest that breaks shapes that use the one before twice", dense, |made| broken(made, twice)),
+        ("nearest that meets equal at every node", dense, |made| many(made, everywhere, 15, 1)),
+        ("nearest that breaks lesseq of a star at every node", dense, |made| broken(made, |made| many(made, star, 19, 1))),
+        ("nearest that breaks onelang of a star at sixteen nodes", ring, |made| broken(made, at_sixteen)),
+    ];
+    let around = AROUND.iter().map(|&(title, make, _)| hunt(title, ring(), make));
+    around.chain(slow.iter().map(|&(title, graph, make)| hunt(title, graph(), make))).collect()
+}
+
+/// The best of some calls, since other work may hold one up.
+fn best(call: impl Fn()) -> Duration {
+    let took = (0..20).map(|_| {
+        let begun = Instant::now();
+        call();
+        begun.elapsed()
+    });
+    took.min().unwrap()
+}
+
+/// The longest chain.
 #[test]
 fn a_chain_is_searched_in_ten_milliseconds() {
     let mut made = one_chain();
     let path = link(&mut made, 0);
     let tables = made.tables();
-    let best = (0..20).map(|_| {
-        let begun = Instant::now();
-        assert_eq!(tables.rounds(0, path), Ok(1023));
-        begun.elapsed()
-    });
-    let best = best.min().unwrap();
+    let best = best(|| assert_eq!(tables.rounds(0, path), Ok(1023)));
     assert!(best < Duration::from_millis(10), "{best:?}");
+}
+
+/// The longest ring: a spare on its far side, and none.
+#[test]
+fn a_spare_is_found_in_twenty_milliseconds() {
+    for (title, make, spare) in AROUND {
+        let mut made = ring();
+        let shape = make(&mut made);
+        let tables = made.tables();
+        let best = best(|| assert_eq!(tables.nearest(0, tables.paths() - 1, shape), Ok(spare), "{title}"));
+        assert!(best < Duration::from_millis(20), "{title}: {best:?}");
+    }
 }
 
 #[test]
@@ -282,7 +381,8 @@ fn the_slowest_tables_are_answered_in_time() {
         ("seqs in seqs", dense, seq_in_seq),
         ("onelang of a star at sixteen nodes", ring, at_sixteen),
     ];
-    let all = move || slow.iter().map(|&(title, graph, make)| ask(title, graph(), make)).collect::<String>() + &searches();
+    let asks = move || slow.iter().map(|&(title, graph, make)| ask(title, graph(), make)).collect::<String>();
+    let all = move || asks() + &searches() + &hunts();
     // the code here takes a little of the stack too
     let run = std::thread::Builder::new().stack_size(STACK + (256 << 10)).spawn(all).expect("a thread");
     cases::compare_file("speed", &run.join().expect("an end"));

@@ -3,11 +3,12 @@
 use crate::library::{self, Lent, Room};
 use crate::random::Random;
 use crate::{books, hostile};
+use reference::nearest::{self, Spare};
 use reference::plan::{self, Plan, PLAN_CELLS};
 use reference::set::Set;
 use reference::tables::{self, Tables, CELLS, NAMES, VALUES};
 use reference::verdicts::{self, Question, TALLIES};
-use reference::{reader, rounds, Book};
+use reference::{reader, rounds, Book, Ends};
 use std::fmt::Debug;
 
 const WORK: usize = 8192;
@@ -265,9 +266,11 @@ impl Case<'_> {
     /// All operations on tables of any content.
     fn tables(&mut self, t: &Tables) -> Outcome {
         let book = tables::decode(t);
+        let (ends, met) = book.as_ref().map_or_else(Default::default, |book| (book.ends(), book.met()));
         self.compile(t, &book)?;
-        self.verdicts(t, &book)?;
-        self.rounds(t, &book)?;
+        self.verdicts(t, &book, &met)?;
+        self.rounds(t, &book, &ends)?;
+        self.nearest(t, &book, &ends, &met)?;
         self.report(t, &book)?;
         let Some(book) = book else {
             let cells = garbage(self.r, PLAN_CELLS);
@@ -306,16 +309,15 @@ impl Case<'_> {
     }
 
     /// Questions of all consoles, one after the other, the tallies handed on.
-    fn verdicts(&mut self, t: &Tables, book: &Option<Book>) -> Outcome {
+    fn verdicts(&mut self, t: &Tables, book: &Option<Book>, met: &[Set]) -> Outcome {
         let three = self.three(t);
-        let met = book.as_ref().map_or(Vec::new(), Book::met);
         let questions = self.questions(&three, book);
         let mut tallies: Vec<u32> = lend(self.r, TALLIES);
         tallies.iter_mut().for_each(|tally| *tally = self.r.pick(&[*tally, 0, 7, u32::MAX - 1, u32::MAX]));
         let mut after = tallies.clone();
         let before = three.clone();
         for &q in &questions {
-            let told = if three.enough() { verdicts::ask(book.as_ref(), &met, q, &mut after) } else { Err(8) };
+            let told = if three.enough() { verdicts::ask(book.as_ref(), met, q, &mut after) } else { Err(8) };
             let expected = told.map_or_else(|refusal| (refusal, 0), |conforms| (0, conforms as u32));
             let answer = library::verdict(three.lent(), q, &mut tallies);
             self.same(&format!("verdict on {q:?}: refusal, conforms"), answer, expected)?;
@@ -369,12 +371,11 @@ impl Case<'_> {
     }
 
     /// How far searches along paths go.
-    fn rounds(&mut self, t: &Tables, book: &Option<Book>) -> Outcome {
+    fn rounds(&mut self, t: &Tables, book: &Option<Book>, ends: &[Ends]) -> Outcome {
         let three = self.three(t);
-        let ends = book.as_ref().map_or(Vec::new(), Book::ends);
         let before = three.clone();
         for (node, path) in self.searches(&three, book) {
-            let told = if three.enough() { rounds::ask(book.as_ref(), &ends, node, path) } else { Err(8) };
+            let told = if three.enough() { rounds::ask(book.as_ref(), ends, node, path) } else { Err(8) };
             let expected = told.map_or_else(|refusal| (refusal, 0), |rounds| (0, rounds));
             let answer = library::rounds(three.lent(), node, path);
             self.same(&format!("rounds of path entry {path} from node {node}: refusal, rounds"), answer, expected)?;
@@ -396,6 +397,55 @@ impl Case<'_> {
         } else {
             asked.extend((0..20).map(|_| (self.some_node(nodes), self.r.below(paths))));
         }
+        asked
+    }
+
+    /// The nearest spares.
+    fn nearest(&mut self, t: &Tables, book: &Option<Book>, ends: &[Ends], met: &[Set]) -> Outcome {
+        let three = self.three(t);
+        let before = three.clone();
+        let ask = |[node, path, shape]: [usize; 3]| nearest::ask(book.as_ref(), ends, met, node, path, shape);
+        for asked in self.hunts(&three, book, ask) {
+            let told = if three.enough() { ask(asked) } else { Err(8) };
+            let expected = match told {
+                Err(refusal) => (refusal, 0, 0, 0),
+                Ok(None) => (0, 0, 0, 0),
+                Ok(Some(spare)) => (0, 1, spare.hops, spare.node),
+            };
+            let [node, path, shape] = asked;
+            let answer = library::nearest(three.lent(), node, path, shape);
+            let what = format!("nearest to node {node} along path entry {path} for shape {shape}: refusal, found, hops, spare");
+            self.same(&what, answer, expected)?;
+        }
+        self.same("nearest: the tables are as before", three == before, true)
+    }
+
+    /// Every node, path entry and shape, or some of many; and numbers that are not there, some of them there in their last 16
+    /// bits.
+    fn hunts(
+        &mut self, three: &Three, book: &Option<Book>, ask: impl Fn([usize; 3]) -> Result<Option<Spare>, u32>,
+    ) -> Vec<[usize; 3]> {
+        let all = book.as_ref().map_or([2; 3], |book| [book.nodes(), book.paths.len(), book.shapes.len()]);
+        let [nodes, paths, shapes] = all;
+        let any = [1024, 128, 64].map(|most| self.r.below(most));
+        let mut asked = vec![all, [nodes, 0, 0], [0, paths, 0], [0, 0, shapes], any];
+        if !three.enough() || all.contains(&0) {
+            return asked;
+        }
+        for k in 0..3 {
+            let mut far = all.map(|n| self.r.below(n));
+            far[k] = far[k].saturating_add(self.r.pick(&[all[k], 1 << 16, 1 << 32, usize::MAX]));
+            asked.push(far);
+        }
+        if all.iter().product::<usize>() <= 60 {
+            asked.extend((0..nodes).flat_map(|v| (0..paths).flat_map(move |e| (0..shapes).map(move |s| [v, e, s]))));
+            return asked;
+        }
+        let some = |_| [self.some_node(nodes), self.r.below(paths), self.r.below(shapes)];
+        asked.extend((0..10).map(some));
+        // most have a spare at hand, or none: of some, the one that has it farthest off
+        let hops = |asked: &[usize; 3]| ask(*asked).ok().flatten().map(|spare| spare.hops);
+        asked.extend((0..15).map(|_| (0..24).map(some).max_by_key(hops).unwrap()));
         asked
     }
 

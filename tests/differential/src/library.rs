@@ -23,6 +23,10 @@ unsafe extern "C" {
         names: *const u8, names_len: usize, cells: *const u16, cells_len: usize, values: *const i64, values_len: usize,
         node: usize, path: usize, rounds: *mut usize,
     ) -> u32;
+    fn melivanoup_nearest(
+        names: *const u8, names_len: usize, cells: *const u16, cells_len: usize, values: *const i64, values_len: usize,
+        node: usize, path: usize, shape: usize, found: *mut u32, hops: *mut usize, spare: *mut usize,
+    ) -> u32;
     fn melivanoup_compile(
         names: *const u8, names_len: usize, cells: *const u16, cells_len: usize, values: *const i64, values_len: usize,
         plan: *mut u16, plan_len: usize, steps: *mut usize,
@@ -92,6 +96,18 @@ pub fn rounds(t: Lent, node: usize, path: usize) -> (u32, usize) {
         )
     };
     (refusal, rounds)
+}
+
+/// the refusal, whether there is a spare, its hops and its node
+pub fn nearest(t: Lent, node: usize, path: usize, shape: usize) -> (u32, u32, usize, usize) {
+    let (mut found, mut hops, mut spare) = (BEFORE as u32, BEFORE, BEFORE);
+    let refusal = unsafe {
+        melivanoup_nearest(
+            t.names.as_ptr(), t.names.len(), t.cells.as_ptr(), t.cells.len(), t.values.as_ptr(), t.values.len(), node, path, shape,
+            &mut found, &mut hops, &mut spare,
+        )
+    };
+    (refusal, found, hops, spare)
 }
 
 /// the refusal and the number of steps

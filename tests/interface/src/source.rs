@@ -48,11 +48,12 @@ pub fn read(texts: &Sources, faults: &mut Vec<String>) -> Source {
 }
 
 /// Numbers that stand in definitions only: how many bytes a name takes, where a plan has its number of steps, what the verdict
-/// answers for a node that conforms, what stands for no refusal.
-const DEFINED: [(&str, &str, &str); 4] = [
+/// answers for a node that conforms and `nearest` for a spare, what stands for no refusal.
+const DEFINED: [(&str, &str, &str); 5] = [
     ("NAME", "nameBytes = ", ""),
     ("PLAN_STEPS", "stepCount ps = getD ps ", " 0"),
     ("CONFORMS", "oneIf b = cond b ", " 0"),
+    ("FOUND", "oneIf b = cond b ", " 0"),
     ("NONE", "  refusalNumber (value a) = ", ""),
 ];
 

@@ -201,7 +201,7 @@ fn sites(text: &str) -> Vec<Site> {
 fn change_functions(file: &Text) -> Vec<Change> {
     let mut planter = Planter::new(file);
     let found = sites(&file.text);
-    assert!(found.len() >= 8, "{}: {} functions", file.path, found.len());
+    assert!(found.len() >= 9, "{}: {} functions", file.path, found.len());
     for site in found {
         let whole = &file.text[site.whole.clone()];
         let more = if file.text[site.list.clone()].contains(':') { "more: usize" } else { ", size_t more" };
@@ -314,7 +314,7 @@ fn every_planted_change_is_reported() {
     let texts = Sources::read(&Path::new(env!("CARGO_MANIFEST_DIR")).join("../.."));
     assert!(compare(&texts).differences.is_empty(), "the tree itself has a difference, so no planted one would show");
     let named: usize = texts.wrapper.iter().map(|file| numbers(&file.text).len()).sum();
-    assert!(named >= 34 && named == numbers(&texts.header.text).len(), "{named} numbers in the wrapper");
+    assert!(named >= 35 && named == numbers(&texts.header.text).len(), "{named} numbers in the wrapper");
     let source: Vec<_> = texts.code.iter().chain(&texts.definitions).flat_map(|file| file.text.lines()).collect();
     for start in DEPENDED {
         assert!(source.iter().any(|line| line.starts_with(start)), "no line of the source begins with {start:?}");

@@ -1,6 +1,9 @@
 //! A second implementation of documents 01 and 02, written from the documents alone: simple, unproved, for comparison. Where
 //! cells stand in lent tables and plans is taken from docs/LAYOUT.md; nothing is taken from the project's code.
 
+#[cfg(test)]
+mod asked;
+pub mod nearest;
 pub mod plan;
 pub mod reader;
 pub mod rounds;
