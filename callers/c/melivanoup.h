@@ -41,7 +41,7 @@ extern "C" {
 /* The longest book, in bytes: one byte more is refused (1). */
 #define MELIVANOUP_BOOK 65536
 
-/* Measured, not proved: books need at most 4.3 MB, tables from elsewhere 17.1: 128 KB for each seq, star and plus that stands
+/* Measured, not proved: books need at most 4.5 MB, tables from elsewhere 17.2: 128 KB for each seq, star and plus that stands
  * inside another, of which a book has at most 30 and tables 127. Where there is less, the program ends at the guard page. */
 #define MELIVANOUP_STACK 17825792
 

@@ -49,7 +49,7 @@ pub mod sizes {
     pub const TALLIES: usize = 8;
 }
 
-/// The stack that a call may use, in bytes: measured, not proved. Books need at most 4.3 MB, tables from elsewhere 17.1: 128 KB for
+/// The stack that a call may use, in bytes: measured, not proved. Books need at most 4.5 MB, tables from elsewhere 17.2: 128 KB for
 /// each `seq`, `star` and `plus` that stands inside another, of which a book has at most 30 and tables 127. Where there is less, the
 /// program ends at the guard page: the code touches every page of a frame in turn.
 pub const STACK: usize = 17_825_792;

@@ -116,7 +116,7 @@ impl Tables {
     }
 
     /// The nearest spare: which node that meets a shape is fewest hops from a node, a hop being one repetition of a path entry,
-    /// all by number. The node itself is no hop away; of those that are equally near it is the one with the lowest number. None
+    /// all by number. 0 hops where the node itself meets the shape; of those that are equally near it is the one with the lowest number. None
     /// where no number of repetitions leads to a node that meets the shape.
     pub fn nearest(&self, node: usize, path: usize, shape: usize) -> Result<Option<Spare>, Refusal> {
         let (mut found, mut hops, mut spare) = (0, 0, 0);

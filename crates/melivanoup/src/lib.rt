@@ -157,7 +157,8 @@ pub extern "C" fn melivanoup_rounds(
     }
 }
 
-// The nearest spare from a node along a path entry: 1 where there is one, else 0; how many repetitions away it is, and its number.
+// Of the nodes that conform to a shape, the nearest to a node along a path entry: 1 where there is one, else 0; how many repetitions
+// away it is, and its number.
 #[no_mangle]
 pub extern "C" fn melivanoup_nearest(
     names: &[u8],

@@ -14,25 +14,24 @@ use Rattle.base.proofs.Bounded.{some-at, some-witness, some-ext}
 use Rattle.base.proofs.Least.{Next, next-found, next-ext, least-is, found-some}
 use Rattle.model.specs.Repeats.{times, upTo, star}
 use Rattle.model.specs.Rounds.{rounds}
-use Rattle.model.specs.Nearest.{Nearest, at, noSpare, spareWithin, anySpare, hops, lowest, nearest, IsNearest, Says}
+use Rattle.model.specs.Nearest.{Nearest, at, noSpare, found, spareWithin, anySpare, hops, lowest, nearest, IsNearest, Says}
 use Rattle.model.proofs.Repeats.{upTo-self, upTo-none, upTo-star, upTo-agree, upTo-times, times-upTo, star-iff}
 use Rattle.model.proofs.Rounds.{rounds-low, rounds-reach}
 
 module _ (r : ℕ → ℕ → Bool) (p : ℕ → Bool) (n v : ℕ) where
-  -- v leads to w by k repetitions or fewer, and w has p
-  abbrev pub found : ℕ → ℕ → Bool
-  found k w = upTo r n k v w && p w
+  abbrev near : ℕ → ℕ → Bool
+  near = found r p n v
 
-  found-both : (k w : ℕ) → found k w ≡ true → (upTo r n k v w ≡ true) × (p w ≡ true)
+  found-both : (k w : ℕ) → near k w ≡ true → (upTo r n k v w ≡ true) × (p w ≡ true)
   found-both k w e = (and-left (upTo r n k v w) (p w) e, and-right (upTo r n k v w) (p w) e)
 
   -- ---- within k repetitions
-  pub within-some : (k : ℕ) → spareWithin r p n v k ≡ some (found k) n
+  pub within-some : (k : ℕ) → spareWithin r p n v k ≡ some (near k) n
   unfolding spareWithin
   within-some k = refl
 
   pub within-at : (k w : ℕ) → w < n → upTo r n k v w ≡ true → p w ≡ true → spareWithin r p n v k ≡ true
-  within-at k w l e h = within-some k ∙ some-at (found k) n w l (and-both (upTo r n k v w) (p w) e h)
+  within-at k w l e h = within-some k ∙ some-at (near k) n w l (and-both (upTo r n k v w) (p w) e h)
 
   -- ---- the definition, piece by piece
   hops-next : Next (spareWithin r p n v) 0 n (hops r p n v)
@@ -43,7 +42,7 @@ module _ (r : ℕ → ℕ → Bool) (p : ℕ → Bool) (n v : ℕ) where
   unfolding hops
   hops-is k = least-is (spareWithin r p n v) n k
 
-  lowest-least : lowest r p n v ≡ least (found (hops r p n v)) n
+  lowest-least : lowest r p n v ≡ least (near (hops r p n v)) n
   unfolding lowest
   lowest-least = refl
 
@@ -58,7 +57,7 @@ module _ (r : ℕ → ℕ → Bool) (p : ℕ → Bool) (n v : ℕ) where
   module _ (l : v < n) where
     -- the rounds of the search are enough
     within-rounds : spareWithin r p n v (rounds r n v) ≡ anySpare r p n v
-    within-rounds = within-some (rounds r n v) ∙ some-ext (found (rounds r n v)) (λ w. star r n v w && p w) n (λ w lw. ap (λ (b : Bool). b && p w) (rounds-reach r n v l w lw))
+    within-rounds = within-some (rounds r n v) ∙ some-ext (near (rounds r n v)) (λ w. star r n v w && p w) n (λ w lw. ap (λ (b : Bool). b && p w) (rounds-reach r n v l w lw))
 
     any-at : (k w : ℕ) → w < n → upTo r n k v w ≡ true → p w ≡ true → anySpare r p n v ≡ true
     any-at k w lw e h = some-at (λ w. star r n v w && p w) n w lw (and-both (star r n v w) (p w) (upTo-star r n k v w l e) h)
@@ -73,16 +72,16 @@ module _ (r : ℕ → ℕ → Bool) (p : ℕ → Bool) (n v : ℕ) where
     hops-low s = omega (arith, within-few s (hops r p n v) (λ j h. hops-next .none j zero-le h), rounds-low r n v l)
 
     -- ---- no other answer is the nearest
-    pub nearest-found : (k w : ℕ) → ((j : ℕ) → j < k → spareWithin r p n v j ≡ false) → w < n → found k w ≡ true → ((u : ℕ) → u < w → found k u ≡ false) → nearest r p n v ≡ at k w
+    pub nearest-found : (k w : ℕ) → ((j : ℕ) → j < k → spareWithin r p n v j ≡ false) → w < n → near k w ≡ true → ((u : ℕ) → u < w → near k u ≡ false) → nearest r p n v ≡ at k w
     nearest-found k w none lw h low =
         let (e, q) = found-both k w h in
         let s : anySpare r p n v ≡ true = any-at k w lw e q in
         let fewest : hops r p n v ≡ k = hops-is k (omega (arith, within-few s k none, rounds-low r n v l)) none (within-at k w lw e q) in
-        nearest-some s ∙ ap₂ at fewest (lowest-least ∙ ap (λ (m : ℕ). least (found m) n) fewest ∙ least-is (found k) n w lw low h)
+        nearest-some s ∙ ap₂ at fewest (lowest-least ∙ ap (λ (m : ℕ). least (near m) n) fewest ∙ least-is (near k) n w lw low h)
 
     -- ---- and the definition's is
     -- by exactly so many repetitions
-    exactly : (k w : ℕ) → ((j : ℕ) → j < k → spareWithin r p n v j ≡ false) → w < n → found k w ≡ true → times r n k v w ≡ true
+    exactly : (k w : ℕ) → ((j : ℕ) → j < k → spareWithin r p n v j ≡ false) → w < n → near k w ≡ true → times r n k v w ≡ true
     exactly k w none lw h =
         let (e, q) = found-both k w h in
         let (m, lm, t) = upTo-times r n k v w e in
@@ -95,8 +94,8 @@ module _ (r : ℕ → ℕ → Bool) (p : ℕ → Bool) (n v : ℕ) where
         let k = hops r p n v in
         let w = lowest r p n v in
         let none : (j : ℕ) → j < k → spareWithin r p n v j ≡ false = λ j h. hops-next .none j zero-le h in
-        let next : Next (found k) 0 n w = subst (Next (found k) 0 n) (sym lowest-least) (next-found (found k) n 0 zero-le) in
-        let lw : w < n = ltb-true w n (found-some (found k) n lowest-least ∙ sym (within-some k) ∙ hops-next .hit (hops-low s)) in
+        let next : Next (near k) 0 n w = subst (Next (near k) 0 n) (sym lowest-least) (next-found (near k) n 0 zero-le) in
+        let lw : w < n = ltb-true w n (found-some (near k) n lowest-least ∙ sym (within-some k) ∙ hops-next .hit (hops-low s)) in
         record {
           inside = lw;
           spare = found-both k w (next .hit lw) .1;
@@ -112,7 +111,7 @@ module _ (r : ℕ → ℕ → Bool) (p : ℕ → Bool) (n v : ℕ) where
 
     none-nearer : (k w : ℕ) → IsNearest r p n v k w → (j : ℕ) → j < k → spareWithin r p n v j ≡ false
     none-nearer k w s j lj = never-true (spareWithin r p n v j) (λ e.
-        let (u, lu, h) = some-witness (found j) n (sym (within-some j) ∙ e) in
+        let (u, lu, h) = some-witness (near j) n (sym (within-some j) ∙ e) in
         let (m, lm, t) = upTo-times r n j v u (found-both j u h .0) in
         never-both (found-both j u h .1) (s .nearer m u (omega (arith, lm, lj)) lu t))
 
@@ -120,7 +119,7 @@ module _ (r : ℕ → ℕ → Bool) (p : ℕ → Bool) (n v : ℕ) where
     said-nearest (at k w) s = nearest-found k w
         (none-nearer k w s)
         (s .inside) (and-both (upTo r n k v w) (p w) (times-upTo r n k v w (s .away)) (s .spare))
-        (λ u lu. never-true (found k u) (λ h.
+        (λ u lu. never-true (near k u) (λ h.
         let (m, lm, t) = upTo-times r n k v u (found-both k u h .0) in
         never-both (found-both k u h .1) (bool-cases (λ b. eqb m k ≡ b → p u ≡ false) (eqb m k)
         (λ _ same. s .lower u lu (subst (λ (m : ℕ). times r n m v u ≡ true) (eqb-true m k same) t))
@@ -139,7 +138,7 @@ module _ (r : ℕ → ℕ → Bool) (p : ℕ → Bool) (n v : ℕ) where
 
     -- the start itself, by no repetition
     pub nearest-start : p v ≡ true → nearest r p n v ≡ at 0 v
-    nearest-start h = nearest-found 0 v (λ j lj. absurd (omega arith)) l (and-both (upTo r n 0 v v) (p v) (upTo-self r n 0 v) h) (λ u lu. never-true (found 0 u) (λ e. let q : v ≡ u = upTo-none r n v u (found-both 0 u e .0) in absurd (omega (arith, q, lu))))
+    nearest-start h = nearest-found 0 v (λ j lj. absurd (omega arith)) l (and-both (upTo r n 0 v v) (p v) (upTo-self r n 0 v) h) (λ u lu. never-true (near 0 u) (λ e. let q : v ≡ u = upTo-none r n v u (found-both 0 u e .0) in absurd (omega (arith, q, lu))))
 
     -- a spare is no farther than the rounds of the search
     pub nearest-few : (k w : ℕ) → IsNearest r p n v k w → k ≤ rounds r n v

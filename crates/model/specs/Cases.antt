@@ -209,7 +209,7 @@ searches =
     ∷ search (alternative feeds (inverse feeds)) 1 2
     ∷ []
 
--- document 02, Job 11: a path, a shape and a node, and the nearest node from there along the path that conforms to the shape
+-- document 02, Job 11: a path, a shape and a node, and of the nodes that conform to the shape the nearest to it along the path
 pub data Spare : Type 0 where
   spare : Path → Shape → ℕ → Nearest → Spare
 
@@ -238,6 +238,7 @@ spares =
     ∷ spare (sequence feeds feeds) (hasValue 2) 0 (at 1 2)
     ∷ spare (sequence feeds feeds) (hasValue 3) 0 noSpare
     ∷ spare (zeroOrMore feeds) (hasValue 3) 0 (at 1 3)
+    ∷ spare (oneOrMore feeds) (hasValue 3) 0 (at 1 3)
     ∷ spare (oneOrMore feeds) (hasValue 0) 0 (at 0 0)
     ∷ spare feeds (neg top) 0 noSpare
     ∷ []

@@ -12,26 +12,30 @@ use Rattle.model.specs.Shapes.{Shape, conforms, def}
 use Rattle.model.specs.Books.{Book, graphOf, schema}
 use Rattle.model.specs.PathNumbers.{bookPaths}
 
--- what a search for a spare finds: how many repetitions away the nearest is, and its number; or that there is none
+-- what a search finds: how many repetitions away the nearest is, and its number; or that there is none. Document 02: the spare, its hops,
+-- 'no spare'
 pub data Nearest : Type 0 where
   at : (hops node : ℕ) → Nearest
   noSpare : Nearest
 
 -- from v, of the nodes below n that have p
 module _ (r : ℕ → ℕ → Bool) (p : ℕ → Bool) (n v : ℕ) where
-  -- v leads to such a node by k repetitions or fewer
-  unfoldable pub spareWithin : ℕ → Bool
-  spareWithin k = some (λ w. upTo r n k v w && p w) n
+  -- v leads to w by k repetitions or fewer, and w has p
+  abbrev pub found : ℕ → ℕ → Bool
+  found k w = upTo r n k v w && p w
 
-  -- the fewest repetitions: the least such number. Where there is one, one is below n (`hops-low`, proofs/Nearest)
+  unfoldable pub spareWithin : ℕ → Bool
+  spareWithin k = some (found k) n
+
+  -- the fewest repetitions that lead to a node that has p. If any number of them does, one below n does (`hops-low`, proofs/Nearest)
   unfoldable pub hops : ℕ
   hops = least spareWithin n
 
-  -- the lowest of the nodes that they lead to
+  -- the lowest of these nodes. None is nearer, so they are exactly so many repetitions away (`IsNearest`)
   unfoldable pub lowest : ℕ
-  lowest = least (λ w. upTo r n hops v w && p w) n
+  lowest = least (found hops) n
 
-  -- v leads to such a node by some number of repetitions
+  -- some number of repetitions leads to a node that has p
   abbrev pub anySpare : Bool
   anySpare = some (λ w. star r n v w && p w) n
 
@@ -47,12 +51,12 @@ module _ (r : ℕ → ℕ → Bool) (p : ℕ → Bool) (n v : ℕ) where
     pub nearer : (k w : ℕ) → k < hops → w < n → times r n k v w ≡ true → p w ≡ false
     pub lower : (w : ℕ) → w < node → times r n hops v w ≡ true → p w ≡ false
 
-  -- and none has p of those that `star` leads to
+  -- what an answer says: `at`, that this is the nearest; `noSpare`, that no node has p that `star` leads to
   abbrev pub Says : Nearest → Type 0
   Says (at hops node) = IsNearest hops node
   Says noSpare = (w : ℕ) → w < n → star r n v w ≡ true → p w ≡ false
 
--- the nearest node from v along a path that conforms to a shape
+-- of the nodes that conform to a shape, the nearest to v along a path
 abbrev pub nearestOf : Graph → Path → Shape → ℕ → Nearest
 nearestOf g e φ v = nearest (ends (g .nodes) (g .triples) e) (conforms g φ) (g .nodes) v
 

@@ -15,7 +15,7 @@ use Rattle.model.specs.Shapes.{conforms}
 use Rattle.model.specs.Nearest.{Nearest, Says}
 use Rattle.model.proofs.Answers.{Checked, same-value, given-passed}
 use Rattle.model.proofs.Rounds.{rounds-low}
-use Rattle.model.proofs.Nearest.{nearest-says, nearest-few}
+use Rattle.model.proofs.Nearest.{nearest-says, nearest-iff, nearest-few}
 use Rattle.tables.specs.Layout.{cellCount, valueCount, nodeCount, pathCount, shapeCount, rootAt}
 use Rattle.tables.specs.Decode.{triplesAt, pathAt, graphAt, shapeAt}
 use Rattle.tables.specs.WellFormed.{wellFormed}
@@ -43,6 +43,7 @@ module _ (cs : List ℕ) (vs : List ℤ) (node path shape : ℕ) where
       let says = nearest-says r p n node l in
       record {
         says = says;
+        only = λ y s. sym (nearest-iff r p n node l y .1 s);
         few = λ k w e. let few = nearest-few r p n node l k w (subst (λ (x : Nearest). Says r p n node x) e says) in (few, omega (arith, few, rounds-low r n node l, sound cs ok .nodes));
       }
 

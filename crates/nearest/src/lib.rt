@@ -86,7 +86,7 @@ pub enum Spare {
     Refused(Refusal),
 }
 
-// The nearest node from v along path entry p that conforms to form entry e.
+// Of the nodes that conform to form entry e, the nearest to v along path entry p.
 fn spare_from(cells: &[u16], values: &[i64], v: NodeNo, p: usize, e: usize) -> Spare
     requires { ⌜ (cellCount ≤ length (now cells)) × (wellFormed (now cells) ≡ true) × (v .0 < nodeCount (now cells)) × (p < pathCount (now cells)) × (e < formCount (now cells)) ⌝ }
     ensures { λ r. ⌜ answerOf r ≡ value (nearestTo (now (cells .entry)) (now (values .entry)) (v .0) p e) ⌝ }

@@ -3,7 +3,8 @@
 // Operations: rounds. It answers for any tables and numbers, with refusal 8, 9 or 10 where there is ground for one.
 //
 // The ends of the path from every node are found once, as rows, whatever is nested in it; then the search goes breadth first: each
-// round looks at the rows of those nodes alone that the round before was the first to reach. So no row is looked at twice.
+// round looks at the rows of those nodes alone that the round before was the first to reach. So no row is looked at twice. The
+// rows and the search serve the crate nearest too.
 use closure::take_row;
 use model::NodeNo;
 use model::Refusal;

@@ -1,5 +1,5 @@
--- Document 02, Job 11, end to end: after read has accepted the bytes as the book b, the nearest spare that the operation gives on the tables is
--- the nearest of b's nodes from b's node along b's path that conforms to b's shape; a node, path or shape that b does not have gets 10.
+-- Document 02, Job 11, end to end: after read has accepted the bytes as the book b, the answer that the operation gives on the tables is,
+-- of b's nodes that conform to b's shape, the nearest to b's node along b's path; a node, path or shape that b does not have gets 10.
 use Prim.Native.Nat.{ℕ, _<_}
 use mathlib.Core.Path.{_≡_, refl, sym, ap, subst, _∙_}
 use mathlib.Core.List.{List}

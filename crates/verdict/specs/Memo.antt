@@ -1,5 +1,5 @@
 -- What is kept while a verdict is found: a set of numbers, each a verdict on a form entry and a node. No promise of the
--- operation speaks of it.
+-- operation speaks of it; `Decided` is what is promised of the nodes of a set to the crates above.
 use Prim.Native.Nat.{ℕ, _+_, _*_, _<_}
 use mathlib.Core.List.{List}
 use mathlib.Core.Bool.{Bool, true, false, _||_}

@@ -6,6 +6,7 @@
 // No pair of a form entry and a node is decided twice: settle calls itself on entries before its own, for sets of nodes, and
 // what is known is kept. Few nodes are decided one by one, each from its own ends; many from the ends of all nodes at once. Of
 // entry e, the nodes that conform stand from word 32 * e of the memo on, and those that do not from word 32 * e + 16 on.
+// For the crates above: conforming_among, the nodes of a set that conform to an entry.
 use base::pick;
 use conditions::insert_if;
 use conditions::test_holds;

@@ -46,7 +46,7 @@ mod tests {
     use crate::asked::{asked, distances};
 
     /// Every question about a book, its spare and the first of all nodes that meet the shape. Gives how many spares there are by
-    /// hops: none, one, more; and how often there is no spare.
+    /// hops: 0, 1, 2 or more; and how often there is no spare.
     fn hold_against_distances(book: &Book) -> [usize; 4] {
         let (ends, met) = (book.ends(), book.met());
         let mut counts = [0; 4];
