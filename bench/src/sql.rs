@@ -93,12 +93,23 @@ impl Query<'_> {
     }
 
     fn target(&mut self, target: &Target) -> String {
-        self.nodes(match target {
-            Target::Node(c) => format!("SELECT {c}"),
-            Target::Subjects(p) => format!("SELECT DISTINCT Subject FROM Triples WHERE Predicate = {p}"),
-            Target::Objects(p) => format!("SELECT DISTINCT Object FROM Triples WHERE Predicate = {p}"),
-            Target::Class(c) => format!("SELECT Subject FROM Triples WHERE Predicate = 0 AND Object = {c}"),
-        })
+        let sql = match (target, self.book.under()) {
+            (Target::Node(c), _) => format!("SELECT {c}"),
+            (Target::Subjects(p), _) => format!("SELECT DISTINCT Subject FROM Triples WHERE Predicate = {p}"),
+            (Target::Objects(p), _) => format!("SELECT DISTINCT Object FROM Triples WHERE Predicate = {p}"),
+            (Target::Class(c), None) => format!("SELECT Subject FROM Triples WHERE Predicate = 0 AND Object = {c}"),
+            (Target::Class(c), Some(under)) => {
+                let kinds = self.kinds(*c, under);
+                format!("SELECT DISTINCT Subject FROM {kinds} JOIN Triples ON Predicate = 0 AND Object = Node")
+            }
+        };
+        self.nodes(sql)
+    }
+
+    /// a class, and the classes from which facts by `under` lead to it: a part that names itself
+    fn kinds(&mut self, class: usize, under: usize) -> String {
+        let all = self.next();
+        self.nodes(format!("SELECT {class} UNION SELECT Subject FROM {all} JOIN Triples ON Predicate = {under} AND Object = Node"))
     }
 
     /// the pairs of a link: from s to o

@@ -7,7 +7,7 @@ use reference::reader::{LANGS, LINKS, NODES, TYPES};
 use reference::{Book, End, Form, Path, Target, Term};
 
 const PREFIXES: &str = "@prefix sh: <http://www.w3.org/ns/shacl#> .\n@prefix xsd: <http://www.w3.org/2001/XMLSchema#> .\n\
-    @prefix rdf: <http://www.w3.org/1999/02/22-rdf-syntax-ns#> .\n";
+    @prefix rdf: <http://www.w3.org/1999/02/22-rdf-syntax-ns#> .\n@prefix rdfs: <http://www.w3.org/2000/01/rdf-schema#> .\n";
 
 const XSD: [&str; 4] = ["integer", "decimal", "long", "int"];
 
@@ -45,7 +45,11 @@ fn lang(book: &Book, l: usize) -> String {
 }
 
 fn link(book: &Book, p: usize) -> String {
-    if p == 0 { "rdf:type".into() } else { format!("<urn:l:{}>", name(book, LINKS, p)) }
+    match p {
+        0 => "rdf:type".into(),
+        _ if book.under() == Some(p) => "rdfs:subClassOf".into(),
+        _ => format!("<urn:l:{}>", name(book, LINKS, p)),
+    }
 }
 
 pub fn data(book: &Book) -> String {

@@ -117,7 +117,8 @@ uint32_t melivanoup_nearest(const uint8_t *names, size_t names_len, const uint16
 uint32_t melivanoup_compile(const uint8_t *names, size_t names_len, const uint16_t *cells, size_t cells_len,
                             const int64_t *values, size_t values_len, uint16_t *plan, size_t plan_len, size_t *steps);
 
-/* The set of each step, node n at bit n mod 64 of word 16 * step + n div 64; words past the last step stay. Refused: 8, 9. */
+/* The set of each step, node n at bit n mod 64 of word 16 * step + n div 64; words past the last step stay. Which classes lie
+ * under which goes by the link named `under`; where several links have that name, by the lowest. Refused: 8, 9. */
 uint32_t melivanoup_run(const uint8_t *names, size_t names_len, const uint16_t *cells, size_t cells_len,
                         const int64_t *values, size_t values_len, const uint16_t *plan, size_t plan_len, uint64_t *work,
                         size_t work_len);

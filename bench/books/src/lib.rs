@@ -1,5 +1,6 @@
 //! The books that are timed, made from fixed seeds: the same bytes on every machine.
 
+mod kinds;
 mod repeats;
 
 /// splitmix64
@@ -42,12 +43,14 @@ pub fn timed() -> Vec<Book> {
         ("trees", repeats::trees()),
         ("cable", repeats::run()),
         ("ring", repeats::ring()),
+        ("kinds", kinds::chain()),
     ]
 }
 
-/// Books with repeats, made to be slow: the proved program alone is timed on each.
+/// Books with repeats or with many classes, made to be slow: the proved program alone is timed on each.
 pub fn slow() -> Vec<Book> {
-    repeats::slow()
+    let kinds = [("kinds", kinds::chain()), ("kinds-ring", kinds::ring())];
+    repeats::slow().into_iter().chain(kinds).collect()
 }
 
 // ---- rigs: parts, links between parts, links to numbers, words and texts; rules with conditions of every form

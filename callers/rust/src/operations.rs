@@ -145,7 +145,8 @@ impl Tables {
         Ok(steps)
     }
 
-    /// Fills the set of each step of a plan.
+    /// Fills the set of each step of a plan. Which classes lie under which goes by the link named `under`; where several links have
+    /// that name, by the lowest.
     pub fn run(&self, plan: &Plan, work: &mut Work) -> Result<(), Refusal> {
         // SAFETY: as in `read`.
         let number = unsafe {

@@ -6,6 +6,7 @@ use std::path::PathBuf;
 const B: &[u8] = include_bytes!("../../../examples/book-b.book");
 const SPLITTERS: &[u8] = include_bytes!("../../../examples/splitters.book");
 const SPARES: &[u8] = include_bytes!("../../../examples/spares.book");
+const KINDS: &[u8] = include_bytes!("../../../examples/kinds.book");
 
 /// every example: its name, its bytes, its report
 fn examples() -> Vec<(String, Vec<u8>, String)> {
@@ -131,6 +132,29 @@ fn the_nearest_spare_of_a_dead_lamp() {
         assert_eq!(told, Err(refused(Ground::Absent, 0)), "node {node}, path entry {path}, shape {shape}");
     }
     assert_eq!(tables, before);
+}
+
+/// The names of the nodes that each rule lists.
+fn lists(tables: &Tables) -> Vec<Vec<&str>> {
+    let (mut plan, mut work) = (Plan::new(), Work::new());
+    tables.compile(&mut plan).unwrap();
+    tables.run(&plan, &mut work).unwrap();
+    let names = |list: Vec<u16>| list.iter().map(|&v| tables.node_name(v.into()).unwrap()).collect();
+    (0..tables.counts().rules).map(|r| names(tables.list(&plan, &work, r).unwrap())).collect()
+}
+
+#[test]
+fn a_rule_on_projectors_reaches_lasers() {
+    // where the name of link 1 stands; docs/LAYOUT.md has where those of the links begin
+    const UNDER: usize = 32_768 + 32;
+    let mut tables = Tables::new();
+    tables.read(KINDS).unwrap();
+    assert_eq!(tables.names[UNDER..UNDER + 6], *b"under\0");
+    assert_eq!(lists(&tables), [["rear"], ["right"], ["dome"]]);
+    tables.names[UNDER + 6] = b'x';
+    assert_eq!(lists(&tables), [["rear"], ["right"], ["dome"]], "a name ends at its first zero");
+    tables.names[UNDER + 5] = b'x';
+    assert_eq!(lists(&tables), [vec![], vec!["right"], vec![]], "without the link, by `a` alone");
 }
 
 #[test]

@@ -1,13 +1,15 @@
 -- The least number that has a property: what the definition finds, and how a search comes to it.
 use Prim.Native.Nat.{ℕ, zero, suc, _+_, _-_, _≤_, _<_, zero-le}
 use mathlib.Core.Bool.{Bool, true, false, not, cond}
+use mathlib.Core.Logic.{_↔_}
+use mathlib.Core.Option.{Option, Option·some-injective, Option·some-ne-none, Option·none-ne-some}
 use mathlib.Core.Path.{_≡_, refl, sym, ap, ap₂, _∙_, subst}
 use native.Mathlib.Nat.{zero-add, add-zero, add-suc, suc-add}
 use native.Mathlib.Omega.{arith}
 use lib.Dec.{eqb, ltb}
-use borrow.Author.Tests.{eq-eqb, eqb-true, eqb-false, ltb-true, ltb-false, not-true}
+use borrow.Author.Tests.{eq-eqb, eqb-true, eqb-false, ltb-true, ltb-false, lt-ltb, le-ltb, not-true}
 use Rattle.base.specs.Bounded.{some, every}
-use Rattle.base.specs.Least.{nextOf, nextFrom, least}
+use Rattle.base.specs.Least.{nextOf, nextFrom, least, leastOf, IsLeast}
 use Rattle.base.proofs.Bools.{bool-cases, same-test}
 use Rattle.base.proofs.Bounded.{every-at, every-all, some-at, some-ext, some-none}
 
@@ -24,7 +26,7 @@ module _ (p : ℕ → Bool) (n : ℕ) where
   next-end i l = ap (nextOf p n) (let e : n - i ≡ 0 = omega arith in e)
 
   -- the number i itself, or one after it
-  next-step : (i : ℕ) → i < n → nextFrom p i n ≡ cond (p i) i (nextFrom p (suc i) n)
+  pub next-step : (i : ℕ) → i < n → nextFrom p i n ≡ cond (p i) i (nextFrom p (suc i) n)
   unfolding nextFrom nextOf
   next-step i l =
       let e : n - i ≡ suc (n - suc i) = omega arith in
@@ -101,3 +103,42 @@ found-some p n {r} e = go (ltb r n) refl
     go : (b : Bool) → ltb r n ≡ b → b ≡ some p n
     go true q = sym (some-at p n r (ltb-true r n q) (next .hit (ltb-true r n q)))
     go false q = sym (some-ext p (λ i. false) n (λ i l. next .none i zero-le (let h : n ≤ r = ltb-false r n q in omega arith)) ∙ some-none n)
+
+-- ---- the least number, where there is one, in words of logic
+module _ (p : ℕ → Bool) (n : ℕ) where
+  found-of : least p n < n → leastOf p n ≡ Option.some (least p n)
+  unfolding leastOf
+  found-of l = ap (λ (b : Bool). cond b (Option.some (least p n)) Option.none) (lt-ltb (least p n) n l)
+
+  none-of : n ≤ least p n → leastOf p n ≡ Option.none
+  unfolding leastOf
+  none-of l = ap (λ (b : Bool). cond b (Option.some (least p n)) Option.none) (le-ltb (least p n) n l)
+
+  -- what a search found: a number below n, or n
+  pub least-of : {r : ℕ} → r ≡ least p n → leastOf p n ≡ cond (ltb r n) (Option.some r) Option.none
+  unfolding leastOf
+  least-of e = ap (λ (r : ℕ). cond (ltb r n) (Option.some r) Option.none) (sym e)
+
+  pub least-of-iff : (k : ℕ) → (leastOf p n ≡ Option.some k) ↔ IsLeast p n k
+  least-of-iff k = (there, λ h. let e : least p n ≡ k = least-is p n k (h .0) (h .2) (h .1) in found-of (subst (λ (r : ℕ). r < n) (sym e) (h .0)) ∙ ap (λ (r : ℕ). Option.some r) e)
+    where
+      x : Next p 0 n (least p n)
+      x = next-found p n 0 zero-le
+
+      there : leastOf p n ≡ Option.some k → IsLeast p n k
+      there e = bool-cases (λ b. ltb (least p n) n ≡ b → IsLeast p n k) (ltb (least p n) n)
+          (λ _ q. let l = ltb-true (least p n) n q in subst (λ (r : ℕ). IsLeast p n r) (Option·some-injective (least p n) k (sym (found-of l) ∙ e)) (l, x .hit l, λ j h. x .none j zero-le h))
+          (λ _ q. absurd (Option·none-ne-some k (sym (none-of (ltb-false (least p n) n q)) ∙ e))) refl
+
+  pub least-of-none : (leastOf p n ≡ Option.none) ↔ ((j : ℕ) → j < n → p j ≡ false)
+  least-of-none = (there, λ h. none-of (subst (λ (r : ℕ). n ≤ r) (sym (next-none p n n 0 zero-le (omega arith) (λ j l. ap p (zero-add j) ∙ h j l))) (omega arith)))
+    where
+      there : leastOf p n ≡ Option.none → (j : ℕ) → j < n → p j ≡ false
+      there e j l = bool-cases (λ b. ltb (least p n) n ≡ b → p j ≡ false) (ltb (least p n) n)
+          (λ _ q. absurd (Option·some-ne-none (least p n) (sym (found-of (ltb-true (least p n) n q)) ∙ e)))
+          (λ _ q. let h : n ≤ least p n = ltb-false (least p n) n q in next-found p n 0 zero-le .none j zero-le (omega arith)) refl
+
+-- the same numbers below n have the property: the same is the least
+pub least-of-ext : (p q : ℕ → Bool) (n : ℕ) → ((m : ℕ) → m < n → p m ≡ q m) → leastOf p n ≡ leastOf q n
+unfolding leastOf
+least-of-ext p q n h = ap (λ (r : ℕ). cond (ltb r n) (Option.some r) Option.none) (next-ext p q 0 n h)

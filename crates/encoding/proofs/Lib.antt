@@ -7,5 +7,6 @@ pub mod Schema
 pub mod PathNumbers
 pub mod WellFormed
 pub mod Names
+pub mod Stored
 pub mod Unused
 pub mod Empty

@@ -70,7 +70,7 @@ pool-place b types i l = at-flat 0 (nameColumns b) 2 i l
 pool-place b langs i l = at-flat 0 (nameColumns b) 3 i l
 pool-place b shapes i l = at-flat 0 (nameColumns b) 4 i l
 
-pool-inside : (p : Pool) → poolBase p + capacity p * nameBytes ≤ nameCount
+pub pool-inside : (p : Pool) → poolBase p + capacity p * nameBytes ≤ nameCount
 unfolding poolBase capacity
 pool-inside nodes = omega arith
 pool-inside links = omega arith

@@ -11,3 +11,4 @@ pub mod PathNumbers
 pub mod Rounds
 pub mod Nearest
 pub mod Sets
+pub mod Classes

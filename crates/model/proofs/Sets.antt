@@ -2,8 +2,9 @@
 -- whose triples are the same as sets have the same ends, conforming nodes, selected nodes and lists.
 use Prim.Native.Nat.{ℕ}
 use mathlib.Core.List.{List, _∷_, _++_, append-nil}
+use mathlib.Core.Option.{Option}
 use mathlib.Core.Bool.{Bool, true, not, _&&_, _||_}
-use mathlib.Core.Path.{_≡_, refl, sym, ap, _∙_}
+use mathlib.Core.Path.{_≡_, refl, sym, ap, ap₂, _∙_}
 use lib.Dec.{eqb}
 use lib.ListN.{length, getD}
 use borrow.Author.Tests.{eq-eqb, eqb-true}
@@ -11,12 +12,12 @@ use Rattle.base.specs.Bounded.{_⇒_, some, every, size, members}
 use Rattle.base.specs.Lists.{anyb, allb, member}
 use Rattle.base.proofs.Bools.{and-left, and-right, and-both}
 use Rattle.base.proofs.Lists.{anyb-again, anyb-set, allb-set}
-use Rattle.model.specs.Graph.{Term, iri, Triple, Graph, rdfType, hasTriple, SameTriples, SameGraph}
+use Rattle.model.specs.Graph.{Term, iri, Triple, Graph, hasTriple, SameTriples, SameGraph}
 use Rattle.model.specs.Repeats.{star, plus}
 use Rattle.model.specs.Paths.{Path, predicate, inverse, sequence, alternative, zeroOrMore, oneOrMore, End, self, along, ends, endsOf}
 use Rattle.model.specs.Shapes.{Shape, top, hasShape, hasValue, conj, disj, neg, test, count, forAll, equals, disjoint, closed, lessThan, lessThanEq, uniqueLang, satisfies, within, subset, noneShared, allPairs, less, lessEq, sameLang, conforms, def}
-use Rattle.model.specs.Rules.{Target, targetNode, subjectsOf, objectsOf, targetClass, Rule, selects, violates, violations}
-use Rattle.model.specs.Books.{Book, fact, newTerms, newTriples, newShapes, newRules, collect, graphOf, schemaFrom, schema, rules, conformsIn, listOf}
+use Rattle.model.specs.Rules.{Target, targetNode, subjectsOf, objectsOf, targetClass, Rule, classPath, selects, violates, violations}
+use Rattle.model.specs.Books.{Name, Book, builtIn, fact, newTerms, newTriples, newShapes, newRules, collect, graphOf, schemaFrom, schema, rules, conformsIn, listOf, links, names, newNames, subClassOf, numberIn, under}
 use Rattle.model.proofs.Lines.{collect-append, collect-none}
 use Rattle.model.proofs.Expansion.{schema-append}
 
@@ -89,18 +90,19 @@ module _ (g h : Graph) (same : SameGraph g h) where
   conforms-set (lessThanEq e p) v = λ i. allPairs (same .sameNodes i) (path-ends i e v) (path-ends i (predicate p) v) (λ b c. lessEq (same .sameTerms b i) (same .sameTerms c i))
   conforms-set (uniqueLang e) v = λ i. allPairs (same .sameNodes i) (path-ends i e v) (path-ends i e v) (λ b c. not (eqb b c) ⇒ not (sameLang (same .sameTerms b i) (same .sameTerms c i)))
 
-  -- 01: a TARGET selects the same nodes
-  pub selects-set : (t : Target) (v : ℕ) → selects g t v ≡ selects h t v
-  unfolding selects
-  selects-set (targetNode c) v = refl
-  selects-set (subjectsOf p) v = any-set (g .triples) (h .triples) (same .sameTriples) (λ t. eqb (t .subject) v && eqb (t .predicate) p)
-  selects-set (objectsOf p) v = any-set (g .triples) (h .triples) (same .sameTriples) (λ t. eqb (t .object) v && eqb (t .predicate) p)
-  selects-set (targetClass c) v = any-set (g .triples) (h .triples) (same .sameTriples) (λ t. eqb (t .subject) v && (eqb (t .predicate) rdfType && eqb (t .object) c))
+  module _ (sub : Option ℕ) where
+    -- 01: a TARGET selects the same nodes
+    pub selects-set : (t : Target) (v : ℕ) → selects sub g t v ≡ selects sub h t v
+    unfolding selects
+    selects-set (targetNode c) v = refl
+    selects-set (subjectsOf p) v = any-set (g .triples) (h .triples) (same .sameTriples) (λ t. eqb (t .subject) v && eqb (t .predicate) p)
+    selects-set (objectsOf p) v = any-set (g .triples) (h .triples) (same .sameTriples) (λ t. eqb (t .object) v && eqb (t .predicate) p)
+    selects-set (targetClass c) v = λ i. path-ends i (classPath sub) v c
 
-  -- 01: a rule has the same list
-  pub violations-set : (H : List Shape) (r : Rule) → violations g H r ≡ violations h H r
-  unfolding violations violates
-  violations-set H r = λ i. members (λ v. selects-set (r .target) v i && not (conforms-set (def H (r .shape)) v i)) (same .sameNodes i)
+    -- 01: a rule has the same list
+    pub violations-set : (H : List Shape) (r : Rule) → violations sub g H r ≡ violations sub h H r
+    unfolding violations violates
+    violations-set H r = λ i. members (λ v. selects-set (r .target) v i && not (conforms-set (def H (r .shape)) v i)) (same .sameNodes i)
 
 -- ---- a fact line that repeats one above it
 -- a triple that stands there already
@@ -131,10 +133,17 @@ module _ (above below : Book) (t : Triple) (again : hasTriple (collect newTriple
   unfolding conformsIn
   repeated-conforms v s = conforms-set (graphOf (above ++ (fact t ∷ below))) (graphOf (above ++ below)) repeated-graph (def (schema (above ++ (fact t ∷ below))) s) v ∙ ap (λ (H : List Shape). conforms (graphOf (above ++ below)) (def H s) v) repeated-schema
 
+  -- a fact line names nothing, so `under` is the same link
+  repeated-sub : subClassOf (above ++ (fact t ∷ below)) ≡ subClassOf (above ++ below)
+  unfolding subClassOf names newNames
+  repeated-sub = ap (λ (ws : List Name). numberIn (builtIn links ++ ws) under) (collect-none (newNames links) (fact t) refl above below)
+
   pub repeated-rules : rules (above ++ (fact t ∷ below)) ≡ rules (above ++ below)
   unfolding rules newRules
   repeated-rules = collect-none newRules (fact t) refl above below
 
   pub repeated-fact : (r : Rule) → listOf (above ++ (fact t ∷ below)) r ≡ listOf (above ++ below) r
   unfolding listOf
-  repeated-fact r = violations-set (graphOf (above ++ (fact t ∷ below))) (graphOf (above ++ below)) repeated-graph (schema (above ++ (fact t ∷ below))) r ∙ ap (λ (H : List Shape). violations (graphOf (above ++ below)) H r) repeated-schema
+  repeated-fact r =
+      violations-set (graphOf (above ++ (fact t ∷ below))) (graphOf (above ++ below)) repeated-graph (subClassOf (above ++ (fact t ∷ below))) (schema (above ++ (fact t ∷ below))) r
+      ∙ ap₂ (λ (sub : Option ℕ) (H : List Shape). violations sub (graphOf (above ++ below)) H r) repeated-sub repeated-schema

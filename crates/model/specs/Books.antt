@@ -1,10 +1,12 @@
 -- A book as a list of lines, and what its lines say: names, graph, schema and rules.
 use Prim.Native.Nat.{ℕ}
 use mathlib.Core.List.{List, [], _∷_, _++_, map}
+use mathlib.Core.Option.{Option}
 use mathlib.Core.Bool.{Bool, cond}
 use lib.Dec.{eqb}
 use lib.ListN.{length, getD}
-use Rattle.base.specs.Bytes.{bytes}
+use Rattle.base.specs.Bytes.{bytes, eql}
+use Rattle.base.specs.Least.{leastOf}
 use Rattle.model.specs.Graph.{Term, iri, Triple, Graph}
 use Rattle.model.specs.Shapes.{Shape, expand, conforms, def}
 use Rattle.model.specs.Rules.{Rule, violations}
@@ -103,6 +105,18 @@ collect f (l ∷ b) = f l ++ collect f b
 unfoldable pub names : Pool → Book → List Name
 names p b = builtIn p ++ collect (newNames p) b
 
+-- the number of a name in a list of names, the lowest where it stands there more than once
+unfoldable pub numberIn : List Name → Name → Option ℕ
+numberIn ws w = leastOf (λ k. eql w (getD ws k [])) (length ws)
+
+-- document 02, Job 5: the name of the link by which a class lies under another
+abbrev pub under : Name
+under = bytes "under"
+
+-- rdfs:subClassOf: the link of that name, on whichever line, or none
+unfoldable pub subClassOf : Book → Option ℕ
+subClassOf b = numberIn (names links b) under
+
 unfoldable pub graphOf : Book → Graph
 graphOf b = record { nodes = length (collect newTerms b); term = λ v. getD (collect newTerms b) v iri; triples = collect newTriples b }
 
@@ -123,4 +137,4 @@ conformsIn b v s = conforms (graphOf b) (def (schema b) s) v
 
 -- the list of a rule: the nodes that it selects and that do not conform to its shape
 unfoldable pub listOf : Book → Rule → List ℕ
-listOf b r = violations (graphOf b) (schema b) r
+listOf b r = violations (subClassOf b) (graphOf b) (schema b) r

@@ -1,5 +1,6 @@
 -- The cases of document 01 over its book B: the starred ones, which one theorem proves, a case or two for each other row of Table 1, and
--- cases of document 02: of the repeated paths, Job 1, of their rounds, Job 7, and of the nearest spare along them, Job 11.
+-- cases of document 02: of the repeated paths, Job 1, of their rounds, Job 7, of the nearest spare along them, Job 11, and of classes under
+-- others, Job 5.
 use Prim.Native.Nat.{ℕ}
 use mathlib.Core.List.{List, [], _∷_}
 use mathlib.Core.Bool.{Bool, true, false, Bool·beq, _&&_}
@@ -11,8 +12,8 @@ use Rattle.model.specs.Paths.{Path, predicate, inverse, sequence, altern
 use Rattle.model.specs.Shapes.{Shape, top, hasShape, hasValue, conj, disj, neg, test, count, forAll, equals, disjoint, closed, lessThan, lessThanEq, uniqueLang, nodeKind, datatype, languageIn, minInclusive, minExclusive, maxInclusive, maxExclusive, anIri, aBlank, aLiteral, atMost, unbounded, conforms, expand}
 use Rattle.model.specs.Rounds.{roundsOf}
 use Rattle.model.specs.Nearest.{Nearest, at, noSpare, nearestOf}
-use Rattle.model.specs.Rules.{subjectsOf}
-use Rattle.model.specs.Books.{Book, link, type, lang, node, fact, shape, rule, graphOf, schema}
+use Rattle.model.specs.Rules.{subjectsOf, targetClass, selects}
+use Rattle.model.specs.Books.{Name, Book, link, type, lang, node, fact, shape, rule, graphOf, under, subClassOf, schema}
 
 -- ---- book B of document 01. Its nodes: 0 left, 1 right, 2 h240, 3 h215
 abbrev pub mount : Path
@@ -241,4 +242,71 @@ spares =
     ∷ spare (oneOrMore feeds) (hasValue 3) 0 (at 1 3)
     ∷ spare (oneOrMore feeds) (hasValue 0) 0 (at 0 0)
     ∷ spare feeds (neg top) 0 noSpare
+    ∷ []
+
+-- ---- document 02, Job 5: a book with classes under others, by a link named n, which is defined after the rule. Its nodes: 0 device, 1 projector,
+-- 2 laser, 3 lamp, 4 bulb, classes: a laser is a projector, a projector a device, a device a device; lamp and bulb are under each other;
+-- 5 beam, a laser; 6 unit, a projector; 7 glow, a lamp; 8 a literal, of no class. A type, a node and a shape are named `under`, which means
+-- nothing
+abbrev pub kindsBook : Name → Book
+kindsBook n =
+    type under
+    ∷ node (bytes "device") iri
+    ∷ node (bytes "projector") iri
+    ∷ node (bytes "laser") iri
+    ∷ node (bytes "lamp") iri
+    ∷ node (bytes "bulb") iri
+    ∷ node (bytes "beam") iri
+    ∷ node (bytes "unit") iri
+    ∷ node (bytes "glow") blankNode
+    ∷ node under (plain 1)
+    ∷ shape under (neg top)
+    ∷ rule (record { shape = 0; target = targetClass 1 })
+    ∷ link n
+    ∷ fact (record { subject = 2; predicate = 1; object = 1 })
+    ∷ fact (record { subject = 1; predicate = 1; object = 0 })
+    ∷ fact (record { subject = 0; predicate = 1; object = 0 })
+    ∷ fact (record { subject = 3; predicate = 1; object = 4 })
+    ∷ fact (record { subject = 4; predicate = 1; object = 3 })
+    ∷ fact (record { subject = 5; predicate = 0; object = 2 })
+    ∷ fact (record { subject = 6; predicate = 0; object = 1 })
+    ∷ fact (record { subject = 7; predicate = 0; object = 3 })
+    ∷ []
+
+-- a class, a node, and whether a rule on the class selects the node
+pub data Member : Type 0 where
+  ofClass : ℕ → ℕ → Bool → Member
+
+unfoldable pub kindsAgree : Book → List Member → Bool
+kindsAgree b [] = true
+kindsAgree b (ofClass c v answer ∷ cs) = Bool·beq (selects (subClassOf b) (graphOf b) (targetClass c) v) answer && kindsAgree b cs
+
+-- straight; by one step, by two; not against the steps; on the ring, either way; a class is no instance of itself or of what it is under;
+-- a literal has no instances
+abbrev pub kinds : List Member
+kinds =
+    ofClass 1 6 true
+    ∷ ofClass 1 5 true
+    ∷ ofClass 0 5 true
+    ∷ ofClass 0 6 true
+    ∷ ofClass 2 6 false
+    ∷ ofClass 2 5 true
+    ∷ ofClass 3 7 true
+    ∷ ofClass 4 7 true
+    ∷ ofClass 1 7 false
+    ∷ ofClass 1 2 false
+    ∷ ofClass 0 0 false
+    ∷ ofClass 3 4 false
+    ∷ ofClass 8 5 false
+    ∷ []
+
+-- without the link `under`: straight alone
+abbrev pub straight : List Member
+straight =
+    ofClass 1 6 true
+    ∷ ofClass 1 5 false
+    ∷ ofClass 0 5 false
+    ∷ ofClass 2 5 true
+    ∷ ofClass 3 7 true
+    ∷ ofClass 4 7 false
     ∷ []

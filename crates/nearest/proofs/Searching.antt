@@ -23,7 +23,7 @@ use Rattle.model.specs.Nearest.{at, noSpare, anySpare, spareWithin, nearest}
 use Rattle.model.proofs.Nearest.{within-at, within-some, nearest-found, nearest-none, nearest-ext}
 use Rattle.tables.specs.Layout.{nodeCount}
 use Rattle.tables.specs.Decode.{graphAt, shapeAt}
-use Rattle.rounds.proofs.Levels.{After, atDistance, first-reached, reached-first, star-node}
+use Rattle.reach.proofs.Levels.{After, atDistance, first-reached, reached-first, star-node}
 use Rattle.verdict.specs.Memo.{Decided}
 
 -- ---- a round of the search, after others that reached no spare

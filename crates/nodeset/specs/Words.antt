@@ -4,7 +4,7 @@ use mathlib.Core.List.{List, [], _∷_, _++_}
 use mathlib.Core.Bool.{Bool, not, _&&_, _||_}
 use lib.Bits.{bitAnd}
 use lib.Count.{ones}
-use lib.Dec.{eqb}
+use lib.Dec.{eqb, ltb}
 use lib.ListN.{getD, length, take, drop}
 use Rattle.base.specs.Bounded.{one}
 
@@ -33,6 +33,10 @@ wordsFrom p i (suc k) = wordOf (λ j. p (i * 64 + j)) 64 ∷ wordsFrom p (suc i)
 -- the k words of the set p; its numbers from 64 * k on are left out
 unfoldable pub wordsOf : (ℕ → Bool) → ℕ → List ℕ
 wordsOf p k = wordsFrom p 0 k
+
+-- the sixteen words of the numbers below n that have p
+unfoldable pub nodesOf : (ℕ → Bool) → ℕ → List ℕ
+nodesOf p n = wordsOf (λ v. ltb v n && p v) 16
 
 -- the set with n
 unfoldable pub with : List ℕ → ℕ → List ℕ

@@ -4,17 +4,21 @@ use Prim.Native.Nat.{ℕ, _<_}
 use mathlib.Core.Bool.{_&&_}
 use mathlib.Core.List.{List}
 use mathlib.Core.Logic.{⊎-elim}
-use mathlib.Core.Path.{sym, _∙_, subst}
+use mathlib.Core.Path.{refl, sym, ap, _∙_, subst}
 use lib.Dec.{eqb}
 use lib.ListN.{getD}
 use borrow.Author.Tests.{eqb-true}
 use Rattle.base.proofs.Bools.{and-left, and-right, or-cases}
 use Rattle.base.proofs.Bounded.{some-witness}
+use Rattle.model.specs.Graph.{Triple}
 use Rattle.model.specs.Paths as model
 use Rattle.model.specs.Paths.{Path, predicate, inverse, sequence, alternative, zeroOrMore, oneOrMore, self, along, ends, endsOf}
 use Rattle.model.proofs.Repeats.{Nodes, star-nodes, plus-nodes}
-use Rattle.paths.specs.Facts.{FactsOk, triplesOf}
+use Rattle.tables.specs.Layout.{nodeCount, subjects, predicates, objects}
+use Rattle.tables.specs.Decode.{triplesAt}
+use Rattle.paths.specs.Facts.{Tables, FactsOk, triplesOf}
 use Rattle.paths.proofs.Joins.{fact-between}
+use Rattle.paths.proofs.Parts.{part, lent-ok, lent-triples}
 use Rattle.paths.proofs.Paths.{has-triple}
 
 module _ (ss ps os index : List ℕ) (count n : ℕ) (ok : FactsOk ss ps os index count n) where
@@ -38,3 +42,7 @@ module _ (ss ps os index : List ℕ) (count n : ℕ) (ok : FactsOk ss ps os inde
   unfolding endsOf
   all-nodes self v w h = (λ l. subst (λ (x : ℕ). x < n) (eqb-true v w h) l, λ l. subst (λ (x : ℕ). x < n) (sym (eqb-true v w h)) l)
   all-nodes (along p) v w h = ends-nodes p v w h
+
+-- over the facts of well-formed tables
+pub table-nodes : (cs index : List ℕ) → Tables cs index → (x : model.End) → Nodes (nodeCount cs) (endsOf (nodeCount cs) (triplesAt cs) x)
+table-nodes cs index t x v w h = all-nodes (part cs subjects) (part cs predicates) (part cs objects) index _ (nodeCount cs) (lent-ok cs (t .ok) (t .room) refl refl (t .indexed)) x v w (ap (λ (ts : List Triple). endsOf (nodeCount cs) ts x v w) (lent-triples cs (t .ok) refl) ∙ h)

@@ -11,10 +11,9 @@
 //
 // The facts of each link, and those out of each node, are found by an index, chains by link and by subject, which is made once for
 // many calls:
-//   index_facts            chains of the facts by the keys in a column
-//   index_table            both for the facts of the tables
-//   last_fact, next_fact   where the chain of a link begins, and what follows a fact on it
-//   last_out, next_out     the same of the facts out of a node
+//   index_facts          chains of the facts by the keys in a column
+//   index_table          both for the facts of the tables
+//   last_out, next_out   where the chain of the facts out of a node begins, and what follows a fact on it
 use base::cell;
 use base::pick;
 use chains::link;
@@ -178,7 +177,7 @@ pub fn index_table(index: &mut [u16], cells: &[u16])
 }
 
 // The last fact of link l, as its number and one; 0 where there is none.
-pub fn last_fact(index: &[u16], l: LinkNo) -> usize
+fn last_fact(index: &[u16], l: LinkNo) -> usize
     ensures { λ r. ⌜ r ≡ cond (ltb (l .0) maxLinks) (getD (now (index .entry)) (l .0) 0) 0 ⌝ }
 {
     if l.0 < LINKS {
@@ -189,7 +188,7 @@ pub fn last_fact(index: &[u16], l: LinkNo) -> usize
 }
 
 // The fact before fact i that has the same link, as its number and one; 0 where there is none.
-pub fn next_fact(index: &[u16], i: usize) -> usize
+fn next_fact(index: &[u16], i: usize) -> usize
     requires { ⌜ i < maxFacts ⌝ }
     ensures { λ r. ⌜ r ≡ getD (now (index .entry)) (maxLinks + i) 0 ⌝ }
 {

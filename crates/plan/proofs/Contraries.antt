@@ -21,13 +21,13 @@ pub ext : {p q : ℕ → Bool} → ((v : ℕ) → p v ≡ q v) → p ≡ q
 ext h = λ i v. h v i
 
 -- sets and others: what the steps' numbers stand for, which none of these looks at
-module _ (cs : List ℕ) (vs : List ℤ) (sets others : ℕ → ℕ → Bool) where
+module _ (sub : Option ℕ) (cs : List ℕ) (vs : List ℤ) (sets others : ℕ → ℕ → Bool) where
   abbrev g : Graph
   g = graphAt cs vs
 
   -- the second step's set is the contrary of the first's
   abbrev pub Contrary : Step → Step → Type 0
-  Contrary x y = inStep cs vs y others ≡ (λ v. not (inStep cs vs x sets v))
+  Contrary x y = inStep sub cs vs y others ≡ (λ v. not (inStep sub cs vs x sets v))
 
   pub all-none : Contrary Step.all Step.none
   unfolding inStep conforms
@@ -59,7 +59,7 @@ module _ (cs : List ℕ) (vs : List ℤ) (sets others : ℕ → ℕ → Bool) wh
 
   -- an entry that is a test, or `closed`
   module _ (e : ℕ) where
-    pub test-set : (t : Test) → testOf cs (entryAt cs vs e) ≡ Option.some t → inStep cs vs (Step.test e) sets ≡ (λ v. satisfies t (g .term v))
+    pub test-set : (t : Test) → testOf cs (entryAt cs vs e) ≡ Option.some t → inStep sub cs vs (Step.test e) sets ≡ (λ v. satisfies t (g .term v))
     unfolding inStep conforms holds
     test-set t q = ap (λ (o : Option Test). λ v. holds (λ t. satisfies t (g .term v)) o) q
 
@@ -67,7 +67,7 @@ module _ (cs : List ℕ) (vs : List ℤ) (sets others : ℕ → ℕ → Bool) wh
     unfolding inStep conforms holds
     test-untest t q = ap (λ (o : Option Test). λ v. holds (λ t. failsTest t (g .term v)) o) q ∙ ext (λ v. sym (not-satisfies t (g .term v))) ∙ ap (λ (p : ℕ → Bool). λ v. not (p v)) (sym (test-set t q))
 
-    pub closed-set : (ls : List ℕ) → linksOf cs (entryAt cs vs e) ≡ Option.some ls → inStep cs vs (Step.closed e) sets ≡ (λ v. allb (λ t. eqb (t .subject) v ⇒ member (t .predicate) ls) (g .triples))
+    pub closed-set : (ls : List ℕ) → linksOf cs (entryAt cs vs e) ≡ Option.some ls → inStep sub cs vs (Step.closed e) sets ≡ (λ v. allb (λ t. eqb (t .subject) v ⇒ member (t .predicate) ls) (g .triples))
     unfolding inStep conforms holds
     closed-set ls q = ap (λ (o : Option (List ℕ)). λ v. holds (λ ps. allb (λ t. eqb (t .subject) v ⇒ member (t .predicate) ps) (g .triples)) o) q
 

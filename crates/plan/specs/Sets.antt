@@ -69,7 +69,8 @@ module _ (cs : List ℕ) where
   linksOf (Entry.onelang p) = Option.none
   linksOf Entry.bad = Option.none
 
-module _ (cs : List ℕ) (vs : List ℤ) where
+-- sub: the predicate of subclasses, where the tables have it (tables `Names`: `subClassAt`)
+module _ (sub : Option ℕ) (cs : List ℕ) (vs : List ℤ) where
   abbrev g : Graph
   g = graphAt cs vs
 
@@ -97,9 +98,9 @@ module _ (cs : List ℕ) (vs : List ℤ) where
   inStep (Step.notlesseq p l) sets v = somePair (g .nodes) (from g (pathAt cs p) v) (objects g l v) (λ b c. notLessEq (g .term b) (g .term c))
   inStep (Step.onelang p) sets v = conforms g (uniqueLang (pathAt cs p)) v
   inStep (Step.manylang p) sets v = somePair (g .nodes) (from g (pathAt cs p) v) (from g (pathAt cs p) v) (clash (g .term))
-  inStep (Step.from l) sets v = selects g (subjectsOf l) v
-  inStep (Step.into l) sets v = selects g (objectsOf l) v
-  inStep (Step.typed c) sets v = selects g (targetClass c) v
+  inStep (Step.from l) sets v = selects sub g (subjectsOf l) v
+  inStep (Step.into l) sets v = selects sub g (objectsOf l) v
+  inStep (Step.typed c) sets v = selects sub g (targetClass c) v
   inStep Step.bad sets v = false
 
   -- the set of step k, where step j is `at j`; a step that it uses and that is not before it has none

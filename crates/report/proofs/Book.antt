@@ -1,31 +1,27 @@
 -- The parts that are written from a valid book's tables and lists are the parts of its report.
-use Prim.Native.Nat.{ℕ, zero, suc, _+_, _-_, _*_, _<_, _≤_}
+use Prim.Native.Nat.{ℕ, zero, suc, _+_, _*_, _<_, _≤_}
 use mathlib.Core.List.{List, [], _∷_, _++_, map, append-nil}
-use mathlib.Core.Bool.{Bool, true, cond, true≢false}
+use mathlib.Core.Bool.{Bool, true, cond}
 use mathlib.Core.Path.{_≡_, refl, sym, ap, ap₂, _∙_}
 use native.Mathlib.Nat.{zero-add}
 use native.Mathlib.Omega.{arith}
-use lib.Dec.{ltb, leb}
+use lib.Dec.{ltb}
 use lib.IntN.{ℤ}
-use lib.ListN.{length, getD, take, drop, replicate, length-drop, length-append, List·getD-append}
-use lib.Seq.{take-at, take-append-add, getD-take, getD-drop, append-snoc, length-take-le, ext-getD}
-use borrow.Author.Tests.{le-leb, ltb-true, eq-eqb, ne-eqb}
+use lib.ListN.{length, getD, take, drop}
+use lib.Seq.{take-at, append-snoc}
+use borrow.Author.Tests.{le-leb, ltb-true}
 use Rattle.base.specs.Bounded.{every}
 use Rattle.base.specs.Lists.{allb}
 use Rattle.base.proofs.Bools.{and-left, and-right, and-both}
 use Rattle.base.proofs.Bounded.{every-all, members-low}
-use Rattle.text.specs.Items.{nameByte, isName}
-use Rattle.text.specs.Pool.{padded, allNames}
-use Rattle.text.proofs.Items.{name-short, name-bytes}
-use Rattle.text.proofs.Places.{names-at}
-use Rattle.text.proofs.Pool.{padded-length}
+use Rattle.text.specs.Pool.{allNames}
 use Rattle.model.specs.Answers.{Answer, value, refusal, unlessRefused}
 use Rattle.model.specs.Rules.{Rule, violates, violations, noRule}
-use Rattle.model.specs.Books.{Name, Book, nodes, names, rules, graphOf, schema, listOf}
+use Rattle.model.specs.Books.{Book, nodes, names, rules, subClassOf, graphOf, schema, listOf}
 use Rattle.model.specs.Valid.{capacity, admissible}
 use Rattle.model.proofs.Answers.{left-by}
 use Rattle.model.proofs.Lines.{names-within, terms-counted}
-use Rattle.model.specs.Limits.{maxNodes, maxName, nameBytes}
+use Rattle.model.specs.Limits.{maxNodes, nameBytes}
 use Rattle.grammar.specs.Writing.{nameOf}
 use Rattle.grammar.specs.Valid.{valid}
 use Rattle.grammar.proofs.Books.{valid-admissible}
@@ -33,52 +29,19 @@ use Rattle.tables.specs.Layout.{cellCount, nodeCount, ruleCount}
 use Rattle.tables.specs.WellFormed.{wellFormed}
 use Rattle.encoding.specs.Encode.{encodeNames, encodeCells, poolBase}
 use Rattle.encoding.proofs.Places.{below-or}
-use Rattle.encoding.proofs.Counts.{cells-length, names-length, names-counted, facts-counted, rules-counted}
-use Rattle.encoding.proofs.Names.{short, name-at, padded-at}
+use Rattle.encoding.proofs.Counts.{cells-length, names-counted, facts-counted, rules-counted}
+use Rattle.encoding.proofs.Stored.{name-back}
 use Rattle.encoding.proofs.WellFormed.{well-formed}
-use Rattle.stores.proofs.Prefixes.{prefix-valid}
+use Rattle.stores.proofs.Prefixes.{valid-names}
 use Rattle.lists.specs.Rows.{over, withRows, withLengths, rowIn}
 use Rattle.lists.proofs.ReadOff.{length-read, nodes-read}
 use Rattle.lists.proofs.Rows.{few}
 use Rattle.report.specs.Report.{headLine, breakLines, foundLine, ruleLines, found, firstLine, lastLine, report, part, partsJoined}
-use Rattle.report.specs.Pages.{beforeZero, nameIn, foundIn, partIn, lengthOk, rowOk, reportPartOk}
+use Rattle.report.specs.Pages.{foundIn, partIn, lengthOk, rowOk, reportPartOk}
+use Rattle.tables.specs.Names.{nodeNameAt, nameFrom}
 use Rattle.report.specs.Answers.{partLong, partFormed, hasPart, text, partAnswer, partAfter}
 use Rattle.report.proofs.Report.{rule-part, last-part, next-low, next-rule, next-count, parts-joined}
 use Rattle.report.proofs.Parts.{part-rule, part-last, ok-head, ok-rule, ok-last, ok-past}
-
--- ---- a name, and zeros after it
-not-zero : (x : ℕ) → nameByte x ≡ true → x ≡ 0 → ⊥
-unfolding nameByte
-not-zero x e z = true≢false (sym e ∙ ap nameByte z)
-
-before-none : (z : List ℕ) → getD z 0 0 ≡ 0 → beforeZero z ≡ []
-unfolding beforeZero
-before-none [] e = refl
-before-none (x ∷ z) e = rw (eq-eqb x 0 e)
-
-before-name : (w z : List ℕ) → allb nameByte w ≡ true → getD z 0 0 ≡ 0 → beforeZero (w ++ z) ≡ w
-unfolding beforeZero allb
-before-name [] z e h = before-none z h
-before-name (x ∷ w) z e h = rw (ne-eqb x 0 (not-zero x (and-left (nameByte x) (allb nameByte w) e))) (ap (λ (t : List ℕ). x ∷ t) (before-name w z (and-right (nameByte x) (allb nameByte w) e) h))
-
-zeros-first : (n m : ℕ) → _≡_ {A = ℕ} (getD (take n (replicate m 0)) 0 0) 0
-zeros-first zero m = refl
-zeros-first (suc n) zero = refl
-zeros-first (suc n) (suc m) = refl
-
--- of a name in its 32 bytes the name is left
-before-padded : (w : Name) → isName w ≡ true → beforeZero (take maxName (padded w)) ≡ w
-unfolding padded
-before-padded w e =
-    let n : ℕ = maxName - length w in
-    let z : List ℕ = replicate (nameBytes - length w) 0 in
-    let all : maxName ≡ length w + n = omega (arith, name-short w e) in
-    ap (λ (k : ℕ). beforeZero (take k (w ++ z))) all ∙ (ap beforeZero (take-append-add w z n) ∙ before-name w (take n z) (name-bytes w e) (zeros-first n (nameBytes - length w)))
-
-names-short : (ws : List Name) → allNames ws ≡ true → short ws ≡ true
-unfolding allNames allb
-names-short [] e = refl
-names-short (w ∷ ws) e = and-both (leb (length w) maxName) (short ws) (le-leb (length w) maxName (name-short w (and-left (isName w) (allNames ws) e))) (names-short ws (and-right (isName w) (allNames ws) e))
 
 -- ---- lists
 map-same : {A : Type 0} (f g : ℕ → A) (p : ℕ → Bool) (l : List ℕ) → ((v : ℕ) → p v ≡ true → f v ≡ g v) → allb p l ≡ true → map f l ≡ map g l
@@ -101,8 +64,7 @@ module _ (b : Book) (v : valid b ≡ true) where
   ok = valid-admissible b v
 
   made : allNames (names nodes b) ≡ true
-  unfolding valid
-  made = prefix-valid b (and-left _ _ v) .names-made nodes
+  made = valid-names b v nodes
 
   few-nodes : length (names nodes b) ≤ maxNodes
   unfolding capacity
@@ -113,11 +75,11 @@ module _ (b : Book) (v : valid b ≡ true) where
   unfolding listOf violations graphOf
   list-within r =
       ap (λ (k : ℕ). allb (λ n. ltb n k) (listOf b r)) (sym (terms-counted b))
-      ∙ members-low (violates (graphOf b) (schema b) r) (graphOf b .nodes) (graphOf b .nodes) (omega arith)
+      ∙ members-low (violates (subClassOf b) (graphOf b) (schema b) r) (graphOf b .nodes) (graphOf b .nodes) (omega arith)
 
   list-few : (r : Rule) → length (listOf b r) ≤ maxNodes
   unfolding listOf violations graphOf
-  list-few r = omega (arith, few (violates (graphOf b) (schema b) r) (graphOf b .nodes), terms-counted b, few-nodes)
+  list-few r = omega (arith, few (violates (subClassOf b) (graphOf b) (schema b) r) (graphOf b .nodes), terms-counted b, few-nodes)
 
   -- ---- lists that stand at the front of their rows
   pub holds-rows : (ls ks : List ℕ) → maxNodes * length (rules b) ≤ length ls → length (rules b) ≤ length ks → Holds b (withRows (λ r. listOf b (getD (rules b) r noRule)) (length (rules b)) ls) (withLengths (λ r. listOf b (getD (rules b) r noRule)) (length (rules b)) ks)
@@ -135,28 +97,12 @@ module _ (b : Book) (v : valid b ≡ true) where
     abbrev table : List ℕ
     table = encodeNames b ++ t
 
-    stored : (n : ℕ) → n < length (names nodes b) → take maxName (drop (nameBytes * n) table) ≡ take maxName (padded (getD (names nodes b) n []))
-    unfolding poolBase capacity
-    stored n h =
-        let w : Name = getD (names nodes b) n [] in
-        let s : length w ≤ maxName = name-short w (names-at (names nodes b) made n h) in
-        let left : length (take maxName (drop (nameBytes * n) table)) ≡ maxName = length-take-le maxName (drop (nameBytes * n) table) (omega (arith, length-drop (nameBytes * n) table, length-append (encodeNames b) t, names-length b, few-nodes)) in
-        let right : length (take maxName (padded w)) ≡ maxName = length-take-le maxName (padded w) (omega (arith, padded-length w (omega arith))) in
-        ext-getD 0 (take maxName (drop (nameBytes * n) table)) (take maxName (padded w)) (left ∙ sym right) (λ i l.
-        let low : i < maxName = omega (arith, left) in
-        let at : nameBytes * n + i ≡ 0 + (n * nameBytes + i) = omega arith in
-        getD-take maxName (drop (nameBytes * n) table) i 0 low ∙ (getD-drop (nameBytes * n) table i 0
-        ∙ (List·getD-append (encodeNames b) t 0 (nameBytes * n + i) (omega (arith, names-length b, few-nodes))
-        ∙ (ap (λ (k : ℕ). getD (encodeNames b) k 0) at
-        ∙ (name-at b nodes (names-short (names nodes b) made) n i (omega (arith, few-nodes)) (omega arith)
-        ∙ (sym (padded-at w i) ∙ sym (getD-take maxName (padded w) i 0 low)))))))
+    pub name-read : (n : ℕ) → n < length (names nodes b) → nodeNameAt table n ≡ nameOf b nodes n
+    unfolding poolBase nameOf
+    name-read n h = ap (nameFrom table) (let z : nameBytes * n ≡ 0 + nameBytes * n = omega arith in z) ∙ name-back b nodes made ok t n h
 
-    pub name-read : (n : ℕ) → n < length (names nodes b) → nameIn table n ≡ nameOf b nodes n
-    unfolding nameIn nameOf
-    name-read n h = ap beforeZero (stored n h) ∙ before-padded (getD (names nodes b) n []) (names-at (names nodes b) made n h)
-
-    names-read : (r : Rule) → map (nameIn table) (listOf b r) ≡ map (nameOf b nodes) (listOf b r)
-    names-read r = map-same (nameIn table) (nameOf b nodes) (λ n. ltb n (length (names nodes b))) (listOf b r) (λ n e. name-read n (ltb-true n (length (names nodes b)) e)) (list-within r)
+    names-read : (r : Rule) → map (nodeNameAt table) (listOf b r) ≡ map (nameOf b nodes) (listOf b r)
+    names-read r = map-same (nodeNameAt table) (nameOf b nodes) (λ n. ltb n (length (names nodes b))) (listOf b r) (λ n e. name-read n (ltb-true n (length (names nodes b)) e)) (list-within r)
 
   -- ---- the cells of the book, whatever lies past them
   cells-read : (t : List ℕ) → take cellCount (encodeCells b ++ t) ≡ encodeCells b
@@ -206,7 +152,7 @@ module _ (b : Book) (v : valid b ≡ true) where
           let rule : Rule = getD (rules b) k noRule in
           below-or (partIn ns cs ls ks (suc k) ≡ part b (suc k)) k (length (rules b))
           (λ low. sym (part-rule ns cs ls ks (suc k) k refl (omega (arith, rules-counted b)))
-          ∙ (ap (λ (l : List ℕ). breakLines k (map (nameIn ns) l)) (holds .row k low) ∙ (ap (breakLines k) (names-read t rule) ∙ sym (rule-part b k low))))
+          ∙ (ap (λ (l : List ℕ). breakLines k (map (nodeNameAt ns) l)) (holds .row k low) ∙ (ap (breakLines k) (names-read t rule) ∙ sym (rule-part b k low))))
           (λ high. sym (part-last ns cs ls ks (suc k) (omega (arith, rules-counted b)))
           ∙ (ap foundLine (ap (foundIn ks) (rules-counted b) ∙ (sym (found-read [] (rules b) refl) ∙ zero-add (found b (rules b)))) ∙ sym (last-part b k high)))
 

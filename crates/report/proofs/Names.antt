@@ -5,11 +5,12 @@ use mathlib.Core.Bool.{Bool, cond}
 use mathlib.Core.Path.{_≡_, refl, sym, ap, _∙_}
 use native.Mathlib.Numerals.{add-one}
 use native.Mathlib.Omega.{arith}
-use lib.ListN.{length, getD, take, drop, length-drop, drop-of-length-le}
-use lib.Seq.{take-suc, drop-cons, append-snoc, getD-take, getD-drop, take-take, length-take-le}
+use lib.ListN.{length, getD, take, drop, drop-of-length-le}
+use lib.Seq.{take-suc, drop-cons, append-snoc, take-take}
 use borrow.Author.Tests.{eq-eqb, ne-eqb}
 use Rattle.model.specs.Limits.{maxName, nameBytes}
-use Rattle.report.specs.Pages.{beforeZero, nameIn}
+use Rattle.tables.proofs.Names.{name-byte, name-full}
+use Rattle.tables.specs.Names.{beforeZero, nodeNameAt, nameFrom}
 
 -- no zero among the first j bytes
 module _ (s : List ℕ) where
@@ -35,30 +36,30 @@ module _ (s : List ℕ) where
 -- the place of node v is in the table
 module _ (ns : List ℕ) (v : ℕ) (room : nameBytes * v + maxName ≤ length ns) where
   abbrev pub Named : ℕ → Type 0
-  Named j = nameIn ns v ≡ take j (take maxName (drop (nameBytes * v) ns)) ++ beforeZero (drop j (take maxName (drop (nameBytes * v) ns)))
+  Named j = nodeNameAt ns v ≡ take j (take maxName (drop (nameBytes * v) ns)) ++ beforeZero (drop j (take maxName (drop (nameBytes * v) ns)))
 
   at-place : (j : ℕ) → j < maxName → getD (take maxName (drop (nameBytes * v) ns)) j 0 ≡ getD ns (nameBytes * v + j) 0
-  at-place j h = getD-take maxName (drop (nameBytes * v) ns) j 0 h ∙ getD-drop (nameBytes * v) ns j 0
+  at-place = name-byte ns (nameBytes * v)
 
   full : length (take maxName (drop (nameBytes * v) ns)) ≡ maxName
-  full = length-take-le maxName (drop (nameBytes * v) ns) (omega (arith, length-drop (nameBytes * v) ns))
+  full = name-full ns (nameBytes * v) room
 
   pub named-start : Named 0
-  unfolding nameIn
+  unfolding nameFrom
   named-start = refl
 
   pub named-more : (j : ℕ) → j < maxName → (getD ns (nameBytes * v + j) 0 ≡ 0 → ⊥) → Named j → Named (j + 1)
-  unfolding nameIn
+  unfolding nameFrom
   named-more j h z p =
       clear-more (take maxName (drop (nameBytes * v) ns)) j (omega (arith, full)) (λ e. z (sym (at-place j h) ∙ e)) p
       ∙ ap (λ (k : ℕ). take k (take maxName (drop (nameBytes * v) ns)) ++ beforeZero (drop k (take maxName (drop (nameBytes * v) ns)))) (sym (add-one j))
 
-  pub named-stop : (j : ℕ) → j < maxName → getD ns (nameBytes * v + j) 0 ≡ 0 → Named j → take j (drop (nameBytes * v) ns) ≡ nameIn ns v
-  unfolding nameIn
+  pub named-stop : (j : ℕ) → j < maxName → getD ns (nameBytes * v + j) 0 ≡ 0 → Named j → take j (drop (nameBytes * v) ns) ≡ nodeNameAt ns v
+  unfolding nameFrom
   named-stop j h z p = sym (clear-stop (take maxName (drop (nameBytes * v) ns)) j (omega (arith, full)) (at-place j h ∙ z) p ∙ take-take j maxName (drop (nameBytes * v) ns) (omega arith))
 
-  pub named-end : (j : ℕ) → j ≡ maxName → Named j → take j (drop (nameBytes * v) ns) ≡ nameIn ns v
-  unfolding nameIn beforeZero
+  pub named-end : (j : ℕ) → j ≡ maxName → Named j → take j (drop (nameBytes * v) ns) ≡ nodeNameAt ns v
+  unfolding nameFrom beforeZero
   named-end j h p =
       let s : List ℕ = take maxName (drop (nameBytes * v) ns) in
       sym (p ∙ (ap (λ (t : List ℕ). take j s ++ beforeZero t) (drop-of-length-le s {i = j} (omega (arith, full)))

@@ -18,7 +18,8 @@ use Rattle.model.specs.Limits.{maxNodes}
 use Rattle.tables.specs.Layout.{nodeCount, factCount, ruleCount}
 use Rattle.lists.specs.Rows.{rowIn}
 use Rattle.report.specs.Report.{headLine, breakLine, breakLines, foundLine}
-use Rattle.report.specs.Pages.{nameIn, foundIn, partIn, lengthOk, rowOk, reportPartOk}
+use Rattle.report.specs.Pages.{foundIn, partIn, lengthOk, rowOk, reportPartOk}
+use Rattle.tables.specs.Names.{nodeNameAt}
 
 -- ---- how many nodes are listed: one rule more
 pub found-none : (ks : List ℕ) → 0 ≡ foundIn ks 0
@@ -62,7 +63,7 @@ module _ (ns cs ls ks : List ℕ) where
   unfolding partIn
   part-head k e = ap (partIn ns cs ls ks) (sym e)
 
-  pub part-rule : (k r : ℕ) → k ≡ suc r → r < ruleCount cs → breakLines r (map (nameIn ns) (rowIn ls ks r)) ≡ partIn ns cs ls ks k
+  pub part-rule : (k r : ℕ) → k ≡ suc r → r < ruleCount cs → breakLines r (map (nodeNameAt ns) (rowIn ls ks r)) ≡ partIn ns cs ls ks k
   unfolding partIn
   part-rule k r e h = sym (ap (partIn ns cs ls ks) e ∙ rw (lt-ltb r (ruleCount cs) h))
 

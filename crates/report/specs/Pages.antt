@@ -1,16 +1,16 @@
 -- The parts of the report by tables and lists, and what writing a text leaves on a page.
 use Prim.Native.Nat.{ℕ, zero, suc, _+_, _*_, _≤_}
 use mathlib.Core.Path.{_≡_}
-use mathlib.Core.List.{List, [], _∷_, map}
+use mathlib.Core.List.{List, map}
 use mathlib.Core.Bool.{Bool, true, cond, _&&_}
 use lib.Dec.{eqb, ltb, leb}
-use lib.ListN.{length, getD, take, drop}
+use lib.ListN.{length, getD}
 use lib.Seq.{sets}
 use Rattle.base.specs.Bounded.{every, _⇒_}
 use Rattle.base.specs.Lists.{allb}
-use Rattle.model.specs.Limits.{maxNodes, maxName, nameBytes}
-use Rattle.model.specs.Books.{Name}
+use Rattle.model.specs.Limits.{maxNodes, maxName}
 use Rattle.tables.specs.Layout.{nodeCount, factCount, ruleCount}
+use Rattle.tables.specs.Names.{nodeNameAt}
 use Rattle.lists.specs.Rows.{rowIn}
 use Rattle.report.specs.Report.{headLine, breakLines, foundLine}
 
@@ -27,15 +27,6 @@ abbrev pub refusalCount : ℕ
 refusalCount = 33
 
 -- ---- what the tables say; ns: the names, cs: the cells, ls: the rows of the lists, ks: their lengths
--- what stands before the first zero
-unfoldable pub beforeZero : List ℕ → List ℕ
-beforeZero [] = []
-beforeZero (x ∷ s) = cond (eqb x 0) [] (x ∷ beforeZero s)
-
--- the stored name of node v
-unfoldable pub nameIn : List ℕ → ℕ → Name
-nameIn ns v = beforeZero (take maxName (drop (nameBytes * v) ns))
-
 -- how many nodes the first n rules list
 unfoldable pub foundIn : List ℕ → ℕ → ℕ
 foundIn ks zero = 0
@@ -44,7 +35,7 @@ foundIn ks (suc n) = foundIn ks n + getD ks n 0
 -- part k of the report
 unfoldable pub partIn : (ns cs ls ks : List ℕ) → ℕ → List ℕ
 partIn ns cs ls ks zero = headLine (nodeCount cs) (factCount cs) (ruleCount cs)
-partIn ns cs ls ks (suc k) = cond (ltb k (ruleCount cs)) (breakLines k (map (nameIn ns) (rowIn ls ks k))) (foundLine (foundIn ks (ruleCount cs)))
+partIn ns cs ls ks (suc k) = cond (ltb k (ruleCount cs)) (breakLines k (map (nodeNameAt ns) (rowIn ls ks k))) (foundLine (foundIn ks (ruleCount cs)))
 
 -- a row is in its limit
 abbrev pub lengthOk : List ℕ → ℕ → Bool

@@ -32,7 +32,8 @@ ghost use Rattle.tables.specs.Layout.{nameCount};
 ghost use Rattle.tables.specs.WellFormed.{wellFormed};
 ghost use Rattle.lists.specs.Rows.{listCount, lengthCount, rowIn};
 ghost use Rattle.report.specs.Report.{headLine, breakLine, breakLines, foundLine, refusalReport};
-ghost use Rattle.report.specs.Pages.{pageCount, nameIn, foundIn, partIn, lengthOk, rowOk, reportPartOk, Put, breakBytes};
+ghost use Rattle.report.specs.Pages.{pageCount, foundIn, partIn, lengthOk, rowOk, reportPartOk, Put, breakBytes};
+ghost use Rattle.tables.specs.Names.{nodeNameAt};
 ghost use Rattle.report.specs.Answers.{answerOf, partLong, partFormed, partAnswer, partAfter, refusalAnswer, refusalAfter};
 
 // The longest line of a node: its word, two digits of a rule, a name, two spaces, two brackets and LF; a page for as many as
@@ -89,7 +90,7 @@ fn put_number(page: &mut [u8], at: usize, n: usize) -> usize
 // How many bytes the stored name of node v has.
 fn name_length(names: &[u8], v: NodeNo) -> usize
     requires { ⌜ (v .0 < maxNodes) × (nameCount ≤ length (now names)) ⌝ }
-    ensures { λ r. ⌜ take r (drop (nameBytes * (v .0)) (now (names .entry))) ≡ nameIn (now (names .entry)) (v .0) ⌝ }
+    ensures { λ r. ⌜ take r (drop (nameBytes * (v .0)) (now (names .entry))) ≡ nodeNameAt (now (names .entry)) (v .0) ⌝ }
     ensures { λ r. ⌜ r ≤ maxName ⌝ }
 {
     let first = NAME_BYTES * (v.0 as usize);
@@ -106,7 +107,7 @@ fn name_length(names: &[u8], v: NodeNo) -> usize
 // A space and the name of node v.
 fn put_name(page: &mut [u8], at: usize, names: &[u8], v: NodeNo) -> usize
     requires { ⌜ (at + (maxName + 1) ≤ length (now page)) × (v .0 < maxNodes) × (nameCount ≤ length (now names)) ⌝ }
-    ensures { λ r. ⌜ Put (now (page .entry)) (now (page .exit)) at (32 ∷ nameIn (now (names .entry)) (v .0)) r ⌝ }
+    ensures { λ r. ⌜ Put (now (page .entry)) (now (page .exit)) at (32 ∷ nodeNameAt (now (names .entry)) (v .0)) r ⌝ }
     ensures { λ r. ⌜ r ≤ at + (maxName + 1) ⌝ }
 {
     let start = put_bytes(page, at, b" ");
@@ -119,7 +120,7 @@ fn put_name(page: &mut [u8], at: usize, names: &[u8], v: NodeNo) -> usize
 // The line of node v under rule r.
 fn put_break(page: &mut [u8], at: usize, r: usize, names: &[u8], v: NodeNo) -> usize
     requires { ⌜ (at + breakBytes ≤ length (now page)) × (r < maxRules) × (v .0 < maxNodes) × (nameCount ≤ length (now names)) ⌝ }
-    ensures { λ end. ⌜ Put (now (page .entry)) (now (page .exit)) at (breakLine r (nameIn (now (names .entry)) (v .0))) end ⌝ }
+    ensures { λ end. ⌜ Put (now (page .entry)) (now (page .exit)) at (breakLine r (nodeNameAt (now (names .entry)) (v .0))) end ⌝ }
     ensures { λ end. ⌜ end ≤ at + breakBytes ⌝ }
 {
     let word = put_bytes(page, at, b"(breaks");
@@ -131,7 +132,7 @@ fn put_break(page: &mut [u8], at: usize, r: usize, names: &[u8], v: NodeNo) -> u
 // The lines of rule r, whose list is lent.
 fn put_breaks(page: &mut [u8], names: &[u8], list: &[u16], r: usize) -> usize
     requires { ⌜ (pageCount ≤ length (now page)) × (nameCount ≤ length (now names)) × (length (now list) ≤ maxNodes) × (allb (λ v. ltb v maxNodes) (now list) ≡ true) × (r < maxRules) ⌝ }
-    ensures { λ end. ⌜ Put (now (page .entry)) (now (page .exit)) 0 (breakLines r (map (nameIn (now (names .entry))) (now (list .entry)))) end ⌝ }
+    ensures { λ end. ⌜ Put (now (page .entry)) (now (page .exit)) 0 (breakLines r (map (nodeNameAt (now (names .entry))) (now (list .entry)))) end ⌝ }
 {
     let mut at = 0;
     let mut i = 0;
@@ -190,7 +191,7 @@ fn total(lengths: &[u16], n: usize) -> usize
 // The lines of rule r, from its row.
 fn put_rule(page: &mut [u8], names: &[u8], lists: &[u16], lengths: &[u16], r: usize) -> usize
     requires { ⌜ (pageCount ≤ length (now page)) × (nameCount ≤ length (now names)) × (listCount ≤ length (now lists)) × (lengthCount ≤ length (now lengths)) × (r < maxRules) × (getD (now lengths) r 0 ≤ maxNodes) × (allb (λ v. ltb v maxNodes) (rowIn (now lists) (now lengths) r) ≡ true) ⌝ }
-    ensures { λ end. ⌜ Put (now (page .entry)) (now (page .exit)) 0 (breakLines r (map (nameIn (now (names .entry))) (rowIn (now (lists .entry)) (now (lengths .entry)) r))) end ⌝ }
+    ensures { λ end. ⌜ Put (now (page .entry)) (now (page .exit)) 0 (breakLines r (map (nodeNameAt (now (names .entry))) (rowIn (now (lists .entry)) (now (lengths .entry)) r))) end ⌝ }
 {
     let first = MAX_NODES * r;
     let end = first + wide(lengths[r]);

@@ -1,3 +1,2 @@
-pub mod Levels
 pub mod Tables
 pub mod Answers

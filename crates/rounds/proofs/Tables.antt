@@ -7,7 +7,7 @@ use native.Mathlib.Omega.{arith}
 use lib.ListN.{length, replicate, length-replicate}
 use borrow.Author.Tests.{lt-ltb}
 use Rattle.closure.specs.Rows.{rowsOf, leads, Within}
-use Rattle.closure.proofs.Rows.{length-of-rows, leads-nodes, within-rows}
+use Rattle.closure.proofs.Rows.{leads-nodes}
 use Rattle.model.specs.Limits.{maxNodes}
 use Rattle.model.specs.Paths.{ends, endsOf}
 use Rattle.model.specs.Rounds.{rounds}
@@ -18,12 +18,8 @@ use Rattle.tables.specs.WellFormed.{wellFormed}
 use Rattle.tables.proofs.WellFormed.{sound}
 use Rattle.paths.specs.Ends.{endIn, endKnown}
 use Rattle.paths.specs.declared.End.the-variants.{Path}
-use Rattle.rows.proofs.Rows.{within-zeros}
+use Rattle.rows.proofs.Rows.{filled-room}
 use Rattle.rounds.specs.Answers.{roundsAt}
-
--- empty rows for all nodes
-pub rows-room : (cs : List ℕ) {rows : List ℕ} → wellFormed cs ≡ true → rows ≡ replicate (16 * maxNodes) 0 → (16 * nodeCount cs ≤ length rows) × Within (nodeCount cs) rows
-rows-room cs {rows} ok e = (omega (arith, ap length e, length-replicate {A = ℕ} (16 * maxNodes) 0, sound cs ok .nodes), within-zeros (nodeCount cs) (16 * maxNodes) e)
 
 module _ (cs : List ℕ) (e : ℕ) where
   pub path-known : e < pathCount cs → endKnown cs (Path e) ≡ true
@@ -40,7 +36,7 @@ module _ (cs : List ℕ) (e : ℕ) where
     path = ends (nodeCount cs) (triplesAt cs) (pathAt cs e)
 
     pub search-room : (nodeCount cs ≤ maxNodes) × (16 * nodeCount cs ≤ length rows) × Within (nodeCount cs) rows
-    search-room = (sound cs ok .nodes, omega (arith, sound cs ok .nodes, length-of-rows (nodeCount cs) path (16 * maxNodes) r), within-rows (nodeCount cs) path (16 * maxNodes) r)
+    search-room = filled-room (nodeCount cs) path (sound cs ok .nodes) r
 
     -- the search over the rows is the search along the path
     pub search-rounds : (v : ℕ) → v < nodeCount cs → rounds (leads rows) (nodeCount cs) v ≡ roundsAt cs v e

@@ -1,21 +1,35 @@
 -- Rows with nothing in them, rows cleared, and what a row has.
 use Prim.Native.Nat.{ℕ, _+_, _*_, _/_, _%_, _≤_, _<_}
-use mathlib.Core.Bool.{Bool, true, false, _&&_, cond}
+use mathlib.Core.Bool.{Bool, true, false, not, _&&_, cond}
 use mathlib.Core.List.{List}
 use mathlib.Core.Path.{_≡_, refl, sym, ap, ap₂, _∙_}
 use native.Mathlib.Omega.{arith}
 use lib.Dec.{ltb, lit<}
-use lib.ListN.{length, set, drop, replicate}
+use lib.ListN.{length, set, drop, replicate, length-replicate}
 use borrow.Author.Tests.{le-ltb, ltb-false}
 use Rattle.nodeset.specs.Words.{has, wordsOf}
 use Rattle.nodeset.proofs.Bits.{bit-zero}
 use Rattle.nodeset.proofs.Sets.{has-drop, zeros, wordsOf-ext, upTo, upTo-none, upTo-more}
 use Rattle.model.specs.Limits.{maxNodes}
+use Rattle.model.proofs.Repeats.{converse}
+use Rattle.paths.specs.Images.{converseIf}
 use Rattle.closure.specs.Rows.{between, inRows, rowsOf, leads, Within}
-use Rattle.closure.proofs.Rows.{zero-rows, within-rows, has-rows}
+use Rattle.closure.proofs.Rows.{zero-rows, length-of-rows, within-rows, has-rows}
 
 pub within-zeros : (n words : ℕ) {rows : List ℕ} → rows ≡ replicate words 0 → Within n rows
 within-zeros n words e = within-rows n (λ v w. false) words (e ∙ zero-rows n words)
+
+-- rows for all nodes: empty ones may be filled for n of them, and filled ones searched
+pub empty-room : (n : ℕ) {rows : List ℕ} → n ≤ maxNodes → rows ≡ replicate (16 * maxNodes) 0 → (16 * n ≤ length rows) × Within n rows
+empty-room n few e = (omega (arith, ap length e, length-replicate {A = ℕ} (16 * maxNodes) 0, few), within-zeros n (16 * maxNodes) e)
+
+pub filled-room : (n : ℕ) (r : ℕ → ℕ → Bool) {rows : List ℕ} → n ≤ maxNodes → rows ≡ rowsOf n r (16 * maxNodes) → (n ≤ maxNodes) × (16 * n ≤ length rows) × Within n rows
+filled-room n r few e = (few, omega (arith, few, length-of-rows n r (16 * maxNodes) e), within-rows n r (16 * maxNodes) e)
+
+-- rows that are filled from each node alone have what is followed the other way
+pub turned : (back : Bool) (r : ℕ → ℕ → Bool) → converse (converseIf (not back) r) ≡ converseIf back r
+turned true r = refl
+turned false r = refl
 
 -- row v, the words from 16 * v on
 pub has-row : (n : ℕ) (r : ℕ → ℕ → Bool) (words : ℕ) {rows : List ℕ} → rows ≡ rowsOf n r words → (v : ℕ) → 16 * v + 16 ≤ words → (w : ℕ) → w < maxNodes → has (drop (16 * v) rows) w ≡ between n r v w

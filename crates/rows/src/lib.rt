@@ -1,10 +1,10 @@
 // The ends from every node at once: rows of sixteen words, a row for each of n nodes.
 //
-// A path is gone through backwards, from each node alone: a fact of its last link puts its object into the row of its subject, one of
+// A path is gone through backwards (forwards, where its ends are read backwards), from each node alone: a fact of its last link puts its object into the row of its subject, one of
 // a link before that or-s row into row. No function scans the facts for each start node.
 //
 // For the crates above, which show that the facts lie between n nodes and that the path entries' tables are well formed:
-//   all_ends         the rows become the ends, where they held nothing past n nodes
+//   all_ends         the rows become the ends, where they held nothing past n nodes; read backwards where back
 //   all_table_ends   the same over the facts of the tables
 use paths::End;
 use paths::Sets;
@@ -26,6 +26,7 @@ ghost use Rattle.tables.specs.Decode.{triplesAt};
 ghost use Rattle.tables.specs.WellFormed.{wellFormed};
 ghost use Rattle.paths.specs.Facts.{Tables, FactsOk, triplesOf};
 ghost use Rattle.paths.specs.Ends.{endIn, endKnown};
+ghost use Rattle.paths.specs.Images.{converseIf};
 ghost use Rattle.closure.specs.Rows.{rowsOf, Within};
 
 // Nothing is left in the rows, where nothing stands past those of n nodes.
@@ -38,10 +39,11 @@ fn clear(rows: &mut [u64], n: usize)
     }
 }
 
-// The rows of the n nodes become their ends. Nothing stands past them, before and after.
+// The rows of the n nodes become their ends, read backwards where back. Nothing stands past them, before and after.
 pub fn all_ends(
     rows: &mut [u64],
     end: End,
+    back: bool,
     cells: &[u16],
     s: &[u16],
     p: &[u16],
@@ -51,14 +53,14 @@ pub fn all_ends(
     n: usize,
 )
     requires { ⌜ FactsOk (now s) (now p) (now o) (now index) len n × (wellFormed (now cells) ≡ true) × (endKnown (now cells) end ≡ true) × (16 * n ≤ length (now rows)) × Within n (now rows) ⌝ }
-    ensures { λ _. ⌜ now (rows .exit) ≡ rowsOf n (endsOf n (triplesOf (now (s .entry)) (now (p .entry)) (now (o .entry)) len) (endIn (now (cells .entry)) end)) (length (now (rows .entry))) ⌝ }
+    ensures { λ _. ⌜ now (rows .exit) ≡ rowsOf n (converseIf back (endsOf n (triplesOf (now (s .entry)) (now (p .entry)) (now (o .entry)) len) (endIn (now (cells .entry)) end))) (length (now (rows .entry))) ⌝ }
 {
     clear(rows, n);
     let none = [0u64; 1];
     follow(
         rows,
         end,
-        true,
+        !back,
         Sets::Own,
         &none,
         cells,
@@ -72,14 +74,14 @@ pub fn all_ends(
 }
 
 // The same over the facts of the tables.
-pub fn all_table_ends(rows: &mut [u64], end: End, cells: &[u16], index: &[u16])
+pub fn all_table_ends(rows: &mut [u64], end: End, back: bool, cells: &[u16], index: &[u16])
     requires { ⌜ Tables (now cells) (now index) × (endKnown (now cells) end ≡ true) × (16 * nodeCount (now cells) ≤ length (now rows)) × Within (nodeCount (now cells)) (now rows) ⌝ }
-    ensures { λ _. ⌜ now (rows .exit) ≡ rowsOf (nodeCount (now (cells .entry))) (endsOf (nodeCount (now (cells .entry))) (triplesAt (now (cells .entry))) (endIn (now (cells .entry)) end)) (length (now (rows .entry))) ⌝ }
+    ensures { λ _. ⌜ now (rows .exit) ≡ rowsOf (nodeCount (now (cells .entry))) (converseIf back (endsOf (nodeCount (now (cells .entry))) (triplesAt (now (cells .entry))) (endIn (now (cells .entry)) end))) (length (now (rows .entry))) ⌝ }
 {
     let n = node_count(cells);
     let len = fact_count(cells);
     let s = &cells[SUBJECTS..PREDICATES];
     let p = &cells[PREDICATES..OBJECTS];
     let o = &cells[OBJECTS..PATH_CODES];
-    all_ends(rows, end, cells, s, p, o, index, len, n);
+    all_ends(rows, end, back, cells, s, p, o, index, len, n);
 }

@@ -9,7 +9,8 @@ use lib.ListN.{length, take}
 use borrow.Author.Tests.{leb-true}
 use Rattle.base.proofs.Bools.{and-left, and-right}
 use Rattle.model.proofs.Answers.{Answering}
-use Rattle.tables.specs.Layout.{cellCount, valueCount}
+use Rattle.tables.specs.Layout.{nameCount, cellCount, valueCount}
+use Rattle.tables.specs.Names.{subClassAt}
 use Rattle.tables.specs.Sizes.{longEnough}
 use Rattle.tables.proofs.Sizes.{Long, as-long}
 use Rattle.plan.specs.Layout.{planCount}
@@ -17,7 +18,7 @@ use Rattle.plancheck.specs.Both.{bothWellFormed}
 use Rattle.runner.specs.Run.{workCount, filled, runLong, runAnswer, workAfter}
 
 module _ (ns cs : List ℕ) (vs : List ℤ) (ps ws : List ℕ) where
-  pub run-answers : Answering (runLong ns cs vs ps ws) (bothWellFormed (take cellCount cs) (take planCount ps)) true tt (filled (take cellCount cs) (take valueCount vs) (take planCount ps) ws) ws (runAnswer ns cs vs ps ws) (workAfter ns cs vs ps ws)
+  pub run-answers : Answering (runLong ns cs vs ps ws) (bothWellFormed (take cellCount cs) (take planCount ps)) true tt (filled (subClassAt (take nameCount ns) (take cellCount cs)) (take cellCount cs) (take valueCount vs) (take planCount ps) ws) ws (runAnswer ns cs vs ps ws) (workAfter ns cs vs ps ws)
   unfolding runAnswer workAfter
   run-answers = record { answer = refl; left = refl }
 

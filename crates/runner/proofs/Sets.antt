@@ -1,6 +1,7 @@
 -- What a step asks for: the words that the calls give for it are the step's set, and a right step meets what they require.
 use Prim.Native.Nat.{ℕ, _+_, _-_, _*_, _≤_, _<_, suc}
 use mathlib.Core.List.{List, []}
+use mathlib.Core.Option.{Option}
 use mathlib.Core.Bool.{Bool, true, false, _&&_, _||_, true≢false}
 use mathlib.Core.Path.{_≡_, refl, sym, ap, _∙_}
 use native.Mathlib.Omega.{arith}
@@ -12,13 +13,14 @@ use Rattle.base.specs.Bounded.{size}
 use Rattle.base.specs.Lists.{member}
 use Rattle.base.proofs.Bools.{bool-cases, and-left, two-below}
 use Rattle.base.proofs.Bounded.{size-beyond}
-use Rattle.nodeset.specs.Words.{has, wordsOf}
+use Rattle.nodeset.specs.Words.{has, wordsOf, nodesOf}
 use Rattle.nodeset.proofs.Sets.{zeros}
 use Rattle.model.specs.Graph.{holds}
 use Rattle.model.specs.Limits.{maxCount, maxNodes, maxSteps}
 use Rattle.model.specs.Paths as model
 use Rattle.model.specs.Paths.{along, endsOf}
 use Rattle.model.specs.Shapes.{within, subset, from, objects, starts, conforms}
+use Rattle.model.specs.Rules.{selects}
 use Rattle.tables.specs.Codes as codes
 use Rattle.tables.specs.Layout.{nodeCount, linkCount, pathCount, formCount, formCodeAt, formFirstAt, formSecondAt}
 use Rattle.tables.specs.Decode.{graphAt, itemsAt, pathAt, endAt, upperOf, entryAt}
@@ -34,22 +36,21 @@ use Rattle.paths.specs.Facts.{Tables}
 use Rattle.paths.specs.Ends.{endIn, endKnown}
 use Rattle.entries.specs.Tables.{endFor}
 use Rattle.entries.proofs.Ends.{end-in, end-ok}
-use Rattle.stepsets.specs.Conditions.{nodesOf, holdsOf, tagged, conditionOk}
-use Rattle.stepsets.specs.Targets.{picked}
+use Rattle.stepsets.specs.Conditions.{holdsOf, tagged, conditionOk}
 use Rattle.stepsets.specs.declared.Condition.{Condition}
 use Rattle.stepsets.specs.declared.Condition.the-variants.{Equal, Unequal, Apart, Meet}
 use Rattle.stepsets.proofs.Conditions.{one-tagged, many-tagged}
 use Rattle.stepsets.proofs.Nodes.{nodes-ext, nodes-all, nodes-never}
 use Rattle.stepsets.proofs.Rows.{ends-low}
-use Rattle.stepsets.proofs.Targets.{picked-from, picked-into, picked-typed}
+use Rattle.targets.specs.Targets.{targetIn, TargetOk}
 use Rattle.runner.specs.declared.Kind.{Kind}
-use Rattle.runner.specs.declared.Kind.the-variants.{Whole, Empty, Node, Both, Either, Path, Ends, Lang, Facts, Links}
+use Rattle.runner.specs.declared.Kind.the-variants.{Whole, Empty, Node, Both, Either, Path, Ends, Lang, Selected, Links}
 use Rattle.runner.specs.Kinds.{kindOf}
 use Rattle.runner.specs.Steps.{stepFrom}
 use Rattle.runner.proofs.Tests.{test-meets, opened-by, closed-by}
 
 -- the words, as the calls promise them
-module _ (cs : List ℕ) (vs : List ℤ) (ws : List ℕ) where
+module _ (sub : Option ℕ) (cs : List ℕ) (vs : List ℤ) (ws : List ℕ) where
   unfoldable pub kindSet : Kind → List ℕ
   kindSet Whole = wordsOf (λ v. ltb v (nodeCount cs)) 16
   kindSet Empty = replicate 16 0
@@ -59,7 +60,7 @@ module _ (cs : List ℕ) (vs : List ℤ) (ws : List ℕ) where
   kindSet (Path condition p j) = nodesOf (λ v. holdsOf cs vs condition (from (graphAt cs vs) (pathAt cs p) v) (has (drop (16 * j) ws)) v) (nodeCount cs)
   kindSet (Ends condition end l) = nodesOf (λ v. holdsOf cs vs condition (starts (graphAt cs vs) (endIn cs end) v) (objects (graphAt cs vs) (l .0) v) v) (nodeCount cs)
   kindSet (Lang condition p) = nodesOf (λ v. holdsOf cs vs condition (from (graphAt cs vs) (pathAt cs p) v) (tagged cs) v) (nodeCount cs)
-  kindSet (Facts target) = nodesOf (picked cs target) (nodeCount cs)
+  kindSet (Selected target) = nodesOf (selects sub (graphAt cs []) (targetIn target)) (nodeCount cs)
   kindSet (Links condition e) = nodesOf (λ v. holdsOf cs vs condition (λ w. false) (λ l. member l (itemsAt cs (formFirstAt cs e) (formSecondAt cs e))) v) (nodeCount cs)
 
 -- what the calls require
@@ -72,7 +73,7 @@ KindOk cs (Either i j) = (i < 65536) × (j < 65536)
 KindOk cs (Path condition p j) = (p < pathCount cs) × (j < 65536) × (conditionOk cs condition ≡ true)
 KindOk cs (Ends condition end l) = (endKnown cs end ≡ true) × (conditionOk cs condition ≡ true)
 KindOk cs (Lang condition p) = (p < pathCount cs) × (conditionOk cs condition ≡ true)
-KindOk cs (Facts target) = Unit {0}
+KindOk cs (Selected target) = TargetOk cs target
 KindOk cs (Links condition e) = (e < formCount cs) × (formCodeAt cs e ≡ codes.formClosed) × (conditionOk cs condition ≡ true)
 
 -- ---- a right step meets it
@@ -117,16 +118,16 @@ module _ (cs : List ℕ) (k : ℕ) (low : k < maxSteps) where
   kind-ok (Step.manylang p) w = (ltb-true p (pathCount cs) w, refl)
   kind-ok (Step.from l) w = tt
   kind-ok (Step.into l) w = tt
-  kind-ok (Step.typed c) w = tt
+  kind-ok (Step.typed c) w = ltb-true c (nodeCount cs) w
   kind-ok Step.bad w = tt
 
 -- ---- the words are those of its set
-module _ (cs index : List ℕ) (tables : Tables cs index) (vs : List ℤ) (ws : List ℕ) (k : ℕ) where
+module _ (sub : Option ℕ) (cs index : List ℕ) (tables : Tables cs index) (vs : List ℤ) (ws : List ℕ) (k : ℕ) where
   abbrev n : ℕ
   n = nodeCount cs
 
   -- the ends are nodes: there is nothing to count past the last
-  counted : (p j lo hi : ℕ) → kindSet cs vs ws (kindOf (Step.count p j lo hi)) ≡ nodesOf (inStep cs vs (Step.count p j lo hi) (λ j. has (drop (16 * j) ws))) n
+  counted : (p j lo hi : ℕ) → kindSet sub cs vs ws (kindOf (Step.count p j lo hi)) ≡ nodesOf (inStep sub cs vs (Step.count p j lo hi) (λ j. has (drop (16 * j) ws))) n
   unfolding kindSet kindOf inStep holdsOf graphAt endsOf
   counted p j lo hi = nodes-ext _ _ n (λ v l.
       let q : ℕ → Bool = λ w. from (graphAt cs vs) (pathAt cs p) v w && has (drop (16 * j) ws) w in
@@ -139,8 +140,8 @@ module _ (cs index : List ℕ) (tables : Tables cs index) (vs : List ℤ) (ws : 
   by-end : (condition : Condition) (f l : ℕ) → nodesOf (λ v. holdsOf cs vs condition (starts (graphAt cs vs) (endIn cs (endFor f)) v) (objects (graphAt cs vs) l v) v) n ≡ nodesOf (λ v. holdsOf cs vs condition (starts (graphAt cs vs) (endAt cs f) v) (objects (graphAt cs vs) l v) v) n
   by-end condition f l = ap (λ (x : model.End). nodesOf (λ v. holdsOf cs vs condition (starts (graphAt cs vs) x v) (objects (graphAt cs vs) l v) v) n) (end-in cs f)
 
-  kind-set : (s : Step) → stepOk cs k s ≡ true → kindSet cs vs ws (kindOf s) ≡ nodesOf (inStep cs vs s (λ j. has (drop (16 * j) ws))) n
-  unfolding kindSet kindOf stepOk inStep conforms holdsOf graphAt subset endIn endsOf
+  kind-set : (s : Step) → stepOk cs k s ≡ true → kindSet sub cs vs ws (kindOf s) ≡ nodesOf (inStep sub cs vs s (λ j. has (drop (16 * j) ws))) n
+  unfolding kindSet kindOf stepOk inStep selects conforms holdsOf graphAt subset endIn endsOf
   kind-set Step.all w = nodes-all n
   kind-set Step.none w = zeros 16 ∙ nodes-never n
   kind-set (Step.is c) w = refl
@@ -163,12 +164,12 @@ module _ (cs index : List ℕ) (tables : Tables cs index) (vs : List ℤ) (ws : 
   kind-set (Step.notlesseq p l) w = refl
   kind-set (Step.onelang p) w = nodes-ext _ _ n (λ v l. one-tagged cs vs (from (graphAt cs vs) (pathAt cs p) v) v)
   kind-set (Step.manylang p) w = nodes-ext _ _ n (λ v l. many-tagged cs vs (from (graphAt cs vs) (pathAt cs p) v) v)
-  kind-set (Step.from l) w = nodes-ext _ _ n (λ v m. picked-from cs vs v (record { 0 = l }))
-  kind-set (Step.into l) w = nodes-ext _ _ n (λ v m. picked-into cs vs v (record { 0 = l }))
-  kind-set (Step.typed c) w = nodes-ext _ _ n (λ v m. picked-typed cs vs v (record { 0 = c }))
+  kind-set (Step.from l) w = refl
+  kind-set (Step.into l) w = refl
+  kind-set (Step.typed c) w = refl
   kind-set Step.bad w = absurd (true≢false (sym w))
 
   -- of step k
-  pub kind-from : (ps : List ℕ) → stepOk cs k (stepAt ps k) ≡ true → kindSet cs vs ws (kindOf (stepAt ps k)) ≡ stepFrom cs vs ps ws k
+  pub kind-from : (ps : List ℕ) → stepOk cs k (stepAt ps k) ≡ true → kindSet sub cs vs ws (kindOf (stepAt ps k)) ≡ stepFrom sub cs vs ps ws k
   unfolding stepFrom
   kind-from ps w = kind-set (stepAt ps k) w

@@ -1,6 +1,7 @@
 -- The step that a code and operands make, and what is known of it where it is right.
 use Prim.Native.Nat.{ℕ, suc, _<_}
 use mathlib.Core.List.{List}
+use mathlib.Core.Option.{Option}
 use mathlib.Core.Bool.{Bool, true, _&&_, _||_}
 use mathlib.Core.Path.{_≡_, refl, ap, ap₂}
 use lib.Dec.{ltb, leb}
@@ -18,8 +19,8 @@ use Rattle.plan.specs.Sets.{inStep}
 use Rattle.plan.specs.WellFormed.{stepOk}
 
 -- a right step looks only at lower steps, and there only at nodes
-module _ (cs : List ℕ) (vs : List ℤ) (k : ℕ) (f g : ℕ → ℕ → Bool) (h : (j : ℕ) → j < k → (w : ℕ) → w < nodeCount cs → f j w ≡ g j w) (v : ℕ) (low : v < nodeCount cs) where
-  pub in-step-ext : (s : Step) → stepOk cs k s ≡ true → inStep cs vs s f v ≡ inStep cs vs s g v
+module _ (sub : Option ℕ) (cs : List ℕ) (vs : List ℤ) (k : ℕ) (f g : ℕ → ℕ → Bool) (h : (j : ℕ) → j < k → (w : ℕ) → w < nodeCount cs → f j w ≡ g j w) (v : ℕ) (low : v < nodeCount cs) where
+  pub in-step-ext : (s : Step) → stepOk cs k s ≡ true → inStep sub cs vs s f v ≡ inStep sub cs vs s g v
   unfolding stepOk inStep graphAt
   in-step-ext Step.all w = refl
   in-step-ext Step.none w = refl

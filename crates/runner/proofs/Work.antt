@@ -1,6 +1,7 @@
 -- The work space, step by step.
 use Prim.Native.Nat.{ℕ, zero, suc, _+_, _-_, _*_, _≤_, _<_}
 use mathlib.Core.List.{List, _++_, append-assoc, append-nil}
+use mathlib.Core.Option.{Option}
 use mathlib.Core.Bool.{Bool, true, false, _&&_}
 use mathlib.Core.Path.{_≡_, refl, sym, ap, ap₂, _∙_}
 use mathlib.Core.Logic.{⊎-elim}
@@ -14,7 +15,7 @@ use lib.Seq.{take-all, take-at, drop-at, drop-drop}
 use borrow.Rule.Slice.PartMut.{putMid}
 use borrow.Author.Tests.{lt-ltb}
 use Rattle.base.proofs.Numbered.{at-number, below-number}
-use Rattle.nodeset.specs.Words.{has, stored}
+use Rattle.nodeset.specs.Words.{has, stored, nodesOf}
 use Rattle.nodeset.proofs.Sets.{length-wordsOf, has-take, has-of, length-of}
 use Rattle.nodeset.proofs.Stores.{stored-whole}
 use Rattle.model.specs.Limits.{maxNodes}
@@ -22,7 +23,6 @@ use Rattle.tables.specs.Layout.{nodeCount}
 use Rattle.plan.specs.Layout.{stepAt, stepCount}
 use Rattle.plan.specs.Sets.{inStep, setBy, setAt}
 use Rattle.plan.specs.WellFormed.{stepOk}
-use Rattle.stepsets.specs.Conditions.{nodesOf}
 use Rattle.stepsets.proofs.Nodes.{nodes-ext}
 use Rattle.runner.specs.Run.{setWords, stepWords, filled}
 use Rattle.runner.specs.Steps.{stepFrom, put}
@@ -38,75 +38,75 @@ put-tail ws s k n ls room e q =
     ∙ ap (λ (x : List ℕ). take (16 * k) ws ++ x)
     (append-nil (stored t s) ∙ stored-whole t s (omega arith) ∙ ap (λ (m : ℕ). s ++ drop m t) ls ∙ ap (λ (x : List ℕ). s ++ x) (drop-drop 16 (16 * k) ws))
 
-module _ (cs : List ℕ) (vs : List ℤ) (ps : List ℕ) where
-  length-set-words : (k : ℕ) → length (setWords cs vs ps k) ≡ 16
+module _ (sub : Option ℕ) (cs : List ℕ) (vs : List ℤ) (ps : List ℕ) where
+  length-set-words : (k : ℕ) → length (setWords sub cs vs ps k) ≡ 16
   unfolding setWords nodesOf
-  length-set-words k = length-wordsOf (λ v. ltb v (nodeCount cs) && setAt cs vs ps k v) 16
+  length-set-words k = length-wordsOf (λ v. ltb v (nodeCount cs) && setAt sub cs vs ps k v) 16
 
-  length-steps : (k : ℕ) → length (stepWords cs vs ps k) ≡ 16 * k
+  length-steps : (k : ℕ) → length (stepWords sub cs vs ps k) ≡ 16 * k
   unfolding stepWords
   length-steps zero = refl
-  length-steps (suc k) = length-append (stepWords cs vs ps k) (setWords cs vs ps k) ∙ (let z : length (stepWords cs vs ps k) + length (setWords cs vs ps k) ≡ 16 * suc k = omega (arith, length-steps k, length-set-words k) in z)
+  length-steps (suc k) = length-append (stepWords sub cs vs ps k) (setWords sub cs vs ps k) ∙ (let z : length (stepWords sub cs vs ps k) + length (setWords sub cs vs ps k) ≡ 16 * suc k = omega (arith, length-steps k, length-set-words k) in z)
 
   -- what stands from word 16 * j on, where the steps below k have their words
-  part-words : (k j : ℕ) (rest : List ℕ) → j < k → take 16 (drop (16 * j) (stepWords cs vs ps k ++ rest)) ≡ setWords cs vs ps j
+  part-words : (k j : ℕ) (rest : List ℕ) → j < k → take 16 (drop (16 * j) (stepWords sub cs vs ps k ++ rest)) ≡ setWords sub cs vs ps j
   unfolding stepWords
   part-words zero j rest l = absurd (omega arith)
-  part-words (suc k) j rest l = ap (λ (r : List ℕ). take 16 (drop (16 * j) r)) (append-assoc (stepWords cs vs ps k) (setWords cs vs ps k) rest) ∙ ⊎-elim here (λ l′. part-words k j (setWords cs vs ps k ++ rest) l′) (eq-or-lt-of-le (le-of-suc-le-suc l))
+  part-words (suc k) j rest l = ap (λ (r : List ℕ). take 16 (drop (16 * j) r)) (append-assoc (stepWords sub cs vs ps k) (setWords sub cs vs ps k) rest) ∙ ⊎-elim here (λ l′. part-words k j (setWords sub cs vs ps k ++ rest) l′) (eq-or-lt-of-le (le-of-suc-le-suc l))
     where
-      here : j ≡ k → take 16 (drop (16 * j) (stepWords cs vs ps k ++ (setWords cs vs ps k ++ rest))) ≡ setWords cs vs ps j
+      here : j ≡ k → take 16 (drop (16 * j) (stepWords sub cs vs ps k ++ (setWords sub cs vs ps k ++ rest))) ≡ setWords sub cs vs ps j
       here e =
-          ap (take 16) (drop-at (stepWords cs vs ps k) (setWords cs vs ps k ++ rest) (16 * j) (omega (arith, length-steps k)))
-          ∙ take-at (setWords cs vs ps k) rest 16 (length-set-words k)
-          ∙ ap (setWords cs vs ps) (sym e)
+          ap (take 16) (drop-at (stepWords sub cs vs ps k) (setWords sub cs vs ps k ++ rest) (16 * j) (omega (arith, length-steps k)))
+          ∙ take-at (setWords sub cs vs ps k) rest 16 (length-set-words k)
+          ∙ ap (setWords sub cs vs ps) (sym e)
 
   module _ (few : nodeCount cs ≤ maxNodes) where
-    part-has : (k j : ℕ) (rest : List ℕ) → j < k → (w : ℕ) → w < nodeCount cs → has (drop (16 * j) (stepWords cs vs ps k ++ rest)) w ≡ setAt cs vs ps j w
+    part-has : (k j : ℕ) (rest : List ℕ) → j < k → (w : ℕ) → w < nodeCount cs → has (drop (16 * j) (stepWords sub cs vs ps k ++ rest)) w ≡ setAt sub cs vs ps j w
     unfolding setWords nodesOf
     part-has k j rest l w lw =
-        sym (has-take (drop (16 * j) (stepWords cs vs ps k ++ rest)) 16 w (omega arith))
-        ∙ has-of (λ v. ltb v (nodeCount cs) && setAt cs vs ps j v) 16 (part-words k j rest l) w (omega arith)
-        ∙ ap (λ (b : Bool). b && setAt cs vs ps j w) (lt-ltb w (nodeCount cs) lw)
+        sym (has-take (drop (16 * j) (stepWords sub cs vs ps k ++ rest)) 16 w (omega arith))
+        ∙ has-of (λ v. ltb v (nodeCount cs) && setAt sub cs vs ps j v) 16 (part-words k j rest l) w (omega arith)
+        ∙ ap (λ (b : Bool). b && setAt sub cs vs ps j w) (lt-ltb w (nodeCount cs) lw)
 
     -- step k from the words of the steps below it is step k
-    step-from : (k : ℕ) (rest : List ℕ) → stepOk cs k (stepAt ps k) ≡ true → stepFrom cs vs ps (stepWords cs vs ps k ++ rest) k ≡ setWords cs vs ps k
+    step-from : (k : ℕ) (rest : List ℕ) → stepOk cs k (stepAt ps k) ≡ true → stepFrom sub cs vs ps (stepWords sub cs vs ps k ++ rest) k ≡ setWords sub cs vs ps k
     unfolding stepFrom setWords nodesOf setAt setBy
     step-from k rest ok = nodes-ext _ _ (nodeCount cs) (λ v l.
-        in-step-ext cs vs k _ _ (λ j lj w lw. part-has k j rest lj w lw ∙ sym (ap (λ (s : ℕ → Bool). s w) (below-number (λ v. false) (λ k sets. inStep cs vs (stepAt ps k) sets) k j lj))) v l (stepAt ps k) ok
-        ∙ sym (ap (λ (s : ℕ → Bool). s v) (at-number (λ v. false) (λ k sets. inStep cs vs (stepAt ps k) sets) k)))
+        in-step-ext sub cs vs k _ _ (λ j lj w lw. part-has k j rest lj w lw ∙ sym (ap (λ (s : ℕ → Bool). s w) (below-number (λ v. false) (λ k sets. inStep sub cs vs (stepAt ps k) sets) k j lj))) v l (stepAt ps k) ok
+        ∙ sym (ap (λ (s : ℕ → Bool). s v) (at-number (λ v. false) (λ k sets. inStep sub cs vs (stepAt ps k) sets) k)))
 
     -- a turn of the loop over the steps
-    pub steps-more : (ws : List ℕ) {now : List ℕ} (k : ℕ) → stepOk cs k (stepAt ps k) ≡ true → now ≡ stepWords cs vs ps k ++ drop (16 * k) ws → put now k (stepFrom cs vs ps now k) ≡ stepWords cs vs ps (k + 1) ++ drop (16 * (k + 1)) ws
+    pub steps-more : (ws : List ℕ) {now : List ℕ} (k : ℕ) → stepOk cs k (stepAt ps k) ≡ true → now ≡ stepWords sub cs vs ps k ++ drop (16 * k) ws → put now k (stepFrom sub cs vs ps now k) ≡ stepWords sub cs vs ps (k + 1) ++ drop (16 * (k + 1)) ws
     unfolding put stepWords
     steps-more ws {now} k ok e =
-        ap (λ (l : List ℕ). put l k (stepFrom cs vs ps l k)) e
-        ∙ ap₂ (λ (x y : List ℕ). x ++ y) (take-at (stepWords cs vs ps k) (drop (16 * k) ws) (16 * k) (length-steps k))
-        (ap₂ (λ (x y : List ℕ). x ++ y) (step-from k (drop (16 * k) ws) ok) (sym (drop-drop 16 (16 * k) (stepWords cs vs ps k ++ drop (16 * k) ws)) ∙ ap (drop 16) (drop-at (stepWords cs vs ps k) (drop (16 * k) ws) (16 * k) (length-steps k)) ∙ drop-drop 16 (16 * k) ws))
-        ∙ sym (append-assoc (stepWords cs vs ps k) (setWords cs vs ps k) (drop (16 * k + 16) ws))
-        ∙ ap₂ (λ (i m : ℕ). stepWords cs vs ps i ++ drop m ws) (sym (add-one k)) (let z : 16 * k + 16 ≡ 16 * (k + 1) = omega arith in z)
+        ap (λ (l : List ℕ). put l k (stepFrom sub cs vs ps l k)) e
+        ∙ ap₂ (λ (x y : List ℕ). x ++ y) (take-at (stepWords sub cs vs ps k) (drop (16 * k) ws) (16 * k) (length-steps k))
+        (ap₂ (λ (x y : List ℕ). x ++ y) (step-from k (drop (16 * k) ws) ok) (sym (drop-drop 16 (16 * k) (stepWords sub cs vs ps k ++ drop (16 * k) ws)) ∙ ap (drop 16) (drop-at (stepWords sub cs vs ps k) (drop (16 * k) ws) (16 * k) (length-steps k)) ∙ drop-drop 16 (16 * k) ws))
+        ∙ sym (append-assoc (stepWords sub cs vs ps k) (setWords sub cs vs ps k) (drop (16 * k + 16) ws))
+        ∙ ap₂ (λ (i m : ℕ). stepWords sub cs vs ps i ++ drop m ws) (sym (add-one k)) (let z : 16 * k + 16 ≡ 16 * (k + 1) = omega arith in z)
 
-  pub steps-none : (ws : List ℕ) → ws ≡ stepWords cs vs ps 0 ++ drop (16 * 0) ws
+  pub steps-none : (ws : List ℕ) → ws ≡ stepWords sub cs vs ps 0 ++ drop (16 * 0) ws
   unfolding stepWords
   steps-none ws = refl
 
-  pub steps-done : (ws : List ℕ) {now : List ℕ} (k : ℕ) → k ≡ stepCount ps → now ≡ stepWords cs vs ps k ++ drop (16 * k) ws → now ≡ filled cs vs ps ws
+  pub steps-done : (ws : List ℕ) {now : List ℕ} (k : ℕ) → k ≡ stepCount ps → now ≡ stepWords sub cs vs ps k ++ drop (16 * k) ws → now ≡ filled sub cs vs ps ws
   unfolding filled
-  steps-done ws k e h = h ∙ ap (λ (i : ℕ). stepWords cs vs ps i ++ drop (16 * i) ws) e
+  steps-done ws k e h = h ∙ ap (λ (i : ℕ). stepWords sub cs vs ps i ++ drop (16 * i) ws) e
 
   -- ---- what stands in the work space afterwards, from word 16 * k on: the sixteen words of step k, and so its set
-  pub filled-words : (ws : List ℕ) (k : ℕ) → k < stepCount ps → take 16 (drop (16 * k) (filled cs vs ps ws)) ≡ setWords cs vs ps k
+  pub filled-words : (ws : List ℕ) (k : ℕ) → k < stepCount ps → take 16 (drop (16 * k) (filled sub cs vs ps ws)) ≡ setWords sub cs vs ps k
   unfolding filled
   filled-words ws k l = part-words (stepCount ps) k (drop (16 * stepCount ps) ws) l
 
-  pub length-filled : (ws : List ℕ) → 16 * stepCount ps ≤ length ws → length (filled cs vs ps ws) ≡ length ws
+  pub length-filled : (ws : List ℕ) → 16 * stepCount ps ≤ length ws → length (filled sub cs vs ps ws) ≡ length ws
   unfolding filled
-  length-filled ws room = omega (arith, room, length-append (stepWords cs vs ps (stepCount ps)) (drop (16 * stepCount ps) ws), length-steps (stepCount ps), length-drop (16 * stepCount ps) ws)
+  length-filled ws room = omega (arith, room, length-append (stepWords sub cs vs ps (stepCount ps)) (drop (16 * stepCount ps) ws), length-steps (stepCount ps), length-drop (16 * stepCount ps) ws)
 
-  pub filled-has : nodeCount cs ≤ maxNodes → (ws : List ℕ) (k : ℕ) → k < stepCount ps → (v : ℕ) → v < nodeCount cs → has (drop (16 * k) (filled cs vs ps ws)) v ≡ setAt cs vs ps k v
+  pub filled-has : nodeCount cs ≤ maxNodes → (ws : List ℕ) (k : ℕ) → k < stepCount ps → (v : ℕ) → v < nodeCount cs → has (drop (16 * k) (filled sub cs vs ps ws)) v ≡ setAt sub cs vs ps k v
   unfolding filled
   filled-has few ws k l v lv = part-has few (stepCount ps) k (drop (16 * stepCount ps) ws) l v lv
 
 -- a step's words are sixteen
-pub length-step : (cs : List ℕ) (vs : List ℤ) (ps ws : List ℕ) (k : ℕ) {s : List ℕ} → s ≡ stepFrom cs vs ps ws k → length s ≡ 16
+pub length-step : (sub : Option ℕ) (cs : List ℕ) (vs : List ℤ) (ps ws : List ℕ) (k : ℕ) {s : List ℕ} → s ≡ stepFrom sub cs vs ps ws k → length s ≡ 16
 unfolding stepFrom nodesOf
-length-step cs vs ps ws k e = length-of _ 16 e
+length-step sub cs vs ps ws k e = length-of _ 16 e

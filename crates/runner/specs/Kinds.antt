@@ -8,9 +8,9 @@ use Rattle.entries.specs.Tables.{endFor}
 use Rattle.stepsets.specs.declared.Kept.{Kept}
 use Rattle.stepsets.specs.declared.Kept.the-variants.{RowsOf}
 use Rattle.stepsets.specs.declared.Condition.the-variants.{Is, IsNot, Test, Untest, Count, Every, Equal, Unequal, Apart, Meet, Less, NotLess, LessEq, NotLessEq, OneLang, ManyLang, Closed, Open}
-use Rattle.stepsets.specs.declared.Target.the-variants.{From, Into, Typed}
+use Rattle.targets.specs.declared.Target.the-variants.{From, Into, Typed}
 use Rattle.runner.specs.declared.Kind.{Kind}
-use Rattle.runner.specs.declared.Kind.the-variants.{Whole, Empty, Node, Both, Either, Path, Ends, Lang, Facts, Links}
+use Rattle.runner.specs.declared.Kind.the-variants.{Whole, Empty, Node, Both, Either, Path, Ends, Lang, Selected, Links}
 
 -- a number as that of a node, of a link
 abbrev pub node : ℕ → NodeNo
@@ -42,9 +42,9 @@ kindOf (Step.lesseq p l) = Ends LessEq (End.Path p) (link l)
 kindOf (Step.notlesseq p l) = Ends NotLessEq (End.Path p) (link l)
 kindOf (Step.onelang p) = Lang OneLang p
 kindOf (Step.manylang p) = Lang ManyLang p
-kindOf (Step.from l) = Facts (From (link l))
-kindOf (Step.into l) = Facts (Into (link l))
-kindOf (Step.typed c) = Facts (Typed (node c))
+kindOf (Step.from l) = Selected (From (link l))
+kindOf (Step.into l) = Selected (Into (link l))
+kindOf (Step.typed c) = Selected (Typed (node c))
 kindOf Step.bad = Empty
 
 -- ---- what the two arrays of rows hold after a step
@@ -57,7 +57,7 @@ firstAfter (Either i j) kept = kept
 firstAfter (Path condition p j) kept = RowsOf (End.Path p)
 firstAfter (Ends condition end l) kept = RowsOf end
 firstAfter (Lang condition p) kept = RowsOf (End.Path p)
-firstAfter (Facts target) kept = kept
+firstAfter (Selected target) kept = kept
 firstAfter (Links condition e) kept = kept
 
 unfoldable pub secondAfter : Kind → Kept → Kept
@@ -69,5 +69,5 @@ secondAfter (Either i j) kept = kept
 secondAfter (Path condition p j) kept = kept
 secondAfter (Ends condition end l) kept = RowsOf (End.Link l)
 secondAfter (Lang condition p) kept = kept
-secondAfter (Facts target) kept = kept
+secondAfter (Selected target) kept = kept
 secondAfter (Links condition e) kept = kept

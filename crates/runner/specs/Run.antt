@@ -1,14 +1,16 @@
 -- What running a plan does: the answer, and the work space afterwards.
 use Prim.Native.Nat.{ℕ, zero, suc, _*_}
 use mathlib.Core.List.{List, [], _++_}
+use mathlib.Core.Option.{Option}
 use mathlib.Core.Bool.{Bool, true, _&&_}
 use lib.Dec.{leb}
 use lib.IntN.{ℤ}
 use lib.ListN.{length, take, drop}
-use Rattle.stepsets.specs.Conditions.{nodesOf}
+use Rattle.nodeset.specs.Words.{nodesOf}
 use Rattle.model.specs.Answers.{Answer, value, refusalOf, checked, unlessRefused}
 use Rattle.model.specs.Limits.{maxSteps}
-use Rattle.tables.specs.Layout.{cellCount, valueCount, nodeCount}
+use Rattle.tables.specs.Layout.{nameCount, cellCount, valueCount, nodeCount}
+use Rattle.tables.specs.Names.{subClassAt}
 use Rattle.tables.specs.Sizes.{longEnough}
 use Rattle.plan.specs.Layout.{planCount, stepCount}
 use Rattle.plan.specs.Sets.{setAt}
@@ -29,11 +31,11 @@ abbrev pub answerOf : Ran → Answer (Unit {0})
 answerOf Done = value tt
 answerOf (Refused r) = refusalOf r
 
--- ---- the work space
-module _ (cs : List ℕ) (vs : List ℤ) (ps : List ℕ) where
+-- ---- the work space; sub: the link `under`, where the tables have it
+module _ (sub : Option ℕ) (cs : List ℕ) (vs : List ℤ) (ps : List ℕ) where
   -- the sixteen words of step k's set: its nodes, and no bit past the last node
   unfoldable pub setWords : ℕ → List ℕ
-  setWords k = nodesOf (setAt cs vs ps k) (nodeCount cs)
+  setWords k = nodesOf (setAt sub cs vs ps k) (nodeCount cs)
 
   -- the words of the steps below k, one step after the other
   unfoldable pub stepWords : ℕ → List ℕ
@@ -55,4 +57,4 @@ module _ (ns cs : List ℕ) (vs : List ℤ) (ps ws : List ℕ) where
   runAnswer = checked runLong (bothWellFormed (take cellCount cs) (take planCount ps)) true tt
 
   unfoldable pub workAfter : List ℕ
-  workAfter = unlessRefused runAnswer (filled (take cellCount cs) (take valueCount vs) (take planCount ps) ws) ws
+  workAfter = unlessRefused runAnswer (filled (subClassAt (take nameCount ns) (take cellCount cs)) (take cellCount cs) (take valueCount vs) (take planCount ps) ws) ws

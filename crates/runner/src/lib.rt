@@ -27,30 +27,35 @@ use plancheck::reads::step_second_link;
 use plancheck::reads::step_third;
 use stepsets::Condition;
 use stepsets::Kept;
-use stepsets::Target;
 use stepsets::both_set;
 use stepsets::either_set;
 use stepsets::ends_set;
-use stepsets::facts_set;
 use stepsets::lang_set;
 use stepsets::links_set;
 use stepsets::path_set;
 use stepsets::plain_set;
 use tables::layout::CELLS;
+use tables::layout::NAMES;
 use tables::layout::VALUES;
 use tables::lent::enough;
 use tables::reads::node_count;
+use targets::SubClass;
+use targets::Target;
+use targets::sub_class_link;
+use targets::target_set;
 ghost use mathlib.Core.Path.{_≡_};
 ghost use mathlib.Core.Bool.{true};
 ghost use Prim.Native.Nat.{_*_, _<_, _≤_};
 ghost use lib.ListN.{length};
 ghost use Rattle.model.specs.Limits.{maxSteps};
-ghost use Rattle.tables.specs.Layout.{cellCount, nodeCount};
+ghost use Rattle.tables.specs.Layout.{nameCount, cellCount, nodeCount};
+ghost use Rattle.tables.specs.Names.{subClassAt};
 ghost use Rattle.tables.specs.WellFormed.{wellFormed};
 ghost use Rattle.paths.specs.Facts.{Tables};
 ghost use Rattle.stepsets.specs.Ends.{RowsHeld, RowsFor};
 ghost use Rattle.plan.specs.Layout.{stepAt};
 ghost use Rattle.plan.specs.WellFormed.{stepOk, planWellFormed};
+ghost use Rattle.targets.specs.Classes.{subOf};
 ghost use Rattle.runner.specs.Kinds.{kindOf, firstAfter, secondAfter};
 ghost use Rattle.runner.specs.Run.{workCount, answerOf, filled, runLong, runAnswer, workAfter, fewNodes};
 ghost use Rattle.runner.specs.Steps.{stepFrom, put};
@@ -79,7 +84,7 @@ enum Kind {
     Path(Condition, usize, usize),
     Ends(Condition, End, LinkNo),
     Lang(Condition, usize),
-    Facts(Target),
+    Selected(Target),
     Links(Condition, usize),
 }
 
@@ -118,9 +123,9 @@ fn step_kind(plan: &[u16], k: usize) -> Kind
         steps::NOTLESSEQ => Kind::Ends(Condition::NotLessEq, End::Path(a), l),
         steps::ONELANG => Kind::Lang(Condition::OneLang, a),
         steps::MANYLANG => Kind::Lang(Condition::ManyLang, a),
-        steps::FROM => Kind::Facts(Target::From(p)),
-        steps::INTO => Kind::Facts(Target::Into(p)),
-        steps::TYPED => Kind::Facts(Target::Typed(c)),
+        steps::FROM => Kind::Selected(Target::From(p)),
+        steps::INTO => Kind::Selected(Target::Into(p)),
+        steps::TYPED => Kind::Selected(Target::Typed(c)),
         steps::UNKNOWN..=steps::LAST => Kind::Empty,
     }
 }
@@ -138,7 +143,7 @@ fn first_after(kind: Kind, kept: Kept) -> Kept
         Kind::Path(_, p, _) => Kept::RowsOf(End::Path(p)),
         Kind::Ends(_, end, _) => Kept::RowsOf(end),
         Kind::Lang(_, p) => Kept::RowsOf(End::Path(p)),
-        Kind::Facts(_) => kept,
+        Kind::Selected(_) => kept,
         Kind::Links(_, _) => kept,
     }
 }
@@ -155,7 +160,7 @@ fn second_after(kind: Kind, kept: Kept) -> Kept
         Kind::Path(_, _, _) => kept,
         Kind::Ends(_, _, l) => Kept::RowsOf(End::Link(l)),
         Kind::Lang(_, _) => kept,
-        Kind::Facts(_) => kept,
+        Kind::Selected(_) => kept,
         Kind::Links(_, _) => kept,
     }
 }
@@ -166,6 +171,7 @@ fn step_set(
     second: &mut [u64],
     kept: Kept,
     links: Kept,
+    sub: SubClass,
     cells: &[u16],
     index: &[u16],
     values: &[i64],
@@ -174,7 +180,7 @@ fn step_set(
     k: usize,
 ) -> NodeSet
     requires { ⌜ Tables (now cells) (now index) × (k < maxSteps) × (stepOk (now cells) k (stepAt (now plan) k) ≡ true) × RowsHeld (now cells) kept (now first) × RowsHeld (now cells) links (now second) ⌝ }
-    ensures { λ r. ⌜ r .words ≡ stepFrom (now (cells .entry)) (now (values .entry)) (now (plan .entry)) (now (work .entry)) k ⌝ }
+    ensures { λ r. ⌜ r .words ≡ stepFrom (subOf sub) (now (cells .entry)) (now (values .entry)) (now (plan .entry)) (now (work .entry)) k ⌝ }
     ensures { λ _. ⌜ RowsHeld (now (cells .entry)) (firstAfter (kindOf (stepAt (now (plan .entry)) k)) kept) (now (first .exit)) ⌝ }
     ensures { λ _. ⌜ RowsHeld (now (cells .entry)) (secondAfter (kindOf (stepAt (now (plan .entry)) k)) links) (now (second .exit)) ⌝ }
 {
@@ -203,7 +209,7 @@ fn step_set(
             )
         }
         Kind::Lang(condition, p) => lang_set(first, kept, condition, cells, index, values, p),
-        Kind::Facts(target) => facts_set(target, cells, index),
+        Kind::Selected(target) => target_set(target, sub, cells, index),
         Kind::Links(condition, e) => links_set(condition, cells, index, values, e),
     }
 }
@@ -215,6 +221,7 @@ fn run_step(
     second: &mut [u64],
     kept: Kept,
     links: Kept,
+    sub: SubClass,
     cells: &[u16],
     index: &[u16],
     values: &[i64],
@@ -222,7 +229,7 @@ fn run_step(
     k: usize,
 )
     requires { ⌜ Tables (now cells) (now index) × (k < maxSteps) × (stepOk (now cells) k (stepAt (now plan) k) ≡ true) × RowsHeld (now cells) kept (now first) × RowsHeld (now cells) links (now second) × (workCount ≤ length (now work)) ⌝ }
-    ensures { λ _. ⌜ now (work .exit) ≡ put (now (work .entry)) k (stepFrom (now (cells .entry)) (now (values .entry)) (now (plan .entry)) (now (work .entry)) k) ⌝ }
+    ensures { λ _. ⌜ now (work .exit) ≡ put (now (work .entry)) k (stepFrom (subOf sub) (now (cells .entry)) (now (values .entry)) (now (plan .entry)) (now (work .entry)) k) ⌝ }
     ensures { λ _. ⌜ RowsHeld (now (cells .entry)) (firstAfter (kindOf (stepAt (now (plan .entry)) k)) kept) (now (first .exit)) ⌝ }
     ensures { λ _. ⌜ RowsHeld (now (cells .entry)) (secondAfter (kindOf (stepAt (now (plan .entry)) k)) links) (now (second .exit)) ⌝ }
 {
@@ -231,6 +238,7 @@ fn run_step(
         second,
         kept,
         links,
+        sub,
         cells,
         index,
         values,
@@ -247,13 +255,14 @@ fn run_all(
     work: &mut [u64],
     first: &mut [u64],
     second: &mut [u64],
+    sub: SubClass,
     cells: &[u16],
     index: &[u16],
     values: &[i64],
     plan: &[u16],
 )
     requires { ⌜ Tables (now cells) (now index) × (planWellFormed (now cells) (now plan) ≡ true) × (workCount ≤ length (now work)) × RowsFor (now cells) (now first) × RowsFor (now cells) (now second) ⌝ }
-    ensures { λ _. ⌜ now (work .exit) ≡ filled (now (cells .entry)) (now (values .entry)) (now (plan .entry)) (now (work .entry)) ⌝ }
+    ensures { λ _. ⌜ now (work .exit) ≡ filled (subOf sub) (now (cells .entry)) (now (values .entry)) (now (plan .entry)) (now (work .entry)) ⌝ }
 {
     let mut kept = Kept::Unfilled;
     let mut links = Kept::Unfilled;
@@ -265,6 +274,7 @@ fn run_all(
             second,
             kept,
             links,
+            sub,
             cells,
             index,
             values,
@@ -278,35 +288,68 @@ fn run_all(
 }
 
 // All steps, with rows for few nodes; for as many as there may be. Few nodes need not clear the many rows.
-fn run_few(work: &mut [u64], cells: &[u16], index: &[u16], values: &[i64], plan: &[u16])
+fn run_few(
+    work: &mut [u64],
+    sub: SubClass,
+    cells: &[u16],
+    index: &[u16],
+    values: &[i64],
+    plan: &[u16],
+)
     requires { ⌜ Tables (now cells) (now index) × (planWellFormed (now cells) (now plan) ≡ true) × (workCount ≤ length (now work)) × (nodeCount (now cells) ≤ fewNodes) ⌝ }
-    ensures { λ _. ⌜ now (work .exit) ≡ filled (now (cells .entry)) (now (values .entry)) (now (plan .entry)) (now (work .entry)) ⌝ }
+    ensures { λ _. ⌜ now (work .exit) ≡ filled (subOf sub) (now (cells .entry)) (now (values .entry)) (now (plan .entry)) (now (work .entry)) ⌝ }
 {
     let mut first = [0u64; FEW_ROWS];
     let mut second = [0u64; FEW_ROWS];
-    run_all(work, &mut first, &mut second, cells, index, values, plan);
+    run_all(
+        work,
+        &mut first,
+        &mut second,
+        sub,
+        cells,
+        index,
+        values,
+        plan,
+    );
 }
 
-fn run_many(work: &mut [u64], cells: &[u16], index: &[u16], values: &[i64], plan: &[u16])
+fn run_many(
+    work: &mut [u64],
+    sub: SubClass,
+    cells: &[u16],
+    index: &[u16],
+    values: &[i64],
+    plan: &[u16],
+)
     requires { ⌜ Tables (now cells) (now index) × (planWellFormed (now cells) (now plan) ≡ true) × (workCount ≤ length (now work)) ⌝ }
-    ensures { λ _. ⌜ now (work .exit) ≡ filled (now (cells .entry)) (now (values .entry)) (now (plan .entry)) (now (work .entry)) ⌝ }
+    ensures { λ _. ⌜ now (work .exit) ≡ filled (subOf sub) (now (cells .entry)) (now (values .entry)) (now (plan .entry)) (now (work .entry)) ⌝ }
 {
     let mut first = [0u64; ROWS_WORDS];
     let mut second = [0u64; ROWS_WORDS];
-    run_all(work, &mut first, &mut second, cells, index, values, plan);
+    run_all(
+        work,
+        &mut first,
+        &mut second,
+        sub,
+        cells,
+        index,
+        values,
+        plan,
+    );
 }
 
 // All steps, over well-formed tables and a plan that is.
-fn run_steps(work: &mut [u64], cells: &[u16], values: &[i64], plan: &[u16])
-    requires { ⌜ (cellCount ≤ length (now cells)) × (wellFormed (now cells) ≡ true) × (planWellFormed (now cells) (now plan) ≡ true) × (workCount ≤ length (now work)) ⌝ }
-    ensures { λ _. ⌜ now (work .exit) ≡ filled (now (cells .entry)) (now (values .entry)) (now (plan .entry)) (now (work .entry)) ⌝ }
+fn run_steps(work: &mut [u64], names: &[u8], cells: &[u16], values: &[i64], plan: &[u16])
+    requires { ⌜ (nameCount ≤ length (now names)) × (cellCount ≤ length (now cells)) × (wellFormed (now cells) ≡ true) × (planWellFormed (now cells) (now plan) ≡ true) × (workCount ≤ length (now work)) ⌝ }
+    ensures { λ _. ⌜ now (work .exit) ≡ filled (subClassAt (now (names .entry)) (now (cells .entry))) (now (cells .entry)) (now (values .entry)) (now (plan .entry)) (now (work .entry)) ⌝ }
 {
     let mut index = [0u16; INDEX_CELLS];
     index_table(&mut index, cells);
+    let sub = sub_class_link(names, cells);
     if node_count(cells) <= FEW_NODES {
-        run_few(work, cells, &index, values, plan);
+        run_few(work, sub, cells, &index, values, plan);
     } else {
-        run_many(work, cells, &index, values, plan);
+        run_many(work, sub, cells, &index, values, plan);
     }
 }
 
@@ -331,6 +374,6 @@ pub fn run(names: &[u8], cells: &[u16], values: &[i64], plan: &[u16], work: &mut
     if !both_well_formed(cs, ps) {
         return Ran::Refused(Refusal::Malformed);
     }
-    run_steps(work, cs, &values[..VALUES], ps);
+    run_steps(work, &names[..NAMES], cs, &values[..VALUES], ps);
     Ran::Done
 }

@@ -19,7 +19,8 @@ use Rattle.tables.proofs.WellFormed.{Sound}
 use Rattle.plan.specs.Conditions.{someInOne, someShared, somePair, clash}
 use Rattle.conditions.proofs.Items.{unlisted-ext, listed-ext}
 use Rattle.conditions.proofs.Langs.{unlike-tagged, clash-tagged}
-use Rattle.stepsets.specs.Conditions.{nodesOf, holdsOf, tagged, conditionOk}
+use Rattle.nodeset.specs.Words.{nodesOf}
+use Rattle.stepsets.specs.Conditions.{holdsOf, tagged, conditionOk}
 use Rattle.stepsets.proofs.Nodes.{nodes-ext}
 use Rattle.stepsets.specs.declared.Condition.{Condition}
 use Rattle.stepsets.specs.declared.Condition.the-variants.{Is, IsNot, Test, Untest, Count, Every, Equal, Unequal, Apart, Meet, Less, NotLess, LessEq, NotLessEq, OneLang, ManyLang, Closed, Open}

@@ -9,9 +9,8 @@ use lib.ListN.{length, replicate, take, drop, length-drop, drop-of-length-le}
 use lib.Seq.{take-all}
 use borrow.Author.Tests.{eqb-true, le-ltb, ltb-true}
 use Rattle.base.proofs.Bools.{bool-cases}
-use Rattle.nodeset.specs.Words.{has, wordsOf, intersection}
+use Rattle.nodeset.specs.Words.{has, wordsOf, intersection, nodesOf}
 use Rattle.nodeset.proofs.Sets.{wordsOf-ext, has-of, length-of, zeros, ltb-more, intersection-of}
-use Rattle.stepsets.specs.Conditions.{nodesOf}
 
 pub nodes-ext : (p q : ℕ → Bool) (n : ℕ) → ((v : ℕ) → v < n → p v ≡ q v) → nodesOf p n ≡ nodesOf q n
 unfolding nodesOf

@@ -10,19 +10,16 @@ use borrow.Author.Tests.{eqb-true, lt-ltb}
 use Rattle.base.proofs.Bools.{same-test, and-right}
 use Rattle.nodeset.specs.Words.{has}
 use Rattle.model.specs.declared.LinkNo.{LinkNo}
-use Rattle.model.specs.Graph.{Triple}
 use Rattle.model.specs.Paths as model
 use Rattle.model.specs.Paths.{endsOf}
 use Rattle.model.specs.Limits.{maxNodes}
-use Rattle.tables.specs.Layout as tables-layout
-use Rattle.tables.specs.Layout.{nodeCount, subjects, predicates}
+use Rattle.tables.specs.Layout.{nodeCount}
 use Rattle.tables.specs.Decode.{triplesAt}
 use Rattle.paths.specs.Facts.{Tables}
 use Rattle.paths.specs.Ends.{endIn}
 use Rattle.paths.specs.declared.End.{End}
 use Rattle.paths.specs.declared.End.the-variants.{Itself, Link, Path}
-use Rattle.paths.proofs.Parts.{part, lent-ok, lent-triples}
-use Rattle.paths.proofs.Nodes.{all-nodes}
+use Rattle.paths.proofs.Nodes.{table-nodes}
 use Rattle.closure.specs.Rows.{rowsOf}
 use Rattle.closure.proofs.Rows.{length-rows, within-rows}
 use Rattle.rows.proofs.Rows.{within-zeros, has-row}
@@ -76,7 +73,7 @@ held-anew cs kept end {rows} {now} h e = record {
 -- ---- the ends of a node are nodes
 module _ (cs index : List ℕ) (t : Tables cs index) where
   pub ends-low : (x : model.End) (v w : ℕ) → v < nodeCount cs → endsOf (nodeCount cs) (triplesAt cs) x v w ≡ true → w < nodeCount cs
-  ends-low x v w l h = all-nodes (part cs subjects) (part cs predicates) (part cs tables-layout.objects) index _ (nodeCount cs) (lent-ok cs (t .ok) (t .room) refl refl (t .indexed)) x v w (ap (λ (ts : List Triple). endsOf (nodeCount cs) ts x v w) (lent-triples cs (t .ok) refl) ∙ h) .0 l
+  ends-low x v w l h = table-nodes cs index t x v w h .0 l
 
   -- row v
   pub row-ends : (end : End) {rows : List ℕ} → RowsHeld cs (RowsOf end) rows → (v : ℕ) → v < nodeCount cs → (w : ℕ) → w < maxNodes → has (drop (16 * v) rows) w ≡ endsOf (nodeCount cs) (triplesAt cs) (endIn cs end) v w

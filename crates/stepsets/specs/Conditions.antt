@@ -6,7 +6,6 @@ use mathlib.Core.Bool.{Bool, true, not, _&&_}
 use lib.Dec.{eqb, ltb, leb}
 use lib.IntN.{ℤ}
 use Rattle.base.specs.Bounded.{size}
-use Rattle.nodeset.specs.Words.{wordsOf}
 use Rattle.model.specs.Graph.{holds}
 use Rattle.model.specs.Shapes.{conforms, within, subset, noneShared, onlyListed, unlikeLangs, sameMembers, allLess, allLessEq}
 use Rattle.model.specs.Limits.{maxNodes}
@@ -17,10 +16,6 @@ use Rattle.plan.specs.Conditions.{failsTest, notLess, notLessEq, someInOne, som
 use Rattle.plan.specs.Sets.{testOf}
 use Rattle.stepsets.specs.declared.Condition.{Condition}
 use Rattle.stepsets.specs.declared.Condition.the-variants.{Is, IsNot, Test, Untest, Count, Every, Equal, Unequal, Apart, Meet, Less, NotLess, LessEq, NotLessEq, OneLang, ManyLang, Closed, Open}
-
--- the numbers below n that have p, in sixteen words
-unfoldable pub nodesOf : (ℕ → Bool) → ℕ → List ℕ
-nodesOf p n = wordsOf (λ v. ltb v n && p v) 16
 
 -- the condition holds of node v, where a and b are its two sets
 unfoldable pub holdsOf : List ℕ → List ℤ → Condition → (ℕ → Bool) → (ℕ → Bool) → ℕ → Bool

@@ -1,3 +1,2 @@
 pub mod Conditions
 pub mod Ends
-pub mod Targets

@@ -9,7 +9,6 @@
 //   lang_set      .. on the ends of a path that have a language
 //   ends_set      .. on two end sets
 // (the ends of all nodes stand in lent rows, which are kept for the next step)
-//   facts_set     the nodes that a target selects, in one pass over the facts of a link
 //   both_set, either_set   the nodes in both of two sets, in one of them
 use conditions::apart_fails;
 use conditions::apart_holds;
@@ -30,24 +29,19 @@ use conditions::subset_holds;
 use conditions::test_fails;
 use conditions::test_holds;
 use entries::between;
-use model::LINK_A;
 use model::LinkNo;
 use model::NodeNo;
 use nodeset::NodeSet;
 use nodeset::count_both;
 use nodeset::load;
 use paths::End;
-use paths::last_fact;
-use paths::next_fact;
 use rows::all_table_ends;
 use tables::reads::node_count;
-use tables::reads::object;
-use tables::reads::subject;
 ghost use mathlib.Core.Path.{_≡_};
 ghost use mathlib.Core.Bool.{true, false, cond, _&&_, _||_};
 ghost use Prim.Native.Nat.{_*_, _<_};
 ghost use lib.ListN.{drop};
-ghost use Rattle.nodeset.specs.Words.{has};
+ghost use Rattle.nodeset.specs.Words.{has, nodesOf};
 ghost use Rattle.model.specs.Shapes.{from, objects, starts};
 ghost use Rattle.model.specs.Limits.{maxNodes};
 ghost use Rattle.base.specs.Lists.{member};
@@ -56,9 +50,8 @@ ghost use Rattle.tables.specs.Layout.{nodeCount, pathCount, formCount, formCode
 ghost use Rattle.tables.specs.Decode.{graphAt, itemsAt, pathAt};
 ghost use Rattle.paths.specs.Facts.{Tables};
 ghost use Rattle.paths.specs.Ends.{endIn, endKnown};
-ghost use Rattle.stepsets.specs.Conditions.{nodesOf, holdsOf, tagged, conditionOk};
+ghost use Rattle.stepsets.specs.Conditions.{holdsOf, tagged, conditionOk};
 ghost use Rattle.stepsets.specs.Ends.{sameEnd, keeps, RowsHeld};
-ghost use Rattle.stepsets.specs.Targets.{nodeOf, picked, chosen, ByLink};
 
 // What rows of ends hold: nothing yet, or the ends of all nodes.
 pub enum Kept {
@@ -88,13 +81,6 @@ pub enum Condition {
     ManyLang,
     Closed,
     Open,
-}
-
-// The target of a rule, as its facts select nodes: subjects, objects of a link; subjects that the link `a` leads to a node.
-pub enum Target {
-    From(LinkNo),
-    Into(LinkNo),
-    Typed(NodeNo),
 }
 
 // The condition holds of node v, with its two sets.
@@ -242,7 +228,7 @@ fn keep_ends(rows: &mut [u64], kept: Kept, end: End, cells: &[u16], index: &[u16
     ensures { λ _. ⌜ RowsHeld (now (cells .entry)) (Kept.RowsOf end) (now (rows .exit)) ⌝ }
 {
     if !is_kept(kept, end) {
-        all_table_ends(rows, end, cells, index);
+        all_table_ends(rows, end, false, cells, index);
     }
 }
 
@@ -323,56 +309,6 @@ pub fn ends_set(
         &second[..],
         true,
     )
-}
-
-// The node that fact i picks, where it picks one.
-fn node_of(target: Target, cells: &[u16], i: usize) -> NodeNo
-    ensures { λ r. ⌜ r .0 ≡ nodeOf (now (cells .entry)) target i ⌝ }
-{
-    match target {
-        Target::From(_) => subject(cells, i),
-        Target::Into(_) => object(cells, i),
-        Target::Typed(_) => subject(cells, i),
-    }
-}
-
-// Fact i, of the link that the target goes by, picks one.
-fn chooses(target: Target, cells: &[u16], i: usize) -> bool
-    ensures { λ r. ⌜ r ≡ chosen (now (cells .entry)) target i ⌝ }
-{
-    match target {
-        Target::From(_) => true,
-        Target::Into(_) => true,
-        Target::Typed(c) => object(cells, i).0 == c.0,
-    }
-}
-
-// The nodes that the facts of a link pick, where no other fact picks one.
-fn link_set(target: Target, link: LinkNo, cells: &[u16], index: &[u16]) -> NodeSet
-    requires { ⌜ Tables (now cells) (now index) × ByLink (now cells) target (link .0) ⌝ }
-    ensures { λ r. ⌜ r .words ≡ nodesOf (picked (now (cells .entry)) target) (nodeCount (now (cells .entry))) ⌝ }
-{
-    let mut words = [0u64; 16];
-    let mut next = last_fact(index, link);
-    while 0 < next {
-        let i = next - 1;
-        let v = node_of(target, cells, i);
-        insert_if(&mut words, v, chooses(target, cells, i));
-        next = next_fact(index, i);
-    }
-    NodeSet { words }
-}
-
-// The nodes that the target selects.
-pub fn facts_set(target: Target, cells: &[u16], index: &[u16]) -> NodeSet
-    requires { ⌜ Tables (now cells) (now index) ⌝ }
-    ensures { λ r. ⌜ r .words ≡ nodesOf (picked (now (cells .entry)) target) (nodeCount (now (cells .entry))) ⌝ }
-{
-    match target {
-        Target::From(l) => link_set(target, l, cells, index),
-        Target::Into(l) => link_set(target, l, cells, index),
-        Target::Typed(_) => link_set(target, LinkNo(LINK_A), cells, index),
-    }
 }
 
 // The nodes in the sets of both steps, left and right; in one of them.

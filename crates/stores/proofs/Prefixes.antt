@@ -11,7 +11,7 @@ use Rattle.text.proofs.Places.{names-append}
 use Rattle.model.specs.Books.{Name, Line, link, type, lang, node, fact, shape, rule, Book, Pool, nodes, links, types, langs, shapes, poolNumber, builtIn, joins, newNames, collect, names}
 use Rattle.model.specs.Valid.{lineOk, admissibleFrom, admissible}
 use Rattle.model.proofs.Lines.{names-snoc}
-use Rattle.grammar.specs.Valid.{reserved, wellNamed, newName, namesOk, validLine, validFrom}
+use Rattle.grammar.specs.Valid.{reserved, wellNamed, newName, namesOk, validLine, validFrom, valid}
 
 -- lines that are right, with names that are well made
 pub record Prefix (a : Book) : Type 0 where
@@ -82,3 +82,8 @@ prefix-lines (l ∷ c) a P v = subst Prefix (append-assoc a (l ∷ []) c) (prefi
 
 pub prefix-valid : (a : Book) → validFrom [] a ≡ true → Prefix a
 prefix-valid a v = prefix-lines a [] prefix-start v
+
+-- the names of a valid book
+pub valid-names : (b : Book) → valid b ≡ true → (p : Pool) → allNames (names p b) ≡ true
+unfolding valid
+valid-names b v = prefix-valid b (and-left _ _ v) .names-made

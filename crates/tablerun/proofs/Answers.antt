@@ -1,6 +1,7 @@
 -- Tables that are long enough and well formed get no refusal: not from compile, and not from run on the plan that compile left.
 use Prim.Native.Nat.{ℕ, _≤_}
 use mathlib.Core.List.{List, _++_}
+use mathlib.Core.Option.{Option}
 use mathlib.Core.Bool.{true, _&&_}
 use mathlib.Core.Path.{_≡_, refl, sym, ap, ap₂, _∙_}
 use native.Mathlib.Omega.{arith}
@@ -13,7 +14,8 @@ use Rattle.base.proofs.Bools.{and-both}
 use Rattle.model.specs.declared.Refusal.{Refusal}
 use Rattle.model.specs.Answers.{value}
 use Rattle.model.proofs.Answers.{same-value, not-refused, done}
-use Rattle.tables.specs.Layout.{cellCount, valueCount, ruleCount}
+use Rattle.tables.specs.Layout.{nameCount, cellCount, valueCount, ruleCount}
+use Rattle.tables.specs.Names.{subClassAt}
 use Rattle.tables.specs.Sizes.{longEnough}
 use Rattle.tables.specs.WellFormed.{wellFormed}
 use Rattle.plan.specs.Layout.{planCount}
@@ -36,6 +38,10 @@ use Rattle.tablerun.proofs.Lists.{bare-well-formed, rule-nodes, rows-sa
 module _ (ns cells : List ℕ) (values : List ℤ) (ps : List ℕ) (long : longEnough ns cells values ≡ true) (ok : wellFormed (take cellCount cells) ≡ true) (room : planCount ≤ length ps) where
   abbrev cs : List ℕ
   cs = take cellCount cells
+
+  -- the link `under`, where the tables have it
+  abbrev sub : Option ℕ
+  sub = subClassAt (take nameCount ns) cs
 
   -- ---- compile
   compile-done : (value (length (stepsOf cs)) ≡ compiles.compileAnswer ns cells values ps) × (planOf cs ++ drop planCount ps ≡ compiles.planAfter ns cells values ps)
@@ -68,7 +74,7 @@ module _ (ns cells : List ℕ) (values : List ℤ) (ps : List ℕ) (long : longE
     unfolding runs.runLong
     run-long = and-both (longEnough ns cells values) (leb planCount (length qs) && leb runs.workCount (length ws)) long (and-both (leb planCount (length qs)) (leb runs.workCount (length ws)) (le-leb planCount (length qs) plan-long) (le-leb runs.workCount (length ws) space))
 
-    run-done : (value tt ≡ runs.runAnswer ns cells values qs ws) × (runs.filled cs (take valueCount values) (take planCount qs) ws ≡ runs.workAfter ns cells values qs ws)
+    run-done : (value tt ≡ runs.runAnswer ns cells values qs ws) × (runs.filled sub cs (take valueCount values) (take planCount qs) ws ≡ runs.workAfter ns cells values qs ws)
     run-done = done (run-answers ns cells values qs ws) run-long (both-formed cs (take planCount qs) ok plan-right) refl refl refl
 
     pub run-value : runs.runAnswer ns cells values qs ws ≡ value tt
@@ -77,17 +83,17 @@ module _ (ns cells : List ℕ) (values : List ℤ) (ps : List ℕ) (long : longE
     pub run-never-refused : (x : Ran) (r : Refusal) → runs.answerOf x ≡ runs.runAnswer ns cells values qs ws → x ≡ ran.Refused r → ⊥
     run-never-refused x r e f = not-refused (sym (ap runs.answerOf (sym f) ∙ e ∙ run-value))
 
-    pub work-left : runs.workAfter ns cells values qs ws ≡ runs.filled cs (take valueCount values) (planOf cs) ws
-    work-left = sym (run-done .1) ∙ ap (λ p. runs.filled cs (take valueCount values) p ws) plan-cells
+    pub work-left : runs.workAfter ns cells values qs ws ≡ runs.filled sub cs (take valueCount values) (planOf cs) ws
+    work-left = sym (run-done .1) ∙ ap (λ p. runs.filled sub cs (take valueCount values) p ws) plan-cells
 
     -- ---- the lists, read off the work space that run left
-    module _ (done : List ℕ) (e : done ≡ runs.filled cs (take valueCount values) (planOf cs) ws) (ls : List ℕ) where
-      pub rows-left : withRows (listIn cs (take planCount qs) done) (ruleCount cs) ls ≡ withRows (listAt cs (take valueCount values)) (ruleCount cs) ls
+    module _ (done : List ℕ) (e : done ≡ runs.filled sub cs (take valueCount values) (planOf cs) ws) (ls : List ℕ) where
+      pub rows-left : withRows (listIn cs (take planCount qs) done) (ruleCount cs) ls ≡ withRows (listAt sub cs (take valueCount values)) (ruleCount cs) ls
       rows-left =
           ap₂ (λ p w. withRows (listIn cs p w) (ruleCount cs) ls) plan-cells e
-          ∙ rows-same (listIn cs (planOf cs) (runs.filled cs (take valueCount values) (planOf cs) ws)) (listAt cs (take valueCount values)) (ruleCount cs) ls (rule-nodes cs ok (take valueCount values) ws)
+          ∙ rows-same (listIn cs (planOf cs) (runs.filled sub cs (take valueCount values) (planOf cs) ws)) (listAt sub cs (take valueCount values)) (ruleCount cs) ls (rule-nodes cs ok sub (take valueCount values) ws)
 
-      pub lengths-left : withLengths (listIn cs (take planCount qs) done) (ruleCount cs) ls ≡ withLengths (listAt cs (take valueCount values)) (ruleCount cs) ls
+      pub lengths-left : withLengths (listIn cs (take planCount qs) done) (ruleCount cs) ls ≡ withLengths (listAt sub cs (take valueCount values)) (ruleCount cs) ls
       lengths-left =
           ap₂ (λ p w. withLengths (listIn cs p w) (ruleCount cs) ls) plan-cells e
-          ∙ lengths-same (listIn cs (planOf cs) (runs.filled cs (take valueCount values) (planOf cs) ws)) (listAt cs (take valueCount values)) (ruleCount cs) ls (rule-nodes cs ok (take valueCount values) ws)
+          ∙ lengths-same (listIn cs (planOf cs) (runs.filled sub cs (take valueCount values) (planOf cs) ws)) (listAt sub cs (take valueCount values)) (ruleCount cs) ls (rule-nodes cs ok sub (take valueCount values) ws)

@@ -1,6 +1,7 @@
 -- Compiled, run and read off, the list of a rule is what the tables say: the plan's theorem, put into words of lists.
 use Prim.Native.Nat.{ℕ, zero, suc, _*_, _<_}
 use mathlib.Core.List.{List, [], append-nil}
+use mathlib.Core.Option.{Option}
 use mathlib.Core.Bool.{Bool, true}
 use mathlib.Core.Path.{_≡_, refl, ap, subst, _∙_}
 use native.Mathlib.Omega.{arith}
@@ -29,15 +30,15 @@ module _ (cs : List ℕ) (ok : wellFormed cs ≡ true) where
   pub bare-well-formed : planWellFormed cs (planOf cs) ≡ true
   bare-well-formed = subst (λ ps. planWellFormed cs ps ≡ true) (append-nil (planOf cs)) (plan-well-formed cs ok [])
 
-  module _ (vs : List ℤ) (ws : List ℕ) where
-    pub rule-nodes : (r : ℕ) → r < ruleCount cs → listIn cs (planOf cs) (filled cs vs (planOf cs) ws) r ≡ listAt cs vs r
+  module _ (sub : Option ℕ) (vs : List ℤ) (ws : List ℕ) where
+    pub rule-nodes : (r : ℕ) → r < ruleCount cs → listIn cs (planOf cs) (filled sub cs vs (planOf cs) ws) r ≡ listAt sub cs vs r
     unfolding listIn listAt violations graphAt
     rule-nodes r low =
         let plan : List ℕ = planOf cs in
         let step : ruleStepAt plan r < stepCount plan = plans.sound cs plan bare-well-formed .rule r low in
-        let right = subst (λ ps. setAt cs vs ps (ruleStepAt ps r) ≡ violates (graphAt cs vs) (schemaAt cs vs) (ruleAt cs r)) (append-nil plan) (plan-violates cs ok [] vs r low) in
-        members-ext (has (drop (16 * ruleStepAt plan r) (filled cs vs plan ws))) (violates (graphAt cs vs) (schemaAt cs vs) (ruleAt cs r)) (nodeCount cs)
-        (λ v l. filled-has cs vs plan (tables.sound cs ok .nodes) ws (ruleStepAt plan r) step v l ∙ ap (λ (p : ℕ → Bool). p v) right)
+        let right = subst (λ ps. setAt sub cs vs ps (ruleStepAt ps r) ≡ violates sub (graphAt cs vs) (schemaAt cs vs) (ruleAt cs r)) (append-nil plan) (plan-violates cs ok [] sub vs r low) in
+        members-ext (has (drop (16 * ruleStepAt plan r) (filled sub cs vs plan ws))) (violates sub (graphAt cs vs) (schemaAt cs vs) (ruleAt cs r)) (nodeCount cs)
+        (λ v l. filled-has sub cs vs plan (tables.sound cs ok .nodes) ws (ruleStepAt plan r) step v l ∙ ap (λ (p : ℕ → Bool). p v) right)
 
 -- ---- rows of lists that are the same
 module _ (f g : ℕ → List ℕ) where

@@ -12,7 +12,8 @@ ghost use mathlib.Core.Bool.{true};
 ghost use mathlib.Core.List.{_++_};
 ghost use Prim.Native.Nat.{_≤_};
 ghost use lib.ListN.{length, take, drop};
-ghost use Rattle.tables.specs.Layout.{cellCount, valueCount, ruleCount};
+ghost use Rattle.tables.specs.Layout.{nameCount, cellCount, valueCount, ruleCount};
+ghost use Rattle.tables.specs.Names.{subClassAt};
 ghost use Rattle.tables.specs.Sizes.{longEnough};
 ghost use Rattle.tables.specs.WellFormed.{wellFormed};
 ghost use Rattle.plan.specs.Layout.{planCount};
@@ -32,7 +33,7 @@ fn plan_and_run(
     requires { ⌜ (longEnough (now names) (now cells) (now values) ≡ true) × (wellFormed (take cellCount (now cells)) ≡ true) × (planCount ≤ length (now plan)) × (workCount ≤ length (now work)) ⌝ }
     ensures { λ n. ⌜ n ≡ length (stepsOf (take cellCount (now (cells .entry)))) ⌝ }
     ensures { λ _. ⌜ now (plan .exit) ≡ planOf (take cellCount (now (cells .entry))) ++ drop planCount (now (plan .entry)) ⌝ }
-    ensures { λ _. ⌜ now (work .exit) ≡ filled (take cellCount (now (cells .entry))) (take valueCount (now (values .entry))) (planOf (take cellCount (now (cells .entry)))) (now (work .entry)) ⌝ }
+    ensures { λ _. ⌜ now (work .exit) ≡ filled (subClassAt (take nameCount (now (names .entry))) (take cellCount (now (cells .entry)))) (take cellCount (now (cells .entry))) (take valueCount (now (values .entry))) (planOf (take cellCount (now (cells .entry)))) (now (work .entry)) ⌝ }
 {
     let made = compile(names, cells, values, plan);
     let Compiled::Steps(n) = made else {
@@ -58,9 +59,9 @@ pub fn run_tables(
     requires { ⌜ (longEnough (now names) (now cells) (now values) ≡ true) × (wellFormed (take cellCount (now cells)) ≡ true) × (planCount ≤ length (now plan)) × (workCount ≤ length (now work)) × (listCount ≤ length (now lists)) × (lengthCount ≤ length (now lengths)) ⌝ }
     ensures { λ n. ⌜ n ≡ length (stepsOf (take cellCount (now (cells .entry)))) ⌝ }
     ensures { λ _. ⌜ now (plan .exit) ≡ planOf (take cellCount (now (cells .entry))) ++ drop planCount (now (plan .entry)) ⌝ }
-    ensures { λ _. ⌜ now (work .exit) ≡ filled (take cellCount (now (cells .entry))) (take valueCount (now (values .entry))) (planOf (take cellCount (now (cells .entry)))) (now (work .entry)) ⌝ }
-    ensures { λ _. ⌜ now (lists .exit) ≡ withRows (listAt (take cellCount (now (cells .entry))) (take valueCount (now (values .entry)))) (ruleCount (take cellCount (now (cells .entry)))) (now (lists .entry)) ⌝ }
-    ensures { λ _. ⌜ now (lengths .exit) ≡ withLengths (listAt (take cellCount (now (cells .entry))) (take valueCount (now (values .entry)))) (ruleCount (take cellCount (now (cells .entry)))) (now (lengths .entry)) ⌝ }
+    ensures { λ _. ⌜ now (work .exit) ≡ filled (subClassAt (take nameCount (now (names .entry))) (take cellCount (now (cells .entry)))) (take cellCount (now (cells .entry))) (take valueCount (now (values .entry))) (planOf (take cellCount (now (cells .entry)))) (now (work .entry)) ⌝ }
+    ensures { λ _. ⌜ now (lists .exit) ≡ withRows (listAt (subClassAt (take nameCount (now (names .entry))) (take cellCount (now (cells .entry)))) (take cellCount (now (cells .entry))) (take valueCount (now (values .entry)))) (ruleCount (take cellCount (now (cells .entry)))) (now (lists .entry)) ⌝ }
+    ensures { λ _. ⌜ now (lengths .exit) ≡ withLengths (listAt (subClassAt (take nameCount (now (names .entry))) (take cellCount (now (cells .entry)))) (take cellCount (now (cells .entry))) (take valueCount (now (values .entry)))) (ruleCount (take cellCount (now (cells .entry)))) (now (lengths .entry)) ⌝ }
 {
     let n = plan_and_run(plan, work, names, cells, values);
     list_rows(

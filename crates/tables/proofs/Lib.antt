@@ -4,3 +4,4 @@ pub mod WellFormed
 pub mod Decode
 pub mod Sizes
 pub mod Beside
+pub mod Names

@@ -4,3 +4,4 @@ pub mod Entries
 pub mod Decode
 pub mod WellFormed
 pub mod Sizes
+pub mod Names

@@ -15,7 +15,6 @@ use crate::layout::NODE_COUNT;
 use crate::layout::NODE_KINDS;
 use crate::layout::NODE_LANGS;
 use crate::layout::NODE_TYPES;
-use crate::layout::OBJECTS;
 use crate::layout::PATH_CODES;
 use crate::layout::PATH_COUNT;
 use crate::layout::PATH_FIRSTS;
@@ -27,14 +26,13 @@ use crate::layout::RULE_OPERANDS;
 use crate::layout::RULE_SHAPES;
 use crate::layout::RULE_TARGETS;
 use crate::layout::SHAPE_COUNT;
-use crate::layout::SUBJECTS;
 use crate::layout::TYPE_COUNT;
 use model::LinkNo;
 use model::NodeNo;
 ghost use mathlib.Core.Path.{_≡_};
 ghost use Prim.Native.Nat.{_+_};
 ghost use lib.ListN.{getD};
-ghost use Rattle.tables.specs.Layout.{nodeCount, linkCount, typeCount, langCount, shapeCount, factCount, pathCount, formCount, itemCount, ruleCount, kindAt, typeAt, langAt, subjectAt, predicateAt, objectAt, pathCodeAt, pathFirstAt, pathSecondAt, formCodeAt, formFirstAt, formSecondAt, formThirdAt, formFourthAt, itemAt, rootAt, ruleShapeAt, ruleTargetAt, ruleOperandAt, numberAt, limitAt};
+ghost use Rattle.tables.specs.Layout.{nodeCount, linkCount, typeCount, langCount, shapeCount, factCount, pathCount, formCount, itemCount, ruleCount, kindAt, typeAt, langAt, predicateAt, pathCodeAt, pathFirstAt, pathSecondAt, formCodeAt, formFirstAt, formSecondAt, formThirdAt, formFourthAt, itemAt, rootAt, ruleShapeAt, ruleTargetAt, ruleOperandAt, numberAt, limitAt};
 
 // Place i of the column that begins at base.
 pub fn cell_at(cells: &[u16], base: usize, i: usize) -> u16
@@ -135,23 +133,11 @@ pub fn node_lang(cells: &[u16], v: NodeNo) -> u16
     cell_at(cells, NODE_LANGS, v.0 as usize)
 }
 
-// Triple i.
-pub fn subject(cells: &[u16], i: usize) -> NodeNo
-    ensures { λ r. ⌜ r .0 ≡ subjectAt (now (cells .entry)) i ⌝ }
-{
-    NodeNo(cell_at(cells, SUBJECTS, i))
-}
-
+// The link of triple i. Its subject and object are read from the columns that are lent to the path functions.
 pub fn predicate(cells: &[u16], i: usize) -> LinkNo
     ensures { λ r. ⌜ r .0 ≡ predicateAt (now (cells .entry)) i ⌝ }
 {
     LinkNo(cell_at(cells, PREDICATES, i))
-}
-
-pub fn object(cells: &[u16], i: usize) -> NodeNo
-    ensures { λ r. ⌜ r .0 ≡ objectAt (now (cells .entry)) i ⌝ }
-{
-    NodeNo(cell_at(cells, OBJECTS, i))
 }
 
 // Path entry e: its code; the link of a bare link; the entries that it is made of.

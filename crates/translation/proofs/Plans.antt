@@ -3,6 +3,7 @@
 use Prim.Native.Nat.{ℕ, _+_, _*_, _≤_, _<_}
 use mathlib.Core.Bool.{true, not, _&&_}
 use mathlib.Core.List.{List, _++_}
+use mathlib.Core.Option.{Option}
 use mathlib.Core.Path.{_≡_, ap, _∙_}
 use native.Mathlib.Omega.{arith}
 use lib.Dec.{ltb, leb}
@@ -68,18 +69,18 @@ module _ (cs : List ℕ) (ok : wellFormed cs ≡ true) where
     plan-has = has-all (stepAt plan) 0 (stepsOf cs) (λ i l. ap (stepAt plan) (let z : 0 + i ≡ i = omega arith in z) ∙ plan-step i l)
 
     -- ---- the plan is right: the two sets of each entry, and each rule's set
-    module _ (vs : List ℤ) where
-      pub plan-keeps : (e : ℕ) → e < formCount cs → setAt cs vs plan (made cs (formCount cs) .keep e) ≡ conforms (graphAt cs vs) (shapeAt cs vs e)
+    module _ (sub : Option ℕ) (vs : List ℤ) where
+      pub plan-keeps : (e : ℕ) → e < formCount cs → setAt sub cs vs plan (made cs (formCount cs) .keep e) ≡ conforms (graphAt cs vs) (shapeAt cs vs e)
       unfolding setAt
-      plan-keeps e l = entry-sets cs fine vs (stepAt plan) plan-has e l .keeps
+      plan-keeps e l = entry-sets cs fine sub vs (stepAt plan) plan-has e l .keeps
 
-      pub plan-breaks : (e : ℕ) → e < formCount cs → setAt cs vs plan (made cs (formCount cs) .breaking e) ≡ (λ v. not (conforms (graphAt cs vs) (shapeAt cs vs e) v))
+      pub plan-breaks : (e : ℕ) → e < formCount cs → setAt sub cs vs plan (made cs (formCount cs) .breaking e) ≡ (λ v. not (conforms (graphAt cs vs) (shapeAt cs vs e) v))
       unfolding setAt
-      plan-breaks e l = entry-sets cs fine vs (stepAt plan) plan-has e l .breaks
+      plan-breaks e l = entry-sets cs fine sub vs (stepAt plan) plan-has e l .breaks
 
-      pub plan-violates : (r : ℕ) → r < ruleCount cs → setAt cs vs plan (ruleStepAt plan r) ≡ violates (graphAt cs vs) (schemaAt cs vs) (ruleAt cs r)
+      pub plan-violates : (r : ℕ) → r < ruleCount cs → setAt sub cs vs plan (ruleStepAt plan r) ≡ violates sub (graphAt cs vs) (schemaAt cs vs) (ruleAt cs r)
       unfolding setAt
-      plan-violates r l = ap (setBy cs vs (stepAt plan)) (plan-rule r l) ∙ rule-set cs fine vs (stepAt plan) plan-has r l
+      plan-violates r l = ap (setBy sub cs vs (stepAt plan)) (plan-rule r l) ∙ rule-set cs fine sub vs (stepAt plan) plan-has r l
 
     -- ---- the plan is well formed: never 9
     pub plan-well-formed : planWellFormed cs plan ≡ true

@@ -192,7 +192,7 @@ module _ (cs : List ℕ) where
     -- the two steps of each entry below n are before entry n's
     lows : (n : ℕ) → n ≤ formCount cs → (j : ℕ) → j < n → (made cs n .keep j < start cs n) × (made cs n .breaking j < start cs n)
     lows n l j lj =
-        let r = right cs [] (λ k. getD (made cs n .steps) k Step.all) n (λ e le. ok .entry [] e (omega arith)) (has-all (λ k. getD (made cs n .steps) k Step.all) 0 (made cs n .steps) (λ i l. ap (λ (k : ℕ). getD (made cs n .steps) k Step.all) (let z : 0 + i ≡ i = omega arith in z))) j lj in
+        let r = right cs Option.none [] (λ k. getD (made cs n .steps) k Step.all) n (λ e le. ok .entry [] e (omega arith)) (has-all (λ k. getD (made cs n .steps) k Step.all) 0 (made cs n .steps) (λ i l. ap (λ (k : ℕ). getD (made cs n .steps) k Step.all) (let z : 0 + i ≡ i = omega arith in z))) j lj in
         (r .keepLow, r .breakLow)
 
     made-fine : (n : ℕ) → n ≤ formCount cs → Fine 0 (made cs n .steps)

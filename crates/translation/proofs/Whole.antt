@@ -2,6 +2,7 @@
 use Prim.Native.Nat.{ℕ, zero, suc, _+_, _≤_, _<_}
 use mathlib.Core.Bool.{Bool, true, not, _&&_, cond}
 use mathlib.Core.List.{List, [], _∷_, _++_}
+use mathlib.Core.Option.{Option}
 use mathlib.Core.Path.{_≡_, refl, sym, ap, _∙_, subst}
 use mathlib.Core.Logic.{⊎-elim}
 use native.Mathlib.Nat.{eq-or-lt-of-le, le-of-suc-le-suc, le-of-eq}
@@ -60,8 +61,8 @@ put-other : (f : ℕ → ℕ) (n x j : ℕ) → (j ≡ n → ⊥) → putAt f n 
 unfolding putAt
 put-other f n x j e = ap (λ (b : Bool). cond b x (f j)) (ne-eqb j n e)
 
-moved : (cs : List ℕ) (vs : List ℤ) (at : ℕ → Step) (s t i i′ k k′ : ℕ) (p q : ℕ → Bool) → Sets cs vs at s i k p → s ≤ t → i′ ≡ i → k′ ≡ k → p ≡ q → Sets cs vs at t i′ k′ q
-moved cs vs at s t i i′ k k′ p q r l ei ek e = record { keepLow = let a : i < s = r .keepLow in omega arith; breakLow = let a : k < s = r .breakLow in omega arith; keeps = ap (setBy cs vs at) ei ∙ r .keeps ∙ e; breaks = ap (setBy cs vs at) ek ∙ r .breaks ∙ ap (λ (f : ℕ → Bool). λ v. not (f v)) e }
+moved : (sub : Option ℕ) (cs : List ℕ) (vs : List ℤ) (at : ℕ → Step) (s t i i′ k k′ : ℕ) (p q : ℕ → Bool) → Sets sub cs vs at s i k p → s ≤ t → i′ ≡ i → k′ ≡ k → p ≡ q → Sets sub cs vs at t i′ k′ q
+moved sub cs vs at s t i i′ k k′ p q r l ei ek e = record { keepLow = let a : i < s = r .keepLow in omega arith; breakLow = let a : k < s = r .breakLow in omega arith; keeps = ap (setBy sub cs vs at) ei ∙ r .keeps ∙ e; breaks = ap (setBy sub cs vs at) ek ∙ r .breaks ∙ ap (λ (f : ℕ → Bool). λ v. not (f v)) e }
 
 module _ (cs : List ℕ) where
   -- how many steps there are before entry n, and what entry n adds
@@ -75,13 +76,13 @@ module _ (cs : List ℕ) where
   unfolding made more
   start-more n = length-append (made cs n .steps) (own n .steps)
 
-  module _ (vs : List ℤ) (at : ℕ → Step) where
+  module _ (sub : Option ℕ) (vs : List ℤ) (at : ℕ → Step) where
     -- the shapes of the entries below n
     abbrev shapes : ℕ → ℕ → Shape
     shapes n = below Shape.top (λ e at. shapeOf cs (entryAt cs vs e) at) n
 
     abbrev pub RightAt : ℕ → ℕ → Type 0
-    RightAt n e = Sets cs vs at (start n) (made cs n .keep e) (made cs n .breaking e) (conforms (graphAt cs vs) (shapeAt cs vs e))
+    RightAt n e = Sets sub cs vs at (start n) (made cs n .keep e) (made cs n .breaking e) (conforms (graphAt cs vs) (shapeAt cs vs e))
 
     -- V makes no difference to the steps
     own-free : (n : ℕ) → entryPart cs (made cs n .keep) (made cs n .breaking) (start n) n (entryAt cs vs n) ≡ own n
@@ -96,17 +97,17 @@ module _ (cs : List ℕ) where
     unfolding made more shapeAt
     right-more n ok st ih e l = ⊎-elim here earlier (eq-or-lt-of-le (le-of-suc-le-suc l))
       where
-        new : Sets cs vs at (start n + length (own n .steps)) (own n .keep) (own n .breaking) (conforms (graphAt cs vs) (shapeOf cs (entryAt cs vs n) (shapes n)))
+        new : Sets sub cs vs at (start n + length (own n .steps)) (own n .keep) (own n .breaking) (conforms (graphAt cs vs) (shapeOf cs (entryAt cs vs n) (shapes n)))
         new =
-            subst (λ (x : Part). Has at (start n) (x .steps) → Sets cs vs at (start n + length (x .steps)) (x .keep) (x .breaking) (conforms (graphAt cs vs) (shapeOf cs (entryAt cs vs n) (shapes n)))) (own-free n)
-            (entry-right cs vs at (made cs n .keep) (made cs n .breaking) (start n) n (shapes n) (λ j lj. subst (λ (φ : Shape). Sets cs vs at (start n) (made cs n .keep j) (made cs n .breaking j) (conforms (graphAt cs vs) φ)) (sym (below-number Shape.top (λ e at. shapeOf cs (entryAt cs vs e) at) n j lj)) (ih j lj)) (entryAt cs vs n) refl ok)
+            subst (λ (x : Part). Has at (start n) (x .steps) → Sets sub cs vs at (start n + length (x .steps)) (x .keep) (x .breaking) (conforms (graphAt cs vs) (shapeOf cs (entryAt cs vs n) (shapes n)))) (own-free n)
+            (entry-right sub cs vs at (made cs n .keep) (made cs n .breaking) (start n) n (shapes n) (λ j lj. subst (λ (φ : Shape). Sets sub cs vs at (start n) (made cs n .keep j) (made cs n .breaking j) (conforms (graphAt cs vs) φ)) (sym (below-number Shape.top (λ e at. shapeOf cs (entryAt cs vs e) at) n j lj)) (ih j lj)) (entryAt cs vs n) refl ok)
             (has-rest at (made cs n .steps) (own n .steps) st)
 
         here : e ≡ n → RightAt (suc n) e
-        here q = moved cs vs at (start n + length (own n .steps)) (start (suc n)) _ _ _ _ _ _ new (le-of-eq (sym (start-more n))) (put-same (made cs n .keep) n _ e q) (put-same (made cs n .breaking) n _ e q) (ap (conforms (graphAt cs vs)) (sym (shape-number cs n vs) ∙ ap (shapeAt cs vs) (sym q)))
+        here q = moved sub cs vs at (start n + length (own n .steps)) (start (suc n)) _ _ _ _ _ _ new (le-of-eq (sym (start-more n))) (put-same (made cs n .keep) n _ e q) (put-same (made cs n .breaking) n _ e q) (ap (conforms (graphAt cs vs)) (sym (shape-number cs n vs) ∙ ap (shapeAt cs vs) (sym q)))
 
         earlier : e < n → RightAt (suc n) e
-        earlier l′ = moved cs vs at (start n) (start (suc n)) _ _ _ _ _ _ (ih e l′) (let z : start (suc n) ≡ start n + length (own n .steps) = start-more n in omega arith) (put-other (made cs n .keep) n _ e (λ q. let z : ⊥ = omega arith in z)) (put-other (made cs n .breaking) n _ e (λ q. let z : ⊥ = omega arith in z)) refl
+        earlier l′ = moved sub cs vs at (start n) (start (suc n)) _ _ _ _ _ _ (ih e l′) (let z : start (suc n) ≡ start n + length (own n .steps) = start-more n in omega arith) (put-other (made cs n .keep) n _ e (λ q. let z : ⊥ = omega arith in z)) (put-other (made cs n .breaking) n _ e (λ q. let z : ⊥ = omega arith in z)) refl
 
     -- every entry below n is right in a plan that has its steps
     pub right : (n : ℕ) → ((e : ℕ) → e < n → entryOk cs e (entryAt cs vs e) ≡ true) → Has at 0 (made cs n .steps) → (e : ℕ) → e < n → RightAt n e
@@ -138,12 +139,12 @@ module _ (cs : List ℕ) where
   has-to at zero r l h = subst (λ (k : ℕ). Has at 0 (stepsTo cs k)) (let z : 0 ≡ r = omega arith in z) h
   has-to at (suc n) r l h = ⊎-elim (λ e. subst (λ (k : ℕ). Has at 0 (stepsTo cs k)) (sym e) h) (λ l′. has-to at n r (le-of-suc-le-suc l′) (has-left at 0 (stepsTo cs n) (stepsOfRule cs n (length (stepsTo cs n))) h)) (eq-or-lt-of-le l)
 
-  target-set : (vs : List ℤ) (at : ℕ → Step) (k : ℕ) (t : Target) → at k ≡ targetStep t → setBy cs vs at k ≡ selects (graphAt cs vs) t
+  target-set : (sub : Option ℕ) (vs : List ℤ) (at : ℕ → Step) (k : ℕ) (t : Target) → at k ≡ targetStep t → setBy sub cs vs at k ≡ selects sub (graphAt cs vs) t
   unfolding targetStep inStep conforms selects
-  target-set vs at k (targetNode c) e = set-at cs vs at k (Step.is c) e
-  target-set vs at k (subjectsOf l) e = set-at cs vs at k (Step.from l) e
-  target-set vs at k (objectsOf l) e = set-at cs vs at k (Step.into l) e
-  target-set vs at k (targetClass c) e = set-at cs vs at k (Step.typed c) e
+  target-set sub vs at k (targetNode c) e = set-at sub cs vs at k (Step.is c) e
+  target-set sub vs at k (subjectsOf l) e = set-at sub cs vs at k (Step.from l) e
+  target-set sub vs at k (objectsOf l) e = set-at sub cs vs at k (Step.into l) e
+  target-set sub vs at k (targetClass c) e = set-at sub cs vs at k (Step.typed c) e
 
   -- a rule's shape is there
   pub rule-shape : Sound cs → (r : ℕ) → r < ruleCount cs → ruleShapeAt cs r < shapeCount cs
@@ -156,12 +157,12 @@ module _ (cs : List ℕ) where
   schema-at vs s l = at-values (λ s. shapeAt cs vs (rootAt cs s)) (shapeCount cs) s Shape.top l
 
   -- in a plan that has the steps of the tables: each entry's two sets, and each rule's set
-  module _ (ok : Sound cs) (vs : List ℤ) (at : ℕ → Step) (st : Has at 0 (stepsOf cs)) where
-    pub entry-sets : (e : ℕ) → e < formCount cs → RightAt vs at (formCount cs) e
+  module _ (ok : Sound cs) (sub : Option ℕ) (vs : List ℤ) (at : ℕ → Step) (st : Has at 0 (stepsOf cs)) where
+    pub entry-sets : (e : ℕ) → e < formCount cs → RightAt sub vs at (formCount cs) e
     unfolding stepsOf stepsTo
-    entry-sets e l = right vs at (formCount cs) (ok .entry vs) (has-to at (ruleCount cs) 0 (omega arith) st) e l
+    entry-sets e l = right sub vs at (formCount cs) (ok .entry vs) (has-to at (ruleCount cs) 0 (omega arith) st) e l
 
-    pub rule-set : (r : ℕ) → r < ruleCount cs → setBy cs vs at (ruleStep cs r) ≡ violates (graphAt cs vs) (schemaAt cs vs) (ruleAt cs r)
+    pub rule-set : (r : ℕ) → r < ruleCount cs → setBy sub cs vs at (ruleStep cs r) ≡ violates sub (graphAt cs vs) (schemaAt cs vs) (ruleAt cs r)
     unfolding stepsOf stepsTo stepsOfRule ruleStep violates ruleAt
     rule-set r l =
         let h : Has at 0 (stepsTo cs (suc r)) = has-to at (ruleCount cs) (suc r) l st in
@@ -169,5 +170,5 @@ module _ (cs : List ℕ) where
         let two : Has at (length (stepsTo cs r)) (stepsOfRule cs r (length (stepsTo cs r))) = has-rest at (stepsTo cs r) (stepsOfRule cs r (length (stepsTo cs r))) h in
         let root : ℕ = rootAt cs (ruleShapeAt cs r) in
         let q = entry-sets root (ok .root (ruleShapeAt cs r) (rule-shape ok r l)) in
-        set-both cs vs at (n + 1) n (selects (graphAt cs vs) (ruleAt cs r .target)) (omega arith) (target-set vs at n (ruleAt cs r .target) (two .0)) (made cs (formCount cs) .breaking root) (λ v. not (conforms (graphAt cs vs) (shapeAt cs vs root) v)) (omega (arith, q .breakLow, forms-first r)) (q .breaks) (two .1 .0)
-        ∙ ap (λ (φ : Shape). λ v. selects (graphAt cs vs) (ruleAt cs r .target) v && not (conforms (graphAt cs vs) φ v)) (sym (schema-at vs (ruleShapeAt cs r) (rule-shape ok r l)))
+        set-both sub cs vs at (n + 1) n (selects sub (graphAt cs vs) (ruleAt cs r .target)) (omega arith) (target-set sub vs at n (ruleAt cs r .target) (two .0)) (made cs (formCount cs) .breaking root) (λ v. not (conforms (graphAt cs vs) (shapeAt cs vs root) v)) (omega (arith, q .breakLow, forms-first r)) (q .breaks) (two .1 .0)
+        ∙ ap (λ (φ : Shape). λ v. selects sub (graphAt cs vs) (ruleAt cs r .target) v && not (conforms (graphAt cs vs) φ v)) (sym (schema-at vs (ruleShapeAt cs r) (rule-shape ok r l)))

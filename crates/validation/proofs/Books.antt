@@ -10,7 +10,7 @@ use Rattle.base.proofs.Bounded.{member-members, members-ascending, size-members
 use Rattle.model.specs.Graph.{Graph}
 use Rattle.model.specs.Shapes.{Shape}
 use Rattle.model.specs.Rules.{Rule, violates, violations, noRule}
-use Rattle.model.specs.Books.{Book, graphOf, schema, rules, listOf}
+use Rattle.model.specs.Books.{Book, subClassOf, graphOf, schema, rules, listOf}
 use Rattle.model.specs.Sizes.{formsIn}
 use Rattle.model.specs.Valid.{admissible}
 use Rattle.model.specs.Limits.{maxNodes, maxRules}
@@ -28,11 +28,11 @@ use Rattle.validation.specs.Claim.{ruleOf, violatesIn}
 
 module _ (b : Book) (ok : admissible b ≡ true) where
   -- the list of rule r
-  pub list-read : (r : ℕ) → r < length (rules b) → listAt (encodeCells b) (encodeValues b) r ≡ listOf b (ruleOf b r)
+  pub list-read : (r : ℕ) → r < length (rules b) → listAt (subClassOf b) (encodeCells b) (encodeValues b) r ≡ listOf b (ruleOf b r)
   unfolding listAt listOf
   list-read r low =
-      ap₂ (λ (g : Graph) (H : List Shape). violations g H (ruleAt (encodeCells b) r)) (graph-read b ok) (schema-read b ok)
-      ∙ ap (violations (graphOf b) (schema b)) (rule-at b ok r noRule low)
+      ap₂ (λ (g : Graph) (H : List Shape). violations (subClassOf b) g H (ruleAt (encodeCells b) r)) (graph-read b ok) (schema-read b ok)
+      ∙ ap (violations (subClassOf b) (graphOf b) (schema b)) (rule-at b ok r noRule low)
 
   pub few-nodes : graphOf b .nodes ≤ maxNodes
   unfolding graphAt
@@ -48,12 +48,12 @@ module _ (b : Book) (ok : admissible b ≡ true) where
 module _ (b : Book) (q : Rule) where
   pub listed-exactly : (v : ℕ) → member v (listOf b q) ≡ violatesIn b q v
   unfolding listOf violations
-  listed-exactly v = member-members (violates (graphOf b) (schema b) q) (graphOf b .nodes) v
+  listed-exactly v = member-members (violates (subClassOf b) (graphOf b) (schema b) q) (graphOf b .nodes) v
 
   pub listed-ordered : ascending (listOf b q) ≡ true
   unfolding listOf violations
-  listed-ordered = members-ascending (violates (graphOf b) (schema b) q) (graphOf b .nodes)
+  listed-ordered = members-ascending (violates (subClassOf b) (graphOf b) (schema b) q) (graphOf b .nodes)
 
   pub listed-few : length (listOf b q) ≤ graphOf b .nodes
   unfolding listOf violations
-  listed-few = subst (λ k. k ≤ graphOf b .nodes) (size-members (violates (graphOf b) (schema b) q) (graphOf b .nodes)) (size-le (violates (graphOf b) (schema b) q) (graphOf b .nodes))
+  listed-few = subst (λ k. k ≤ graphOf b .nodes) (size-members (violates (subClassOf b) (graphOf b) (schema b) q) (graphOf b .nodes)) (size-le (violates (subClassOf b) (graphOf b) (schema b) q) (graphOf b .nodes))

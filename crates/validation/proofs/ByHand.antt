@@ -14,7 +14,7 @@ use Rattle.base.proofs.Bools.{bool-cases, and-left, and-right, and-both}
 use Rattle.model.specs.Answers.{value, refusal}
 use Rattle.model.proofs.Answers.{short, done}
 use Rattle.model.specs.Limits.{maxNodes}
-use Rattle.model.specs.Books.{Book, rules, listOf}
+use Rattle.model.specs.Books.{Book, subClassOf, rules, listOf}
 use Rattle.model.specs.Sizes.{formsIn}
 use Rattle.tables.specs.Layout.{cellCount, ruleCount}
 use Rattle.tables.specs.Sizes.{longEnough}
@@ -43,7 +43,7 @@ use Rattle.tablerun.proofs.Answers as tablerun
 use Rattle.tablerun.proofs.Lists.{bare-well-formed, rule-nodes}
 use Rattle.validation.specs.Claim.{ruleOf}
 use Rattle.validation.proofs.Books.{list-read, steps-few}
-use Rattle.validation.proofs.Tables.{fine, names′, cells′, values′, cells-read, values-read, still-long, well-formed-read}
+use Rattle.validation.proofs.Tables.{fine, names′, cells′, values′, cells-read, values-read, sub-read, still-long, well-formed-read}
 
 module _ (s ns cs : List ℕ) (vs : List ℤ) (e : longEnough ns cs vs ≡ true) (b : Book) (v : valid b ≡ true) (r : render b ≡ s) where
   -- names, cells and values as read left them
@@ -125,10 +125,10 @@ module _ (s ns cs : List ℕ) (vs : List ℤ) (e : longEnough ns cs vs ≡ true)
         plan-right : planWellFormed (take cellCount c) (take planCount plan′) ≡ true
         plan-right = tablerun.plan-right n c w ps long′ right′ (plan-room plan-fits) plan′ ws (made plan-fits) work-room
 
-        filled : work′ ≡ runs.filled cells (encodeValues b) (planOf cells) ws
+        filled : work′ ≡ runs.filled (subClassOf b) cells (encodeValues b) (planOf cells) ws
         filled =
             tablerun.work-left n c w ps long′ right′ (plan-room plan-fits) plan′ ws (made plan-fits) work-room
-            ∙ ap₂ (λ k x. runs.filled k x (planOf k) ws) (cells-read s ns cs vs e b v r) (values-read s ns cs vs e b v r)
+            ∙ (λ i. runs.filled (sub-read s ns cs vs e b v r i) (cells-read s ns cs vs e b v r i) (values-read s ns cs vs e b v r i) (planOf (cells-read s ns cs vs e b v r i)) ws)
 
         ran : runs.runAnswer n c w plan′ ws ≡ value tt
         ran = tablerun.run-value n c w ps long′ right′ (plan-room plan-fits) plan′ ws (made plan-fits) work-room
@@ -146,7 +146,7 @@ module _ (s ns cs : List ℕ) (vs : List ℤ) (e : longEnough ns cs vs ≡ true)
           bool-cases (λ t. workFits ≡ t → length work′ ≡ length ws) workFits
           (λ _ t.
           let few = plans.sound cells (planOf cells) (bare-well-formed cells (well-formed b (fine s ns cs vs e b v r))) .steps in
-          ap length (filled t) ∙ length-filled cells (encodeValues b) (planOf cells) ws (let z : 16 * stepCount (planOf cells) ≤ length ws = omega (arith, few, work-room t) in z))
+          ap length (filled t) ∙ length-filled (subClassOf b) cells (encodeValues b) (planOf cells) ws (let z : 16 * stepCount (planOf cells) ≤ length ws = omega (arith, few, work-room t) in z))
           (λ _ t. ap length (sym (not-run t .1)))
           refl
 
@@ -176,7 +176,7 @@ module _ (s ns cs : List ℕ) (vs : List ℤ) (e : longEnough ns cs vs ≡ true)
             let nodes-are : lists.listed n c w plan′ work′ k row ≡ list =
             ap (λ x. listIn x (take planCount plan′) work′ k) (cells-read s ns cs vs e b v r)
             ∙ ap₂ (λ p x. listIn cells p x k) (plan-is fit) (filled fit)
-            ∙ rule-nodes cells (well-formed b (fine s ns cs vs e b v r)) (encodeValues b) ws k known
+            ∙ rule-nodes cells (well-formed b (fine s ns cs vs e b v r)) (subClassOf b) (encodeValues b) ws k known
             ∙ list-read b (fine s ns cs vs e b v r) k low in
             let both : bothWellFormed (take cellCount c) (take planCount plan′) ≡ true = both-formed (take cellCount c) (take planCount plan′) right′ (plan-right fit) in
             let found : ltb k (ruleCount (take cellCount c)) ≡ true = ap (λ x. ltb k (ruleCount x)) (cells-read s ns cs vs e b v r) ∙ lt-ltb k (ruleCount cells) known in

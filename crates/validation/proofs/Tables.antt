@@ -8,9 +8,10 @@ use lib.IntN.{ℤ}
 use lib.ListN.{length, take, drop, length-append, length-drop}
 use lib.Seq.{take-at}
 use Rattle.model.specs.Answers.{value}
-use Rattle.model.specs.Books.{Book}
+use Rattle.model.specs.Books.{Book, subClassOf}
 use Rattle.model.specs.Valid.{admissible}
 use Rattle.tables.specs.Layout.{nameCount, cellCount, valueCount}
+use Rattle.tables.specs.Names.{subClassAt}
 use Rattle.tables.specs.Sizes.{longEnough}
 use Rattle.tables.specs.WellFormed.{wellFormed}
 use Rattle.tables.proofs.Sizes.{Long, as-long}
@@ -22,7 +23,7 @@ use Rattle.grammar.specs.Valid.{valid}
 use Rattle.grammar.specs.Reading.{reading}
 use Rattle.grammar.proofs.Books.{reading-iff, valid-admissible}
 use Rattle.reader.specs.Answers as reads
-use Rattle.validation.proofs.Whole.{names-left, cells-left, values-left, long-kept}
+use Rattle.validation.proofs.Whole.{names-left, cells-left, values-left, sub-of, long-kept}
 
 -- the front of a list replaced by one of the same length
 same-length : {A : Type 0} (xs l : List A) (n : ℕ) → length xs ≡ n → n ≤ length l → length (xs ++ drop n l) ≡ length l
@@ -56,6 +57,9 @@ module _ (s ns cs : List ℕ) (vs : List ℤ) (e : longEnough ns cs vs ≡ true)
 
   pub cells-read : take cellCount cells′ ≡ encodeCells b
   cells-read = ap (take cellCount) cells-are ∙ take-at (encodeCells b) (drop cellCount cs) cellCount (cells-length b)
+
+  pub sub-read : subClassAt (take nameCount names′) (take cellCount cells′) ≡ subClassOf b
+  sub-read = sub-of b v names′ (drop nameCount ns) cells′ (drop cellCount cs) values′ (drop valueCount vs) names-are cells-are values-are
 
   pub values-read : take valueCount values′ ≡ encodeValues b
   values-read = ap (take valueCount) values-are ∙ take-at (encodeValues b) (drop valueCount vs) valueCount (values-length b)

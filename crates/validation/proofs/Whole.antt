@@ -15,14 +15,17 @@ use Rattle.model.specs.declared.Refusal.{Refusal}
 use Rattle.model.specs.Answers.{Answer, value, refusal, mapValue}
 use Rattle.model.proofs.Answers.{same-refusal, not-refused}
 use Rattle.model.specs.Refusals.{codeOf, lineOf}
-use Rattle.model.specs.Books.{Book, rules, listOf}
+use Rattle.model.specs.Books.{Book, links, subClassOf, rules, listOf}
 use Rattle.model.specs.Limits.{maxNodes}
 use Rattle.tables.specs.Layout.{nameCount, cellCount, valueCount, ruleCount}
+use Rattle.tables.specs.Names.{subClassAt}
 use Rattle.tables.specs.Sizes.{longEnough}
 use Rattle.tables.specs.WellFormed.{wellFormed}
 use Rattle.encoding.specs.Encode.{encodeNames, encodeCells, encodeValues}
 use Rattle.encoding.proofs.Counts.{names-length, cells-length, values-length, rules-counted}
+use Rattle.encoding.proofs.Stored.{sub-class-read}
 use Rattle.encoding.proofs.WellFormed.{well-formed}
+use Rattle.stores.proofs.Prefixes.{valid-names}
 use Rattle.grammar.specs.Valid.{valid}
 use Rattle.grammar.specs.Reading.{reading}
 use Rattle.grammar.proofs.Books.{reading-iff, one-book, refused-only, valid-admissible}
@@ -41,7 +44,7 @@ use Rattle.tablerun.proofs.Lists.{rule-nodes, rows-same, lengths-same}
 use Rattle.validation.specs.Claim.{ruleOf, Right, Demand3}
 use Rattle.model.specs.Sizes.{countsIn}
 use Rattle.model.specs.declared.Counts.{Counts}
-use Rattle.validation.specs.Lent.{Lent, lent, validateLong, namesIn, cellsIn, valuesIn, planIn}
+use Rattle.validation.specs.Lent.{Lent, lent, validateLong, namesIn, cellsIn, valuesIn, planIn, subClassIn}
 use Rattle.validation.specs.Whole.{left, validateAnswer, after}
 use Rattle.validation.proofs.Books.{list-read, steps-few, few-nodes, few-rules, listed-exactly, listed-ordered, listed-few}
 
@@ -118,6 +121,10 @@ module _ (s : List ℕ) (l : Lent) where
       values-in : valuesIn m ≡ encodeValues b
       values-in = take-at (encodeValues b) (drop valueCount (l .values)) valueCount (values-length b)
 
+      -- the tables' link `under` is the book's
+      sub-in : subClassIn m ≡ subClassOf b
+      sub-in = ap₂ subClassAt names-in cells-in ∙ sub-class-read b (valid-names b is-valid links) (valid-admissible b is-valid)
+
       plan-in : planIn m ≡ planOf (encodeCells b)
       plan-in = take-at (planOf (encodeCells b)) (drop planCount (l .plan)) planCount (length-planOf (encodeCells b))
 
@@ -127,10 +134,10 @@ module _ (s : List ℕ) (l : Lent) where
       steps-are : stepCount (planOf (encodeCells b)) ≡ n
       steps-are = ap stepCount (sym (append-nil (planOf (encodeCells b)))) ∙ plan-count (encodeCells b) []
 
-      step-words : (k : ℕ) → k < n → take 16 (drop (16 * k) (m .work)) ≡ setWords (cellsIn m) (valuesIn m) (planIn m) k
+      step-words : (k : ℕ) → k < n → take 16 (drop (16 * k) (m .work)) ≡ setWords (subClassIn m) (cellsIn m) (valuesIn m) (planIn m) k
       step-words k low =
-          filled-words (encodeCells b) (encodeValues b) (planOf (encodeCells b)) (l .work) k (subst (λ x. k < x) (sym steps-are) low)
-          ∙ (λ j. setWords (sym cells-in j) (sym values-in j) (sym plan-in j) k)
+          filled-words (subClassOf b) (encodeCells b) (encodeValues b) (planOf (encodeCells b)) (l .work) k (subst (λ x. k < x) (sym steps-are) low)
+          ∙ (λ j. setWords (sym sub-in j) (sym cells-in j) (sym values-in j) (sym plan-in j) k)
 
       in-rows : (r : ℕ) → r < length (rules b) → rowIn (m .lists) (m .lengths) r ≡ listOf b (ruleOf b r)
       in-rows r low =
@@ -140,7 +147,7 @@ module _ (s : List ℕ) (l : Lent) where
       rows-read-off : (r : ℕ) → r < length (rules b) → rowIn (m .lists) (m .lengths) r ≡ listIn (cellsIn m) (planIn m) (m .work) r
       rows-read-off r low =
           in-rows r low
-          ∙ sym (rule-nodes (encodeCells b) fine (encodeValues b) (l .work) r (subst (λ x. r < x) (sym (rules-counted b)) low) ∙ list-read b (valid-admissible b is-valid) r low)
+          ∙ sym (rule-nodes (encodeCells b) fine (subClassOf b) (encodeValues b) (l .work) r (subst (λ x. r < x) (sym (rules-counted b)) low) ∙ list-read b (valid-admissible b is-valid) r low)
           ∙ (λ j. listIn (sym cells-in j) (sym plan-in j) (m .work) r)
 
       right : Right b m n
@@ -200,29 +207,32 @@ pub lent-same : {ns ns′ cs cs′ : List ℕ} {vs vs′ : List ℤ} {ps ps′ w
 lent-same a b c d e f g = λ j. record { names = a j; cells = b j; values = c j; plan = d j; work = e j; lists = f j; lengths = g j }
 
 -- ---- the tables that an accepted book leaves
-module _ (b : Book) (v : valid b ≡ true) (cells cs : List ℕ) (values vs : List ℤ) (e : cells ≡ encodeCells b ++ cs) (f : values ≡ encodeValues b ++ vs) where
+module _ (b : Book) (v : valid b ≡ true) (names ns cells cs : List ℕ) (values vs : List ℤ) (d : names ≡ encodeNames b ++ ns) (e : cells ≡ encodeCells b ++ cs) (f : values ≡ encodeValues b ++ vs) where
   pub cells-of : take cellCount cells ≡ encodeCells b
   cells-of = ap (take cellCount) e ∙ take-at (encodeCells b) cs cellCount (cells-length b)
 
   pub values-of : take valueCount values ≡ encodeValues b
   values-of = ap (take valueCount) f ∙ take-at (encodeValues b) vs valueCount (values-length b)
 
+  pub sub-of : subClassAt (take nameCount names) (take cellCount cells) ≡ subClassOf b
+  sub-of = ap₂ subClassAt (ap (take nameCount) d ∙ take-at (encodeNames b) ns nameCount (names-length b)) cells-of ∙ sub-class-read b (valid-names b v links) (valid-admissible b v)
+
   pub well-formed-of : wellFormed (take cellCount cells) ≡ true
   well-formed-of = ap wellFormed cells-of ∙ well-formed b (valid-admissible b v)
 
-  same-lists : (r : ℕ) → r < ruleCount (encodeCells b) → listAt (encodeCells b) (encodeValues b) r ≡ listOf b (ruleOf b r)
+  same-lists : (r : ℕ) → r < ruleCount (encodeCells b) → listAt (subClassOf b) (encodeCells b) (encodeValues b) r ≡ listOf b (ruleOf b r)
   same-lists r low = list-read b (valid-admissible b v) r (subst (λ n. r < n) (rules-counted b) low)
 
-  pub rows-of : (ls : List ℕ) → withRows (listAt (take cellCount cells) (take valueCount values)) (ruleCount (take cellCount cells)) ls ≡ withRows (λ r. listOf b (ruleOf b r)) (length (rules b)) ls
+  pub rows-of : (ls : List ℕ) → withRows (listAt (subClassAt (take nameCount names) (take cellCount cells)) (take cellCount cells) (take valueCount values)) (ruleCount (take cellCount cells)) ls ≡ withRows (λ r. listOf b (ruleOf b r)) (length (rules b)) ls
   rows-of ls =
-      ap₂ (λ c w. withRows (listAt c w) (ruleCount c) ls) cells-of values-of
-      ∙ rows-same (listAt (encodeCells b) (encodeValues b)) (λ r. listOf b (ruleOf b r)) (ruleCount (encodeCells b)) ls same-lists
+      (λ i. withRows (listAt (sub-of i) (cells-of i) (values-of i)) (ruleCount (cells-of i)) ls)
+      ∙ rows-same (listAt (subClassOf b) (encodeCells b) (encodeValues b)) (λ r. listOf b (ruleOf b r)) (ruleCount (encodeCells b)) ls same-lists
       ∙ ap (λ n. withRows (λ r. listOf b (ruleOf b r)) n ls) (rules-counted b)
 
-  pub lengths-of : (ks : List ℕ) → withLengths (listAt (take cellCount cells) (take valueCount values)) (ruleCount (take cellCount cells)) ks ≡ withLengths (λ r. listOf b (ruleOf b r)) (length (rules b)) ks
+  pub lengths-of : (ks : List ℕ) → withLengths (listAt (subClassAt (take nameCount names) (take cellCount cells)) (take cellCount cells) (take valueCount values)) (ruleCount (take cellCount cells)) ks ≡ withLengths (λ r. listOf b (ruleOf b r)) (length (rules b)) ks
   lengths-of ks =
-      ap₂ (λ c w. withLengths (listAt c w) (ruleCount c) ks) cells-of values-of
-      ∙ lengths-same (listAt (encodeCells b) (encodeValues b)) (λ r. listOf b (ruleOf b r)) (ruleCount (encodeCells b)) ks same-lists
+      (λ i. withLengths (listAt (sub-of i) (cells-of i) (values-of i)) (ruleCount (cells-of i)) ks)
+      ∙ lengths-same (listAt (subClassOf b) (encodeCells b) (encodeValues b)) (λ r. listOf b (ruleOf b r)) (ruleCount (encodeCells b)) ks same-lists
       ∙ ap (λ n. withLengths (λ r. listOf b (ruleOf b r)) n ks) (rules-counted b)
 
 -- ---- lengths that were kept

@@ -16,7 +16,7 @@ use Rattle.base.specs.Numbered.{below}
 use Rattle.base.proofs.Bools.{and-right, never-both}
 use Rattle.base.proofs.Bounded.{member-members}
 use Rattle.base.proofs.Numbered.{at-number}
-use Rattle.nodeset.specs.Words.{bit, has}
+use Rattle.nodeset.specs.Words.{bit, has, nodesOf}
 use Rattle.nodeset.proofs.Bits.{bit-zero}
 use Rattle.nodeset.proofs.Sets.{has-drop, has-take, has-of}
 use Rattle.text.specs.Items.{nameByte, isName}
@@ -44,11 +44,10 @@ use Rattle.plan.specs.Layout.{ruleStepAt, stepAt, stepCount}
 use Rattle.plan.specs.Sets.{inStep, setBy, setAt}
 use Rattle.plancheck.proofs.WellFormed as plans
 use Rattle.translation.specs.Compile.{planOf}
-use Rattle.stepsets.specs.Conditions.{nodesOf}
 use Rattle.runner.specs.Run.{workCount, setWords}
 use Rattle.lists.specs.Rows.{listIn}
 use Rattle.tablerun.proofs.Lists.{bare-well-formed}
-use Rattle.validation.specs.Lent.{Lent, validateLong, cellsIn, valuesIn, planIn}
+use Rattle.validation.specs.Lent.{Lent, validateLong, cellsIn, valuesIn, planIn, subClassIn}
 use Rattle.validation.specs.Claim.{ruleOf, violatesIn, Right, Answers, Demand3}
 
 -- ---- where the slices are long enough, the answer is a number of steps
@@ -123,12 +122,12 @@ module _ (b : Book) (ok : valid b ≡ true) (after : Lent) (n : ℕ) (h : Right 
   unfolding setWords nodesOf setAt setBy inStep
   none-empty e v l =
       let cs : List ℕ = cellsIn after in
-      let made : ℕ → (ℕ → ℕ → Bool) → ℕ → Bool = λ j sets. inStep cs (valuesIn after) (stepAt (planIn after) j) sets in
+      let made : ℕ → (ℕ → ℕ → Bool) → ℕ → Bool = λ j sets. inStep (subClassIn after) cs (valuesIn after) (stepAt (planIn after) j) sets in
       let sets : ℕ → ℕ → Bool = below (λ w. false) made k in
       sym (has-take (drop (16 * k) (after .work)) 16 v l)
-      ∙ has-of (λ w. ltb w (nodeCount cs) && setAt cs (valuesIn after) (planIn after) k w) 16 (h .ran k step-there) v l
+      ∙ has-of (λ w. ltb w (nodeCount cs) && setAt (subClassIn after) cs (valuesIn after) (planIn after) k w) 16 (h .ran k step-there) v l
       ∙ ap (λ (s : ℕ → Bool). ltb v (nodeCount cs) && s v) (at-number (λ w. false) made k)
-      ∙ ap (λ (x : Step). ltb v (nodeCount cs) && inStep cs (valuesIn after) x sets v) e
+      ∙ ap (λ (x : Step). ltb v (nodeCount cs) && inStep (subClassIn after) cs (valuesIn after) x sets v) e
       ∙ and-false (ltb v (nodeCount cs))
 
 pub first-rule-only : (before after : Lent) (a : Answer ℕ) → Demand3 (render twice) before a after → validateLong before ≡ true → stepAt (planIn after) (ruleStepAt (planIn after) 1) ≡ Step.none → ⊥

@@ -11,7 +11,7 @@ use lib.ListN.{length, take, drop, getD}
 use Rattle.base.specs.Lists.{member, ascending}
 use Rattle.model.specs.Answers.{Answer, value, refusal, refusalOf}
 use Rattle.model.specs.Rules.{Rule, violates, noRule}
-use Rattle.model.specs.Books.{Book, graphOf, schema, rules}
+use Rattle.model.specs.Books.{Book, subClassOf, graphOf, schema, rules}
 use Rattle.model.specs.Sizes.{formsIn}
 use Rattle.grammar.specs.Writing.{render}
 use Rattle.grammar.specs.Valid.{valid}
@@ -20,7 +20,7 @@ use Rattle.plan.specs.Layout.{stepCount}
 use Rattle.translation.specs.Compile.{planOf}
 use Rattle.runner.specs.Run.{setWords}
 use Rattle.lists.specs.Rows.{listIn, rowIn}
-use Rattle.validation.specs.Lent.{Lent, validateLong, namesIn, cellsIn, valuesIn, planIn}
+use Rattle.validation.specs.Lent.{Lent, validateLong, namesIn, cellsIn, valuesIn, planIn, subClassIn}
 use Rattle.validation.specs.declared.Validated.{Validated}
 use Rattle.validation.specs.declared.Validated.the-variants.{Steps, Refused}
 
@@ -30,7 +30,7 @@ ruleOf b r = getD (rules b) r noRule
 
 -- v is a node of the book that violates the rule: the rule selects it, and it does not conform to the rule's shape
 abbrev pub violatesIn : Book → Rule → ℕ → Bool
-violatesIn b q v = ltb v (graphOf b .nodes) && violates (graphOf b) (schema b) q v
+violatesIn b q v = ltb v (graphOf b .nodes) && violates (subClassOf b) (graphOf b) (schema b) q v
 
 -- what the book b should get: what is left in the slices, and the number of steps
 pub record Right (b : Book) (after : Lent) (steps : ℕ) : Type 0 where
@@ -41,7 +41,7 @@ pub record Right (b : Book) (after : Lent) (steps : ℕ) : Type 0 where
   -- the plan is the compiler's plan of these tables
   pub planned : planIn after ≡ planOf (cellsIn after)
   -- each step's sixteen words of the work space are its set
-  pub ran : (k : ℕ) → k < steps → take 16 (drop (16 * k) (after .work)) ≡ setWords (cellsIn after) (valuesIn after) (planIn after) k
+  pub ran : (k : ℕ) → k < steps → take 16 (drop (16 * k) (after .work)) ≡ setWords (subClassIn after) (cellsIn after) (valuesIn after) (planIn after) k
   -- each rule's list is read off the words of the rule's step
   pub readOff : (r : ℕ) → r < length (rules b) → rowIn (after .lists) (after .lengths) r ≡ listIn (cellsIn after) (planIn after) (after .work) r
   -- under each rule a node is listed exactly when the rule selects it and it does not conform to the shape

@@ -1,11 +1,13 @@
 -- What is lent to the whole run beside the book: seven slices, as they are at its beginning or at its end.
 use Prim.Native.Nat.{ℕ}
 use mathlib.Core.List.{List}
+use mathlib.Core.Option.{Option}
 use mathlib.Core.Bool.{Bool, _&&_}
 use lib.Dec.{leb}
 use lib.IntN.{ℤ}
 use lib.ListN.{length, take}
 use Rattle.tables.specs.Layout.{nameCount, cellCount, valueCount}
+use Rattle.tables.specs.Names.{subClassAt}
 use Rattle.tables.specs.Sizes.{longEnough}
 use Rattle.plan.specs.Layout.{planCount}
 use Rattle.runner.specs.Run.{workCount}
@@ -41,3 +43,7 @@ valuesIn l = take valueCount (l .values)
 
 abbrev pub planIn : Lent → List ℕ
 planIn l = take planCount (l .plan)
+
+-- the link `under` of these tables, where they have it
+abbrev pub subClassIn : Lent → Option ℕ
+subClassIn l = subClassAt (namesIn l) (cellsIn l)

@@ -4,7 +4,7 @@ use mathlib.Core.List.{List, _++_}
 use mathlib.Core.Bool.{cond}
 use lib.ListN.{length, drop}
 use Rattle.model.specs.Answers.{Answer, value, refusal, mapValue}
-use Rattle.model.specs.Books.{Book, rules, listOf}
+use Rattle.model.specs.Books.{Book, subClassOf, rules, listOf}
 use Rattle.encoding.specs.Encode.{encodeCells, encodeValues}
 use Rattle.grammar.specs.Reading.{reading}
 use Rattle.plan.specs.Layout.{planCount}
@@ -29,7 +29,7 @@ left (value b) l =
       cells = cellsLeft (value b) (l .cells);
       values = valuesLeft (value b) (l .values);
       plan = planOf (encodeCells b) ++ drop planCount (l .plan);
-      work = filled (encodeCells b) (encodeValues b) (planOf (encodeCells b)) (l .work);
+      work = filled (subClassOf b) (encodeCells b) (encodeValues b) (planOf (encodeCells b)) (l .work);
       lists = withRows (λ r. listOf b (ruleOf b r)) (length (rules b)) (l .lists);
       lengths = withLengths (λ r. listOf b (ruleOf b r)) (length (rules b)) (l .lengths);
     }

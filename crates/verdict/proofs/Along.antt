@@ -11,7 +11,7 @@ use borrow.Author.Tests.{lt-ltb}
 use Rattle.base.specs.Bounded.{_⇒_, every, size}
 use Rattle.base.proofs.Bools.{bool-cases}
 use Rattle.base.proofs.Bounded.{every-ext, size-ext, size-beyond}
-use Rattle.nodeset.specs.Words.{has, wordsOf}
+use Rattle.nodeset.specs.Words.{has, wordsOf, nodesOf}
 use Rattle.nodeset.proofs.Sets.{has-of, has-wordsOf, has-drop}
 use Rattle.model.specs.Paths.{predicate, along, ends, endsOf}
 use Rattle.model.specs.Shapes.{within, subset, from, objects, starts, conforms, unlikeLangs}
@@ -26,7 +26,7 @@ use Rattle.paths.specs.declared.End.the-variants.{Path}
 use Rattle.entries.specs.Tables.{endFor}
 use Rattle.entries.proofs.Codes.{conforms-by, nodes-le}
 use Rattle.entries.proofs.Ends.{end-in}
-use Rattle.stepsets.specs.Conditions.{nodesOf, holdsOf, tagged}
+use Rattle.stepsets.specs.Conditions.{holdsOf, tagged}
 use Rattle.stepsets.specs.declared.Condition.{Condition}
 use Rattle.stepsets.specs.declared.Condition.the-variants.{Count, Every, Equal, Apart, Less, LessEq, OneLang}
 use Rattle.stepsets.proofs.Conditions.{one-tagged}

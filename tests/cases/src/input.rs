@@ -97,7 +97,7 @@ impl Input {
     /// Empty tables and a plan without steps.
     pub fn new() -> Input {
         let Tables { cells, values, .. } = Tables::new();
-        // no operation here looks at a name
+        // no zero ends a name here, so that none of them is `under`
         let tables = Tables { names: vec![7; sizes::NAMES + 8], cells: longer(cells, 7), values: longer(values, 7) };
         Input { tables, plan: Plan { cells: longer(Plan::new().cells, 7) }, more: [0; 5] }
     }
@@ -107,9 +107,19 @@ impl Input {
         match line.word {
             "cell" => self.tables.cells[line.cell(0) as usize] = line.cell(1),
             "plan" => self.plan.cells[line.cell(0) as usize] = line.cell(1),
+            "name" => self.name(line),
             "lend" => self.more = [0, 1, 2, 3, 4].map(|k| line.number(k)),
             _ => _ = self.add(line),
         }
+    }
+
+    /// Puts the bytes of a name, a dot for each zero, and zeros behind them.
+    fn name(&mut self, line: &Line) {
+        let [pool, k] = [line.cell(0), line.cell(1)].map(usize::from);
+        let first = if pool == 0 { 0 } else { column(["LINK_NAMES", "TYPE_NAMES", "LANG_NAMES", "SHAPE_NAMES"][pool - 1]) };
+        let bytes = line.text.split(' ').nth(3).expect("a name").bytes().map(|byte| if byte == b'.' { 0 } else { byte });
+        let place = self.tables.names[first + 32 * k..][..32].iter_mut();
+        place.zip(bytes.chain(std::iter::repeat(0))).for_each(|(old, new)| *old = new);
     }
 
     /// Adds the row of a line, and gives its number.

@@ -1,8 +1,8 @@
 //! Cases by hand for the proved library: `data/SUBJECT.txt` has them, `data/SUBJECT.out` what they must write. The questions of
 //! `tests/asks` have each a file of their own.
 //!
-//! The texts of `verdict`, `rounds`, `nearest`, `plan` and `runner` give tables and a plan line by line: a word, numbers (0 where
-//! one is left out), and what they are. The codes are those of docs/LAYOUT.md.
+//! The texts of `verdict`, `rounds`, `nearest`, `kinds`, `plan` and `runner` give tables and a plan line by line: a word, numbers
+//! (0 where one is left out), and what they are. The codes are those of docs/LAYOUT.md.
 //!
 //! | Line | Meaning |
 //! |---|---|
@@ -10,6 +10,7 @@
 //! | `entry CODE A B C D V`, `shape ENTRY`, `rule SHAPE TARGET OPERAND` | the next form entry, shape, rule |
 //! | `step CODE A B C D` | the next step of the plan |
 //! | `cell PLACE X`, `plan PLACE X` | a cell of the tables, of the plan |
+//! | `name POOL K BYTES` | name K of nodes (0), links (1), types, langs or shapes (4): a dot for each zero, and zeros behind |
 //! | `lend N C V P W` | how many places more than they must have names, cells, values, plan and work space have |
 //! | `- TITLE` | a new case, which begins with what stands above the first title |
 

@@ -1,6 +1,6 @@
 //! Tables made to be slow, of 1,024 nodes and up to 4,096 facts, and what the verdict says of one node of each; their plans are
-//! run too. Then how far searches along such paths go, and the nearest spares along them. All of it with the stack that the
-//! wrapper says is enough.
+//! run too. Then how far searches along such paths go, and the nearest spares along them; and what class rules select. All of it
+//! with the stack that the wrapper says is enough.
 
 use cases::{Input, Line};
 use melivanoup::{Plan, Spare, Tallies, Work, STACK};
@@ -330,8 +330,51 @@ fn hunts() -> String {
     around.chain(slow.iter().map(|&(title, graph, make)| hunt(title, graph(), make))).collect()
 }
 
+/// How many classes there are, and the node that is an instance of the first.
+const CLASSES: usize = 1000;
+const INSTANCE: usize = CLASSES;
+
+/// Things, and classes among them, of which the first of each pair is under the second, by link 1.
+fn classes(pairs: impl Iterator<Item = (usize, usize)>) -> Input {
+    let mut made = Input::new();
+    ["cell 1 2 links", "name 1 1 under"].iter().for_each(|line| made.store(&Line::new(line)));
+    (0..1024).for_each(|_| _ = add(&mut made, "node 0".into()));
+    add(&mut made, format!("fact {INSTANCE} 0 0"));
+    pairs.for_each(|(class, next)| _ = add(&mut made, format!("fact {class} 1 {next}")));
+    made
+}
+
+/// Each class under the next.
+fn class_chain() -> Input {
+    classes((1..CLASSES).map(|k| (k - 1, k)))
+}
+
+/// The last under the first, too.
+fn class_ring() -> Input {
+    classes((0..CLASSES).map(|k| (k, (k + 1) % CLASSES)))
+}
+
+/// Each class under four others, in many loops.
+fn class_loops() -> Input {
+    classes((0..CLASSES).flat_map(|k| [1, 3, 211, 998].map(|far| (k, (k + far) % CLASSES))))
+}
+
+const KINDS: [(&str, fn() -> Input); 3] =
+    [("a chain of classes", class_chain), ("a ring of classes", class_ring), ("loops of classes", class_loops)];
+
+/// As many steps Typed as there may be, of classes far from the first, and how many of them have the instance alone.
+fn typed(title: &str, mut made: Input) -> String {
+    (0..512).for_each(|k| _ = add(&mut made, format!("step 24 {}", CLASSES - 1 - k)));
+    let (tables, plan, mut work) = (made.tables(), made.plan(), Work::new());
+    let (ran, late) = timed("run", || tables.run(&plan, &mut work));
+    let mut alone = [0; 16];
+    alone[INSTANCE / 64] = 1 << (INSTANCE % 64);
+    let right = work.words.chunks(16).filter(|set| *set == alone).count();
+    ran.map_or_else(|why| format!("512 steps, {title}: {why}\n"), |_| format!("512 steps, {title}: {right}{late}\n"))
+}
+
 /// The best of some calls, since other work may hold one up.
-fn best(call: impl Fn()) -> Duration {
+fn best(mut call: impl FnMut()) -> Duration {
     let took = (0..20).map(|_| {
         let begun = Instant::now();
         call();
@@ -362,6 +405,23 @@ fn a_spare_is_found_in_twenty_milliseconds() {
     }
 }
 
+/// As many rules as there may be, on classes far from the first.
+#[test]
+fn class_rules_are_run_in_twenty_milliseconds() {
+    for (title, classes) in KINDS {
+        let mut made = classes();
+        let met = form(&mut made, 0, 0, 0);
+        let broken = form(&mut made, 5, met, 0);
+        let nobody = shape(&mut made, broken);
+        (0..32).for_each(|r| _ = add(&mut made, format!("rule {nobody} 3 {}", CLASSES - 1 - 16 * r)));
+        let (tables, mut plan, mut work) = (made.tables(), Plan::new(), Work::new());
+        tables.compile(&mut plan).unwrap();
+        let best = best(|| tables.run(&plan, &mut work).unwrap());
+        (0..32).for_each(|r| assert_eq!(tables.list(&plan, &work, r), Ok(vec![INSTANCE as u16]), "{title}, rule {r}"));
+        assert!(best < Duration::from_millis(20), "{title}: {best:?}");
+    }
+}
+
 #[test]
 fn the_slowest_tables_are_answered_in_time() {
     let slow: [(&str, fn() -> Input, Make); 15] = [
@@ -382,7 +442,8 @@ fn the_slowest_tables_are_answered_in_time() {
         ("onelang of a star at sixteen nodes", ring, at_sixteen),
     ];
     let asks = move || slow.iter().map(|&(title, graph, make)| ask(title, graph(), make)).collect::<String>();
-    let all = move || asks() + &searches() + &hunts();
+    let kinds = || KINDS.iter().map(|(title, classes)| typed(title, classes())).collect::<String>();
+    let all = move || asks() + &searches() + &hunts() + &kinds();
     // the code here takes a little of the stack too
     let run = std::thread::Builder::new().stack_size(STACK + (256 << 10)).spawn(all).expect("a thread");
     cases::compare_file("speed", &run.join().expect("an end"));

@@ -13,6 +13,9 @@ const SHAPES: usize = 4;
 /// a style of names
 const SHORT: usize = 3;
 
+/// the link by which a class is a kind of another
+const UNDER: &str = "under";
+
 /// How many of each a book gets, if its text has room for them.
 #[derive(Default)]
 struct Sizes {
@@ -134,11 +137,32 @@ fn write(r: &Random, s: Sizes, slips: usize) -> Vec<u8> {
     let style = if s.facts > 1000 { SHORT } else { r.below(8) };
     let (pools, taken) = Default::default();
     let (skew, hub, run) = (r.pick(&[1, 2, 2, 6]), r.once_in(4), r.once_in(3));
-    let mut w = Writer { r, text: Vec::new(), pools, taken, subjects: Vec::new(), facts: 0, style, skew, hub, run, slips };
+    let kinds = r.once_in(2).then(|| Kinds::any(r));
+    let mut w = Writer { r, text: Vec::new(), pools, taken, subjects: Vec::new(), facts: 0, style, skew, hub, run, kinds, slips };
     w.pools[LINKS].push("a".into());
     w.pools[TYPES].push("langstring".into());
     w.book(s);
     w.text
+}
+
+/// How classes lie under each other, in a book that has many of them.
+#[derive(Clone, Copy)]
+struct Kinds {
+    /// at most so many of the first things and blanks are classes
+    most: usize,
+    /// a class is under one that is at most so many places on
+    far: usize,
+    /// after the last comes the first; else the last is under itself
+    round: bool,
+    /// the other way: from a later one to an earlier one
+    down: bool,
+}
+
+impl Kinds {
+    fn any(r: &Random) -> Kinds {
+        let (most, far) = (r.pick(&[2, 4, 8, 30, 1024]), r.pick(&[1, 1, 2, 1024]));
+        Kinds { most, far, round: r.once_in(3), down: r.once_in(2) }
+    }
 }
 
 struct Writer<'a> {
@@ -158,6 +182,8 @@ struct Writer<'a> {
     hub: bool,
     /// most facts are by one link, from a subject to the next and from the last to the first, or to itself
     run: bool,
+    /// half of the facts are about classes, and so are half of the rules
+    kinds: Option<Kinds>,
     /// one word in so many is wrong; 0 for none
     slips: usize,
 }
@@ -262,8 +288,11 @@ impl Writer<'_> {
     fn book(&mut self, s: Sizes) {
         // a place for each line: definitions rather early, rules rather late
         let mut lines: Vec<(usize, u8)> = Vec::new();
+        // one of the links, now and then after some of the rules
+        let under = s.links.min(self.kinds.iter().len());
         for (n, from, kind) in [
-            (s.links, 0, b'p'),
+            (s.links - under, 0, b'p'),
+            (under, self.r.pick(&[0, 60]), b'u'),
             (s.types, 0, b't'),
             (s.langs, 0, b'l'),
             (s.nodes, 20, b'n'),
@@ -280,6 +309,7 @@ impl Writer<'_> {
         for (_, kind) in lines {
             match kind {
                 b'p' => self.pool_line("link", LINKS),
+                b'u' => self.under_line(),
                 b't' => self.pool_line("type", TYPES),
                 b'l' => self.pool_line("lang", LANGS),
                 b'n' => self.node_line(),
@@ -304,6 +334,11 @@ impl Writer<'_> {
         let name = self.fresh(pool);
         self.line(&[word, &name]);
         self.define(pool, name);
+    }
+
+    fn under_line(&mut self) {
+        self.line(&["link", UNDER]);
+        self.define(LINKS, UNDER.into());
     }
 
     fn node_line(&mut self) {
@@ -332,6 +367,9 @@ impl Writer<'_> {
         if self.subjects.is_empty() || self.text.len() > 62_000 {
             return;
         }
+        if let Some(kinds) = self.kinds.filter(|_| self.r.once_in(2)) {
+            return self.kind_line(kinds);
+        }
         if self.run && !self.r.once_in(4) {
             return self.run_line();
         }
@@ -356,11 +394,43 @@ impl Writer<'_> {
         self.facts += 1;
     }
 
+    /// how many things and blanks are classes
+    fn classes(&self, kinds: Kinds) -> usize {
+        self.subjects.len().min(kinds.most)
+    }
+
+    fn class(&self, k: usize) -> String {
+        if self.slip() {
+            return self.wrong();
+        }
+        self.pools[NODES][self.subjects[k]].clone()
+    }
+
+    /// a fact about a class: that it is under another, or that something is one of it; now and then with any node
+    fn kind_line(&mut self, kinds: Kinds) {
+        let (classes, defined) = (self.classes(kinds), self.pools[LINKS].iter().any(|link| link == UNDER));
+        let k = self.r.below(classes);
+        let next = k + self.r.between(1, kinds.far);
+        let next = if kinds.round { next % classes } else { next.min(classes - 1) };
+        let (subject, link, object) = match defined && self.r.once_in(2) {
+            true if kinds.down => (self.class(next), UNDER, self.class(k)),
+            true => (self.class(k), UNDER, self.class(next)),
+            false => (self.class(self.r.below(self.subjects.len())), "a", self.class(k)),
+        };
+        let object = if self.r.once_in(12) { self.used(NODES) } else { object };
+        self.line(&["fact", &subject, link, &object]);
+        self.facts += 1;
+    }
+
     fn rule_line(&mut self) {
         if self.pools[SHAPES].is_empty() {
             return;
         }
         let shape = self.used(SHAPES);
+        if let Some(kinds) = self.kinds.filter(|_| !self.subjects.is_empty() && self.r.once_in(2)) {
+            let class = self.class(self.r.below(self.classes(kinds)));
+            return self.line(&["rule", &shape, &format!("(class {class})")]);
+        }
         let target = match self.r.below(6) {
             0 if !self.pools[NODES].is_empty() => format!("(node {})", self.used(NODES)),
             1 if !self.pools[NODES].is_empty() => format!("(class {})", self.used(NODES)),

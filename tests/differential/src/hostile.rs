@@ -2,7 +2,7 @@
 
 use crate::random::Random;
 use reference::plan::{self, Plan, Step};
-use reference::tables::{self, Tables, CELLS, LIMITS, NO_NUMBER};
+use reference::tables::{self, Tables, CELLS, LIMITS, NAME_BYTES, NO_NUMBER, POOL_NAMES};
 use reference::{Book, End, Form, Path, Target, Term};
 
 /// A number below n, or 0 if there is none.
@@ -58,13 +58,13 @@ fn quick(book: &Book) -> bool {
     costs(book).iter().all(|&cost| cost <= 100_000)
 }
 
-/// Facts from any node to any; or rings by link 0, each node leading so many nodes on, with a few such facts beside them.
+/// Facts from any node to any; or rings by one link, each node leading so many nodes on, with a few such facts beside them.
 fn facts(r: &Random, nodes: usize, links: usize) -> Vec<(usize, usize, usize)> {
     let any = |_| (r.below(nodes), r.below(links), r.below(nodes));
     if r.once_in(3) {
-        let step = r.between(1, nodes);
-        let rings = (0..nodes).map(|v| (v, 0, (v + step) % nodes));
-        return rings.chain((0..r.below(4)).map(any)).collect();
+        let (link, step) = (r.below(links), r.between(1, nodes));
+        let rings = (0..nodes).map(|v| (v, link, (v + step) % nodes));
+        return rings.chain((0..r.below(8)).map(any)).collect();
     }
     (0..r.below(3 * nodes + 1)).map(any).collect()
 }
@@ -110,11 +110,11 @@ fn book(r: &Random) -> Book {
     }
     if !b.shapes.is_empty() {
         for _ in 0..r.below(6) {
-            let target = match r.below(4) {
+            let target = match r.below(6) {
                 0 if nodes > 0 => Target::Node(r.below(nodes)),
-                1 if nodes > 0 => Target::Class(r.below(nodes)),
-                2 if links > 0 => Target::Subjects(r.below(links)),
-                3 if links > 0 => Target::Objects(r.below(links)),
+                1 if links > 0 => Target::Subjects(r.below(links)),
+                2 if links > 0 => Target::Objects(r.below(links)),
+                3.. if nodes > 0 => Target::Class(r.below(nodes)),
                 _ => continue,
             };
             b.rules.push((r.below(b.shapes.len()), target));
@@ -195,11 +195,47 @@ pub fn tables(r: &Random) -> Tables {
     };
     let mut t = tables::encode(&b);
     t.names.iter_mut().for_each(|x| *x = if r.once_in(9) { 0 } else { r.next() as u8 });
+    name_links(r, &mut t);
     for (column, count) in COLUMNS {
         let used = t.cells[count] as usize;
         (used..LIMITS[count]).for_each(|k| t.cells[column + k] = r.next() as u16);
     }
     t
+}
+
+/// A name that is `under`, whatever stands behind its zero, or nearly.
+fn name(r: &Random) -> [u8; NAME_BYTES] {
+    // no zero, or zeros alone, behind what is put first
+    let mut bytes = [r.pick(b"\0\0r1"); NAME_BYTES];
+    let first: &[u8] = match r.below(12) {
+        0 => b"Under\0",
+        1 => b"under1\0",
+        2 => b"unde\0r\0",
+        3 => b"\0under\0",
+        4 => b"undes\0",
+        // named so where a zero is next
+        5 => b"under",
+        _ => b"under\0",
+    };
+    bytes[..first.len()].copy_from_slice(first);
+    bytes
+}
+
+/// Such names for some links, and for the one past the last; now and then at the places of any pool.
+fn name_links(r: &Random, t: &mut Tables) {
+    for _ in 0..r.pick(&[0, 1, 1, 2, 3]) {
+        let links = LIMITS[1].min(t.cells[1] as usize);
+        let (pool, k) = match r.below(10) {
+            0 => (1, r.pick(&[links.min(255), 255])),
+            1 => {
+                let pool = r.below(5);
+                (pool, r.pick(&[0, 1, LIMITS[pool] - 1]))
+            }
+            _ => (1, some(r, links)),
+        };
+        let at = POOL_NAMES[pool] + NAME_BYTES * k;
+        t.names[at..at + NAME_BYTES].copy_from_slice(&name(r));
+    }
 }
 
 /// A number on one of the borders between those with which a cell is well formed and those with which it is not.
@@ -266,6 +302,9 @@ pub fn change_tables(r: &Random, t: &mut Tables) {
     if r.once_in(6) {
         change_path(r, t);
     }
+    if r.once_in(2) {
+        name_links(r, t);
+    }
     if t.cells[0] < 200 && r.once_in(3) {
         let at = place(&t.cells);
         let before = t.cells[at];
@@ -299,7 +338,7 @@ pub fn plan(r: &Random, b: &Book) -> Plan {
     let many = if r.once_in(30) { r.between(500, 512) } else { r.below(24) };
     while p.steps.len() < many {
         let k = p.steps.len();
-        p.steps.push(match r.below(25) {
+        p.steps.push(match r.below(28) {
             1 => Step::None,
             2 if nodes > 0 => Step::Is(r.below(nodes)),
             3 if nodes > 0 => Step::Isnot(r.below(nodes)),
@@ -338,7 +377,7 @@ pub fn plan(r: &Random, b: &Book) -> Plan {
             21 if paths > 0 => Step::Manylang(r.below(paths)),
             22 if links > 0 => Step::From(r.below(links)),
             23 if links > 0 => Step::Into(r.below(links)),
-            24 if nodes > 0 => Step::Typed(r.below(nodes)),
+            24.. if nodes > 0 => Step::Typed(r.below(nodes)),
             _ => Step::All,
         });
     }

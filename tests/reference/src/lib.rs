@@ -3,6 +3,7 @@
 
 #[cfg(test)]
 mod asked;
+pub mod kinds;
 pub mod nearest;
 pub mod plan;
 pub mod reader;
@@ -266,11 +267,6 @@ impl Book {
     /// the nodes with a fact by link p into them
     pub fn objects(&self, p: usize) -> Set {
         self.facts.iter().filter(|f| f.1 == p).map(|f| f.2).collect()
-    }
-
-    /// the nodes with a fact by `a` straight to c
-    pub fn instances(&self, c: usize) -> Set {
-        self.facts.iter().filter(|f| f.1 == 0 && f.2 == c).map(|f| f.0).collect()
     }
 
     pub fn selected(&self, target: &Target) -> Set {

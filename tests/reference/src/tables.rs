@@ -32,8 +32,9 @@ pub const FORM_VALUES: usize = 1024;
 
 /// the most of each count: nodes, links, types, langs, shapes, facts, path entries, form entries, items, rules
 pub const LIMITS: [usize; 10] = [ROOM[0], ROOM[1], ROOM[2], ROOM[3], ROOM[4], 4096, 128, 112, 128, 32];
-/// where the names of each pool begin
-const POOL_NAMES: [usize; 5] = [0, 32768, 40960, 41984, 43008];
+/// where the names of each pool begin, and how many bytes each has
+pub const POOL_NAMES: [usize; 5] = [0, 32768, 40960, 41984, 43008];
+pub const NAME_BYTES: usize = 32;
 
 #[derive(Clone, Debug, PartialEq)]
 pub struct Tables {
@@ -64,7 +65,7 @@ pub fn encode(book: &Book) -> Tables {
     let mut t = Tables::zeros();
     for (pool, names) in book.pools.iter().enumerate() {
         for (k, name) in names.iter().enumerate() {
-            let at = POOL_NAMES[pool] + 32 * k;
+            let at = POOL_NAMES[pool] + NAME_BYTES * k;
             t.names[at..at + name.len()].copy_from_slice(name);
         }
     }
@@ -182,7 +183,7 @@ pub fn decode(t: &Tables) -> Option<Book> {
     let mut book = Book::default();
     for pool in 0..5 {
         let stored = |k: usize| {
-            let place = &t.names[POOL_NAMES[pool] + 32 * k..][..31];
+            let place = &t.names[POOL_NAMES[pool] + NAME_BYTES * k..][..NAME_BYTES - 1];
             place.iter().copied().take_while(|&b| b != 0).collect()
         };
         book.pools[pool] = (0..counts[pool]).map(stored).collect();

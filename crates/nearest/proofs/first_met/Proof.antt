@@ -10,7 +10,7 @@ use Rattle.closure.specs.Rows.{leads}
 use Rattle.model.specs.Nearest.{spareWithin}
 use Rattle.model.proofs.Rounds.{rounds-low}
 use Rattle.model.proofs.Nearest.{within-few}
-use Rattle.rounds.proofs.Levels.{After, atDistance, after-none, after-more}
+use Rattle.reach.proofs.Levels.{After, atDistance, after-none, after-more}
 use Rattle.nearest.proofs.Searching.{met, not-met}
 use borrow.Author.Needs.{needs}
 use Rattle.nearest.proofs.first_met.Statement.{statement}

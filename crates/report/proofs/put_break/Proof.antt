@@ -4,7 +4,7 @@ use denote.Ref.{now}
 use Rattle.base.specs.Bytes.{bytes}
 use Rattle.text.specs.Decimals.{decimal}
 use Rattle.report.proofs.Writing.{put-then, put-as, put-length, two-digits, line-two}
-use Rattle.report.specs.Pages.{nameIn}
+use Rattle.tables.specs.Names.{nodeNameAt}
 use Rattle.report.proofs.put_break.Statement.{statement}
 use Rattle.report.proofs.put_break.Tie as tie
 
@@ -48,7 +48,7 @@ returns c =
     let q = c .before .before .before .before .before .before .before .before .before .before .before .put-number .ensures in
     let n = c .before .before .before .before .before .before .before .put-name .ensures in
     let e = c .before .before .put-bytes2 .ensures in
-    (put-as (line-two (bytes "breaks") (decimal (a .r)) (nameIn (now (a .names)) (a .v .0))) (put-then (put-then (put-then p q) (n .0)) e), omega (arith, p .ends, q .ends, n .1, e .ends, two-digits (a .r) (c .before .before .before .before .before .before .before .before .before .before .before .before .before .before .before .before .before .before .before .before .pre .1)))
+    (put-as (line-two (bytes "breaks") (decimal (a .r)) (nodeNameAt (now (a .names)) (a .v .0))) (put-then (put-then (put-then p q) (n .0)) e), omega (arith, p .ends, q .ends, n .1, e .ends, two-digits (a .r) (c .before .before .before .before .before .before .before .before .before .before .before .before .before .before .before .before .before .before .before .before .pre .1)))
 
 pub put-break-spec : {M : Type 1} → statement M
 put-break-spec =

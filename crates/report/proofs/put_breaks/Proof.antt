@@ -11,14 +11,15 @@ use borrow.Author.Tests.{ltb-true}
 use Rattle.base.proofs.Lists.{allb-at}
 use Rattle.model.specs.Limits.{maxNodes}
 use Rattle.report.specs.Report.{breakLines}
-use Rattle.report.specs.Pages.{nameIn, Put, breakBytes}
+use Rattle.report.specs.Pages.{Put, breakBytes}
+use Rattle.tables.specs.Names.{nodeNameAt}
 use Rattle.report.proofs.Writing.{put-none, put-then, put-as, put-length}
 use Rattle.report.proofs.Parts.{lines-none, lines-more}
 use Rattle.report.proofs.put_breaks.Statement.{statement}
 use Rattle.report.proofs.put_breaks.Tie as tie
 
 abbrev Inv-loop : tie.InvT-loop
-Inv-loop page₀ names list r at₀ i₀ page at i = (i ≤ length list) × (at ≤ breakBytes * i) × (length page ≡ length page₀) × Put page₀ page 0 (breakLines r (map (nameIn names) (take i list))) at
+Inv-loop page₀ names list r at₀ i₀ page at i = (i ≤ length list) × (at ≤ breakBytes * i) × (length page ≡ length page₀) × Put page₀ page 0 (breakLines r (map (nodeNameAt names) (take i list))) at
 
 abbrev μ-loop : tie.MeasureT-loop
 μ-loop page₀ names list r at₀ i₀ page at i = length list - i
@@ -51,7 +52,7 @@ loop-again c =
     let a = c .before .before .before .before .before .before .before .before .before .before .args in
     let l = c .before .before .before .before .before .before .loop in
     let p = c .before .before .put-break .ensures in
-    (omega (arith, c .before .before .before .before .before .loop-test .taken), omega (arith, l .inv .1, p .1), put-length (p .0) ∙ l .inv .2, put-as (lines-more (a .r) (nameIn (now (a .names))) (now (a .list)) (l .i) (c .before .before .before .before .before .loop-test .taken)) (put-then (l .inv .3) (p .0)))
+    (omega (arith, c .before .before .before .before .before .loop-test .taken), omega (arith, l .inv .1, p .1), put-length (p .0) ∙ l .inv .2, put-as (lines-more (a .r) (nodeNameAt (now (a .names))) (now (a .list)) (l .i) (c .before .before .before .before .before .loop-test .taken)) (put-then (l .inv .3) (p .0)))
 
 same-length : tie.Need-same-length Inv-loop μ-loop
 same-length c = search needs
@@ -60,7 +61,7 @@ returns : tie.Need-returns Inv-loop μ-loop
 returns c =
     let a = c .before .before .before .before .before .args in
     let l = c .before .loop in
-    put-as (ap (λ (t : List ℕ). breakLines (a .r) (map (nameIn (now (a .names))) t)) (take-all (l .i) (now (a .list)) (c .loop-test .left))) (l .inv .3)
+    put-as (ap (λ (t : List ℕ). breakLines (a .r) (map (nodeNameAt (now (a .names))) t)) (take-all (l .i) (now (a .list)) (c .loop-test .left))) (l .inv .3)
 
 pub put-breaks-spec : {M : Type 1} → statement M
 put-breaks-spec =

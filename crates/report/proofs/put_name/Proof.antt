@@ -6,7 +6,7 @@ use denote.Ref.{now}
 use lib.ListN.{take, drop, length-take}
 use Rattle.model.specs.Limits.{nameBytes}
 use Rattle.report.proofs.Writing.{put-then, put-as}
-use Rattle.report.specs.Pages.{nameIn}
+use Rattle.tables.specs.Names.{nodeNameAt}
 use Rattle.report.proofs.put_name.Statement.{statement}
 use Rattle.report.proofs.put_name.Tie as tie
 
@@ -50,7 +50,7 @@ returns c =
     let first = c .before .before .before .before .before .before .before .before .before .put-bytes .ensures in
     let last = c .before .before .put-bytes2 .ensures in
     let same : nameBytes * a .v .0 + n .result - nameBytes * a .v .0 ≡ n .result = omega arith in
-    let name : take (nameBytes * a .v .0 + n .result - nameBytes * a .v .0) (drop (nameBytes * a .v .0) (now (a .names))) ≡ nameIn (now (a .names)) (a .v .0) = ap (λ (k : ℕ). take k (drop (nameBytes * a .v .0) (now (a .names)))) same ∙ n .ensures .0 in
+    let name : take (nameBytes * a .v .0 + n .result - nameBytes * a .v .0) (drop (nameBytes * a .v .0) (now (a .names))) ≡ nodeNameAt (now (a .names)) (a .v .0) = ap (λ (k : ℕ). take k (drop (nameBytes * a .v .0) (now (a .names)))) same ∙ n .ensures .0 in
     (put-then first (put-as name last), omega (arith, first .ends, last .ends, same, n .ensures .1, length-take (nameBytes * a .v .0 + n .result - nameBytes * a .v .0) (drop (nameBytes * a .v .0) (now (a .names)))))
 
 pub put-name-spec : {M : Type 1} → statement M

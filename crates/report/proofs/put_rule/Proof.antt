@@ -9,7 +9,7 @@ use lib.Dec.{ltb}
 use Rattle.base.specs.Lists.{allb}
 use Rattle.model.specs.Limits.{maxNodes}
 use Rattle.report.specs.Report.{breakLines}
-use Rattle.report.specs.Pages.{nameIn}
+use Rattle.tables.specs.Names.{nodeNameAt}
 use Rattle.report.proofs.Writing.{put-as}
 use Rattle.report.proofs.Parts.{row-lent}
 use Rattle.report.proofs.put_rule.Statement.{statement}
@@ -54,7 +54,7 @@ same-length c = search needs
 
 returns : tie.Need-returns
 returns c =
-    put-as (ap (λ (t : List ℕ). breakLines (c .before .before .before .before .before .before .before .before .before .before .before .args .r) (map (nameIn (now (c .before .before .before .before .before .before .before .before .before .before .before .args .names))) t)) (row-lent (now (c .before .before .before .before .before .before .before .before .before .before .before .args .lists)) (now (c .before .before .before .before .before .before .before .before .before .before .before .args .lengths)) (c .before .before .before .before .before .before .before .before .before .before .before .args .r) (c .before .before .before .before .before .wide .result) (c .before .before .before .before .before .wide .ensures))) (c .before .before .put-breaks .ensures)
+    put-as (ap (λ (t : List ℕ). breakLines (c .before .before .before .before .before .before .before .before .before .before .before .args .r) (map (nodeNameAt (now (c .before .before .before .before .before .before .before .before .before .before .before .args .names))) t)) (row-lent (now (c .before .before .before .before .before .before .before .before .before .before .before .args .lists)) (now (c .before .before .before .before .before .before .before .before .before .before .before .args .lengths)) (c .before .before .before .before .before .before .before .before .before .before .before .args .r) (c .before .before .before .before .before .wide .result) (c .before .before .before .before .before .wide .ensures))) (c .before .before .put-breaks .ensures)
 
 pub put-rule-spec : {M : Type 1} → statement M
 put-rule-spec =

@@ -1,5 +1,8 @@
 -- `path_rows` meets its contract.
-use Rattle.rounds.proofs.Tables.{rows-room, path-known, path-rows}
+use Rattle.tables.specs.Layout.{nodeCount}
+use Rattle.tables.proofs.WellFormed.{sound}
+use Rattle.rows.proofs.Rows.{empty-room}
+use Rattle.rounds.proofs.Tables.{path-known, path-rows}
 use borrow.Author.Needs.{needs}
 use Rattle.rounds.proofs.path_rows.Statement.{statement}
 use Rattle.rounds.proofs.path_rows.Tie as tie
@@ -8,7 +11,7 @@ all-table-ends-requires : tie.Need-all-table-ends-requires
 all-table-ends-requires c κs =
     let a = c .before .before .before .before .args in
     let pre = c .before .before .before .before .pre in
-    let room = rows-room (a .cells .now) (pre .1 .ok) (pre .0) in
+    let room = empty-room (nodeCount (a .cells .now)) (sound (a .cells .now) (pre .1 .ok) .nodes) (pre .0) in
     (pre .1, path-known (a .cells .now) (a .e) (pre .2), room .0, room .1)
 
 same-length : tie.Need-same-length

@@ -1,10 +1,11 @@
 -- `all_ends` meets its contract: from each node alone, the rows become the ends.
 use Prim.Native.Nat.{ℕ}
-use mathlib.Core.Bool.{true}
+use mathlib.Core.Bool.{Bool, not}
 use mathlib.Core.List.{List, []}
 use mathlib.Core.Path.{ap, _∙_}
 use lib.ListN.{length}
 use native.Mathlib.Omega.{arith}
+use Rattle.closure.specs.Rows.{rowsOf}
 use Rattle.model.specs.Limits.{maxNodes}
 use Rattle.model.specs.Paths.{endsOf}
 use Rattle.paths.specs.Facts.{triplesOf}
@@ -14,6 +15,7 @@ use Rattle.paths.specs.declared.Sets.the-variants.{Own}
 use Rattle.paths.proofs.Nodes.{all-nodes}
 use Rattle.paths.proofs.Repeats.{own-rows, either-nodes}
 use borrow.Author.Needs.{needs}
+use Rattle.rows.proofs.Rows.{turned}
 use Rattle.rows.proofs.all_ends.Statement.{statement}
 use Rattle.rows.proofs.all_ends.Tie as tie
 
@@ -31,8 +33,9 @@ same-length c = search needs
 
 returns : tie.Need-returns
 returns c = let a = c .before .before .before .before .before .before .before .before .before .before .before .before .before .before .before .args in let r = endsOf (a .n) (triplesOf (a .s .now) (a .p .now) (a .o .now) (a .len)) (endIn (a .cells .now) (a .end)) in
-    c .before .before .follow .ensures ∙ ap (λ (m : List ℕ). withImages maxNodes (a .n) (converseIf true r) (startOf Own []) m) (c .before .before .before .before .before .before .before .clear .ensures)
-    ∙ own-rows (a .n) (converseIf true r) [] (length (a .rows .now)) (either-nodes true r (a .n) (all-nodes (a .s .now) (a .p .now) (a .o .now) (a .index .now) (a .len) (a .n) (c .before .before .before .before .before .before .before .before .before .before .before .before .before .before .before .pre .0) (endIn (a .cells .now) (a .end))))
+    c .before .before .follow .ensures ∙ ap (λ (m : List ℕ). withImages maxNodes (a .n) (converseIf (not (a .back)) r) (startOf Own []) m) (c .before .before .before .before .before .before .before .clear .ensures)
+    ∙ own-rows (a .n) (converseIf (not (a .back)) r) [] (length (a .rows .now)) (either-nodes (not (a .back)) r (a .n) (all-nodes (a .s .now) (a .p .now) (a .o .now) (a .index .now) (a .len) (a .n) (c .before .before .before .before .before .before .before .before .before .before .before .before .before .before .before .pre .0) (endIn (a .cells .now) (a .end))))
+    ∙ ap (λ (q : ℕ → ℕ → Bool). rowsOf (a .n) q (length (a .rows .now))) (turned (a .back) r)
 
 pub all-ends-spec : {M : Type 1} → statement M
 all-ends-spec =

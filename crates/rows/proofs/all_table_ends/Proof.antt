@@ -6,6 +6,7 @@ use lib.ListN.{length}
 use Rattle.model.specs.Graph.{Triple}
 use Rattle.model.specs.Paths.{endsOf}
 use Rattle.paths.specs.Ends.{endIn}
+use Rattle.paths.specs.Images.{converseIf}
 use Rattle.paths.proofs.Parts.{lent-ok, lent-triples}
 use Rattle.closure.specs.Rows.{rowsOf, Within}
 use borrow.Author.Needs.{needs}
@@ -58,7 +59,7 @@ returns c =
     let a = c .before .before .before .before .before .before .before .before .before .before .before .before .args in
     let cs = a .cells .now in
     c .before .before .all-ends .ensures
-    ∙ ap₂ (λ (n : ℕ) (ts : List Triple). rowsOf n (endsOf n ts (endIn cs (a .end))) (length (a .rows .now))) (c .before .before .before .before .before .before .before .before .node-count .ensures) (lent-triples cs (c .before .before .before .before .before .before .before .before .before .before .before .before .pre .0 .ok) (c .before .before .before .before .before .before .before .fact-count .ensures))
+    ∙ ap₂ (λ (n : ℕ) (ts : List Triple). rowsOf n (converseIf (a .back) (endsOf n ts (endIn cs (a .end)))) (length (a .rows .now))) (c .before .before .before .before .before .before .before .before .node-count .ensures) (lent-triples cs (c .before .before .before .before .before .before .before .before .before .before .before .before .pre .0 .ok) (c .before .before .before .before .before .before .before .fact-count .ensures))
 
 pub all-table-ends-spec : {M : Type 1} → statement M
 all-table-ends-spec =

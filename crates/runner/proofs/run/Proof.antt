@@ -8,7 +8,7 @@ use lib.Seq.{length-take-le}
 use borrow.Author.Tests.{not-true, not-false}
 use borrow.Author.Needs.{needs}
 use Rattle.model.proofs.Answers.{short, malformed, done}
-use Rattle.tables.specs.Layout.{cellCount, valueCount}
+use Rattle.tables.specs.Layout.{nameCount, cellCount, valueCount}
 use Rattle.plan.specs.Layout.{planCount}
 use Rattle.plancheck.specs.Both.{bothWellFormed}
 use Rattle.plancheck.proofs.Both.{tables-formed, plan-formed}
@@ -61,16 +61,19 @@ returns-2 : tie.Need-returns-2
 returns-2 c = malformed (run-answers (now (c .before .before .before .before .before .before .before .before .before .before .before .args .names)) (now (c .before .before .before .before .before .before .before .before .before .before .before .args .cells)) (now (c .before .before .before .before .before .before .before .before .before .before .before .args .values)) (now (c .before .before .before .before .before .before .before .before .before .before .before .args .plan)) (now (c .before .before .before .before .before .before .before .before .before .before .before .args .work))) (is-long (c .before .before .before .before)) (sym (c .before .both-well-formed .ensures) ∙ not-true (c .before .both-well-formed .result) (c .if2 .taken))
 
 slice-aggregate-run-steps : tie.Need-slice-aggregate-run-steps
-slice-aggregate-run-steps c = sym (length-take-le valueCount (now (c .before .before .before .before .before .before .before .before .before .before .before .before .before .args .values)) (room (c .before .before .before .before .before .before) .tables .values))
+slice-aggregate-run-steps c = sym (length-take-le nameCount (now (c .before .before .before .before .before .before .before .before .before .before .before .before .before .args .names)) (room (c .before .before .before .before .before .before) .tables .names))
+
+slice-aggregate-run-steps-2 : tie.Need-slice-aggregate-run-steps-2
+slice-aggregate-run-steps-2 c = sym (length-take-le valueCount (now (c .before .before .before .before .before .before .before .before .before .before .before .before .before .before .args .values)) (room (c .before .before .before .before .before .before .before) .tables .values))
 
 run-steps-requires : tie.Need-run-steps-requires
-run-steps-requires c κs = (le-of-eq (sym (length-take-le cellCount (now (c .before .before .before .before .before .before .before .before .before .before .before .before .before .args .cells)) (room (c .before .before .before .before .before .before) .tables .cells))), tables-formed (take cellCount (now (c .before .before .before .before .before .before .before .before .before .before .before .before .before .args .cells))) (take planCount (now (c .before .before .before .before .before .before .before .before .before .before .before .before .before .args .plan))) (are-formed (c .before .before)), plan-formed (take cellCount (now (c .before .before .before .before .before .before .before .before .before .before .before .before .before .args .cells))) (take planCount (now (c .before .before .before .before .before .before .before .before .before .before .before .before .before .args .plan))) (are-formed (c .before .before)), room (c .before .before .before .before .before .before) .work)
+run-steps-requires c κs = (le-of-eq (sym (length-take-le nameCount (now (c .before .before .before .before .before .before .before .before .before .before .before .before .before .before .args .names)) (room (c .before .before .before .before .before .before .before) .tables .names))), le-of-eq (sym (length-take-le cellCount (now (c .before .before .before .before .before .before .before .before .before .before .before .before .before .before .args .cells)) (room (c .before .before .before .before .before .before .before) .tables .cells))), tables-formed (take cellCount (now (c .before .before .before .before .before .before .before .before .before .before .before .before .before .before .args .cells))) (take planCount (now (c .before .before .before .before .before .before .before .before .before .before .before .before .before .before .args .plan))) (are-formed (c .before .before .before)), plan-formed (take cellCount (now (c .before .before .before .before .before .before .before .before .before .before .before .before .before .before .args .cells))) (take planCount (now (c .before .before .before .before .before .before .before .before .before .before .before .before .before .before .args .plan))) (are-formed (c .before .before .before)), room (c .before .before .before .before .before .before .before) .work)
 
 same-length-3 : tie.Need-same-length-3
 same-length-3 c = search needs
 
 returns-3 : tie.Need-returns-3
-returns-3 c = done (run-answers (now (c .before .before .before .before .before .before .before .before .before .before .before .before .before .before .before .before .args .names)) (now (c .before .before .before .before .before .before .before .before .before .before .before .before .before .before .before .before .args .cells)) (now (c .before .before .before .before .before .before .before .before .before .before .before .before .before .before .before .before .args .values)) (now (c .before .before .before .before .before .before .before .before .before .before .before .before .before .before .before .before .args .plan)) (now (c .before .before .before .before .before .before .before .before .before .before .before .before .before .before .before .before .args .work))) (is-long (c .before .before .before .before .before .before .before .before .before)) (are-formed (c .before .before .before .before .before)) refl refl (c .before .before .run-steps .ensures)
+returns-3 c = done (run-answers (now (c .before .before .before .before .before .before .before .before .before .before .before .before .before .before .before .before .before .args .names)) (now (c .before .before .before .before .before .before .before .before .before .before .before .before .before .before .before .before .before .args .cells)) (now (c .before .before .before .before .before .before .before .before .before .before .before .before .before .before .before .before .before .args .values)) (now (c .before .before .before .before .before .before .before .before .before .before .before .before .before .before .before .before .before .args .plan)) (now (c .before .before .before .before .before .before .before .before .before .before .before .before .before .before .before .before .before .args .work))) (is-long (c .before .before .before .before .before .before .before .before .before .before)) (are-formed (c .before .before .before .before .before .before)) refl refl (c .before .before .run-steps .ensures)
 
 pub run-spec : {M : Type 1} → statement M
 run-spec =
@@ -85,6 +88,7 @@ run-spec =
     same-length-2
     returns-2
     slice-aggregate-run-steps
+    slice-aggregate-run-steps-2
     run-steps-requires
     same-length-3
     returns-3)

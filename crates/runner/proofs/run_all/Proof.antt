@@ -10,6 +10,7 @@ use Rattle.plancheck.proofs.WellFormed as plans
 use Rattle.stepsets.specs.Ends.{RowsHeld}
 use Rattle.stepsets.specs.declared.Kept.{Kept}
 use Rattle.stepsets.proofs.Rows.{held-none}
+use Rattle.targets.specs.Classes.{subOf}
 use Rattle.runner.specs.declared.Kind.{Kind}
 use Rattle.runner.specs.Kinds.{firstAfter, secondAfter}
 use Rattle.runner.specs.Run.{stepWords}
@@ -18,11 +19,11 @@ use Rattle.runner.proofs.run_all.Statement.{statement}
 use Rattle.runner.proofs.run_all.Tie as tie
 
 abbrev Inv-loop : tie.InvT-loop
-Inv-loop work₀ first₀ second₀ cells index values plan kept₀ links₀ count k₀ work first second kept links k = (k ≤ count) × (length work ≡ length work₀) × (length first ≡ length first₀) × (length second ≡ length second₀)
-    × (work ≡ stepWords cells values plan k ++ drop (16 * k) work₀) × RowsHeld cells kept first × RowsHeld cells links second
+Inv-loop work₀ first₀ second₀ sub cells index values plan kept₀ links₀ count k₀ work first second kept links k = (k ≤ count) × (length work ≡ length work₀) × (length first ≡ length first₀) × (length second ≡ length second₀)
+    × (work ≡ stepWords (subOf sub) cells values plan k ++ drop (16 * k) work₀) × RowsHeld cells kept first × RowsHeld cells links second
 
 abbrev μ-loop : tie.MeasureT-loop
-μ-loop work₀ first₀ second₀ cells index values plan kept₀ links₀ count k₀ work first second kept links k = count - k
+μ-loop work₀ first₀ second₀ sub cells index values plan kept₀ links₀ count k₀ work first second kept links k = count - k
 
 step-count-requires : tie.Need-step-count-requires Inv-loop μ-loop
 step-count-requires c κs = search needs
@@ -31,7 +32,7 @@ loop-holds : tie.Need-loop-holds Inv-loop μ-loop
 loop-holds c =
     let a = c .before .before .before .before .before .before .before .args in
     let pre = c .before .before .before .before .before .before .before .pre in
-    (omega arith, refl, refl, refl, steps-none (a .cells .now) (a .values .now) (a .plan .now) (a .work .now), held-none (a .cells .now) (pre .3), held-none (a .cells .now) (pre .4))
+    (omega arith, refl, refl, refl, steps-none (subOf (a .sub)) (a .cells .now) (a .values .now) (a .plan .now) (a .work .now), held-none (a .cells .now) (pre .3), held-none (a .cells .now) (pre .4))
 
 run-step-requires : tie.Need-run-step-requires Inv-loop μ-loop
 run-step-requires c κs =
@@ -69,7 +70,7 @@ loop-again c =
       r .kept .0 ∙ t .inv .1,
       r .kept .1 .0 ∙ t .inv .2,
       r .kept .1 .1 .0 ∙ t .inv .3,
-      r .ensures .0 ∙ steps-more cs (a .values .now) (a .plan .now) (sound cs (pre .0 .ok) .nodes) (a .work .now) (t .k) (p .step (t .k) (omega (arith, c .before .before .before .before .before .before .before .before .before .before .before .before .before .before .before .step-count .ensures, c .before .before .before .before .before .before .before .before .before .before .before .before .before .loop-test .taken))) (t .inv .4),
+      r .ensures .0 ∙ steps-more (subOf (a .sub)) cs (a .values .now) (a .plan .now) (sound cs (pre .0 .ok) .nodes) (a .work .now) (t .k) (p .step (t .k) (omega (arith, c .before .before .before .before .before .before .before .before .before .before .before .before .before .before .before .step-count .ensures, c .before .before .before .before .before .before .before .before .before .before .before .before .before .loop-test .taken))) (t .inv .4),
       subst (λ (x : Kept). RowsHeld cs x (r .last .1 .0)) (sym (c .before .first-after .ensures ∙ ap (λ (y : Kind). firstAfter y (t .kept)) (kind .ensures))) (r .ensures .1 .0),
       subst (λ (x : Kept). RowsHeld cs x (r .last .1 .1 .0)) (sym (c .second-after .ensures ∙ ap (λ (y : Kind). secondAfter y (t .links)) (kind .ensures))) (r .ensures .1 .1),
     )
@@ -87,7 +88,7 @@ returns : tie.Need-returns Inv-loop μ-loop
 returns c =
     let a = c .before .before .before .before .before .before .before .before .before .args in
     let t = c .before .loop in
-    steps-done (a .cells .now) (a .values .now) (a .plan .now) (a .work .now) (t .k) (omega (arith, c .before .before .step-count .ensures, t .inv .0, c .loop-test .left)) (t .inv .4)
+    steps-done (subOf (a .sub)) (a .cells .now) (a .values .now) (a .plan .now) (a .work .now) (t .k) (omega (arith, c .before .before .step-count .ensures, t .inv .0, c .loop-test .left)) (t .inv .4)
 
 pub run-all-spec : {M : Type 1} → statement M
 run-all-spec =

@@ -6,8 +6,8 @@ use Rattle.plan.specs.Steps.{stepOf, stepUnknown}
 use Rattle.base.proofs.Codes.{nots-past}
 use Rattle.paths.specs.declared.End.{End}
 use Rattle.stepsets.specs.declared.Condition.the-variants.{Is, IsNot, Equal, Unequal, Apart, Meet, Less, NotLess, LessEq, NotLessEq}
-use Rattle.stepsets.specs.declared.Target.the-variants.{From, Into, Typed}
-use Rattle.runner.specs.declared.Kind.the-variants.{Node, Ends, Facts}
+use Rattle.targets.specs.declared.Target.the-variants.{From, Into, Typed}
+use Rattle.runner.specs.declared.Kind.the-variants.{Node, Ends, Selected}
 use Rattle.runner.specs.Kinds.{kindOf}
 use Rattle.runner.proofs.Arms.{Read, arm, arm-unknown, by-node, by-link, by-second, by-ends}
 use borrow.Author.Needs.{needs}
@@ -174,15 +174,15 @@ returns-22 c = arm (read (c .before)) (c .match .keys22) refl
 
 returns-23 : tie.Need-returns-23
 unfolding stepOf kindOf
-returns-23 c = arm (read (c .before)) (c .match .keys23) (by-link (read (c .before)) (λ x. Facts (From x)))
+returns-23 c = arm (read (c .before)) (c .match .keys23) (by-link (read (c .before)) (λ x. Selected (From x)))
 
 returns-24 : tie.Need-returns-24
 unfolding stepOf kindOf
-returns-24 c = arm (read (c .before)) (c .match .keys24) (by-link (read (c .before)) (λ x. Facts (Into x)))
+returns-24 c = arm (read (c .before)) (c .match .keys24) (by-link (read (c .before)) (λ x. Selected (Into x)))
 
 returns-25 : tie.Need-returns-25
 unfolding stepOf kindOf
-returns-25 c = arm (read (c .before)) (c .match .keys25) (by-node (read (c .before)) (λ x. Facts (Typed x)))
+returns-25 c = arm (read (c .before)) (c .match .keys25) (by-node (read (c .before)) (λ x. Selected (Typed x)))
 
 returns-26 : tie.Need-returns-26
 returns-26 c = arm-unknown (read (c .before)) (nots-past _ (c .before .step-code .result) 0 stepUnknown zero-le (c .match .rest))

@@ -6,10 +6,10 @@ use mathlib.Core.Path.{_≡_, sym, ap, _∙_, subst}
 use lib.Dec.{ltb}
 use lib.ListN.{drop}
 use denote.Ref.{now}
-use Rattle.nodeset.specs.Words.{has, wordsOf}
+use Rattle.nodeset.specs.Words.{has, wordsOf, nodesOf}
 use Rattle.plan.specs.Layout.{stepAt}
-use Rattle.stepsets.specs.Conditions.{nodesOf}
 use Rattle.stepsets.specs.Ends.{RowsHeld}
+use Rattle.targets.specs.Classes.{subOf}
 use Rattle.runner.specs.declared.Kind.{Kind}
 use Rattle.runner.specs.Kinds.{kindOf, firstAfter, secondAfter}
 use Rattle.runner.specs.Steps.{stepFrom}
@@ -28,20 +28,20 @@ use Rattle.stepsets.proofs.either_set.Reads as either-set-reads
 use Rattle.stepsets.proofs.path_set.Reads as path-set-reads
 use Rattle.stepsets.proofs.ends_set.Reads as ends-set-reads
 use Rattle.stepsets.proofs.lang_set.Reads as lang-set-reads
-use Rattle.stepsets.proofs.facts_set.Reads as facts-set-reads
 use Rattle.stepsets.proofs.links_set.Reads as links-set-reads
+use Rattle.targets.proofs.target_set.Reads as target-set-reads
 
 -- what is asked of each callee, and what it tells
 abbrev calls : lts.Claims
-calls = (node-count-reads.Asked, node-count-reads.Learnt, step-kind-reads.Asked, step-kind-reads.Learnt, whole-reads.Asked, whole-reads.Learnt, plain-set-reads.Asked, plain-set-reads.Learnt, both-set-reads.Asked, both-set-reads.Learnt, either-set-reads.Asked, either-set-reads.Learnt, path-set-reads.Asked, path-set-reads.Learnt, ends-set-reads.Asked, ends-set-reads.Learnt, lang-set-reads.Asked, lang-set-reads.Learnt, facts-set-reads.Asked, facts-set-reads.Learnt, links-set-reads.Asked, links-set-reads.Learnt)
+calls = (node-count-reads.Asked, node-count-reads.Learnt, step-kind-reads.Asked, step-kind-reads.Learnt, whole-reads.Asked, whole-reads.Learnt, plain-set-reads.Asked, plain-set-reads.Learnt, both-set-reads.Asked, both-set-reads.Learnt, either-set-reads.Asked, either-set-reads.Learnt, path-set-reads.Asked, path-set-reads.Learnt, ends-set-reads.Asked, ends-set-reads.Learnt, lang-set-reads.Asked, lang-set-reads.Learnt, target-set-reads.Asked, target-set-reads.Learnt, links-set-reads.Asked, links-set-reads.Learnt)
 
 -- what is known of the step where the match begins, which all arms share
 abbrev Place : Type 0
 Place = lts.After-step-kind calls reads.Pre reads.Post
 
 -- the words that its kind asks for are its set; what the calls require of its kind
-words : (c : Place) {x : Kind} → c .step-kind .result ≡ x → kindSet (now (c .before .before .before .before .before .before .before .before .args .cells)) (now (c .before .before .before .before .before .before .before .before .args .values)) (now (c .before .before .before .before .before .before .before .before .args .work)) x ≡ stepFrom (now (c .before .before .before .before .before .before .before .before .args .cells)) (now (c .before .before .before .before .before .before .before .before .args .values)) (now (c .before .before .before .before .before .before .before .before .args .plan)) (now (c .before .before .before .before .before .before .before .before .args .work)) (c .before .before .before .before .before .before .before .before .args .k)
-words c e = ap (kindSet (now (c .before .before .before .before .before .before .before .before .args .cells)) (now (c .before .before .before .before .before .before .before .before .args .values)) (now (c .before .before .before .before .before .before .before .before .args .work))) (sym e ∙ c .step-kind .ensures) ∙ kind-from (now (c .before .before .before .before .before .before .before .before .args .cells)) (now (c .before .before .before .before .before .before .before .before .args .index)) (c .before .before .before .before .before .before .before .before .pre .0) (now (c .before .before .before .before .before .before .before .before .args .values)) (now (c .before .before .before .before .before .before .before .before .args .work)) (c .before .before .before .before .before .before .before .before .args .k) (now (c .before .before .before .before .before .before .before .before .args .plan)) (c .before .before .before .before .before .before .before .before .pre .2)
+words : (c : Place) {x : Kind} → c .step-kind .result ≡ x → kindSet (subOf (c .before .before .before .before .before .before .before .before .args .sub)) (now (c .before .before .before .before .before .before .before .before .args .cells)) (now (c .before .before .before .before .before .before .before .before .args .values)) (now (c .before .before .before .before .before .before .before .before .args .work)) x ≡ stepFrom (subOf (c .before .before .before .before .before .before .before .before .args .sub)) (now (c .before .before .before .before .before .before .before .before .args .cells)) (now (c .before .before .before .before .before .before .before .before .args .values)) (now (c .before .before .before .before .before .before .before .before .args .plan)) (now (c .before .before .before .before .before .before .before .before .args .work)) (c .before .before .before .before .before .before .before .before .args .k)
+words c e = ap (kindSet (subOf (c .before .before .before .before .before .before .before .before .args .sub)) (now (c .before .before .before .before .before .before .before .before .args .cells)) (now (c .before .before .before .before .before .before .before .before .args .values)) (now (c .before .before .before .before .before .before .before .before .args .work))) (sym e ∙ c .step-kind .ensures) ∙ kind-from (subOf (c .before .before .before .before .before .before .before .before .args .sub)) (now (c .before .before .before .before .before .before .before .before .args .cells)) (now (c .before .before .before .before .before .before .before .before .args .index)) (c .before .before .before .before .before .before .before .before .pre .0) (now (c .before .before .before .before .before .before .before .before .args .values)) (now (c .before .before .before .before .before .before .before .before .args .work)) (c .before .before .before .before .before .before .before .before .args .k) (now (c .before .before .before .before .before .before .before .before .args .plan)) (c .before .before .before .before .before .before .before .before .pre .2)
 
 right : (c : Place) {x : Kind} → c .step-kind .result ≡ x → KindOk (now (c .before .before .before .before .before .before .before .before .args .cells)) x
 right c e = subst (KindOk (now (c .before .before .before .before .before .before .before .before .args .cells))) (sym (c .step-kind .ensures) ∙ e) (kind-ok (now (c .before .before .before .before .before .before .before .before .args .cells)) (c .before .before .before .before .before .before .before .before .args .k) (c .before .before .before .before .before .before .before .before .pre .1) (stepAt (now (c .before .before .before .before .before .before .before .before .args .plan)) (c .before .before .before .before .before .before .before .before .args .k)) (c .before .before .before .before .before .before .before .before .pre .2))
@@ -107,8 +107,8 @@ lang-set-requires c κs = let r = right (c .before .before .before .before) (c .
 enum-known-target : tie.Need-enum-known-target
 enum-known-target c = search needs
 
-facts-set-requires : tie.Need-facts-set-requires
-facts-set-requires c κs = search needs
+target-set-requires : tie.Need-target-set-requires
+target-set-requires c κs = (c .before .before .before .before .before .before .before .before .before .before .before .pre .0, right (c .before .before .before) (c .before .target .given .1))
 
 enum-known-condition-5 : tie.Need-enum-known-condition-5
 enum-known-condition-5 c = search needs
@@ -162,7 +162,7 @@ returns-8 c = (c .before .before .lang-set .ensures .0 ∙ words (c .before .bef
 
 returns-9 : tie.Need-returns-9
 unfolding kindSet firstAfter secondAfter
-returns-9 c = (c .facts-set .ensures ∙ words (c .before .before .before .before) (c .before .before .target .given .1), (first-rows (c .before .before .before .before) (c .before .before .target .given .1) (c .before .before .before .before .before .before .before .before .before .before .before .before .pre .3), second-rows (c .before .before .before .before) (c .before .before .target .given .1) (c .before .before .before .before .before .before .before .before .before .before .before .before .pre .4)))
+returns-9 c = (c .target-set .ensures ∙ words (c .before .before .before .before) (c .before .before .target .given .1), (first-rows (c .before .before .before .before) (c .before .before .target .given .1) (c .before .before .before .before .before .before .before .before .before .before .before .before .pre .3), second-rows (c .before .before .before .before) (c .before .before .target .given .1) (c .before .before .before .before .before .before .before .before .before .before .before .before .pre .4)))
 
 returns-10 : tie.Need-returns-10
 unfolding kindSet firstAfter secondAfter
@@ -190,7 +190,7 @@ step-set-spec =
     enum-known-condition-4
     lang-set-requires
     enum-known-target
-    facts-set-requires
+    target-set-requires
     enum-known-condition-5
     links-set-requires
     returns

@@ -7,9 +7,9 @@ use native.Mathlib.Omega.{arith}
 use borrow.Author.Needs.{needs}
 use denote.Ref.{now}
 use lib.ListN.{drop}
-use Rattle.nodeset.specs.Words.{has}
+use Rattle.nodeset.specs.Words.{has, nodesOf}
 use Rattle.tables.proofs.WellFormed.{sound}
-use Rattle.stepsets.specs.Conditions.{nodesOf, holdsOf}
+use Rattle.stepsets.specs.Conditions.{holdsOf}
 use Rattle.stepsets.proofs.Nodes.{nodes-none, nodes-more, nodes-done, nodes-length}
 use Rattle.stepsets.proofs.nodes_where.Statement.{statement}
 use Rattle.stepsets.proofs.nodes_where.Tie as tie
