@@ -85,7 +85,8 @@ pub fn sub_class_link(names: &[u8], cells: &[u16]) -> SubClass
         found = pick(named, k, found);
     }
     if found < count {
-        SubClass::Link(LinkNo(found as u16))
+        let first = found as u16;
+        SubClass::Link(LinkNo(first))
     } else {
         SubClass::Absent
     }

@@ -60,8 +60,8 @@ loop-again c =
     let q : c .pick .result ≡ nextFrom p k n = c .pick .ensures ∙ found-more p n k (omega (arith, l .inv .0, c .before .before .before .loop-test .taken)) (c .before .is-named .ensures) (l .inv .2 ∙ ap (λ (i : ℕ). nextFrom p i n) e) in
     (omega (arith, l .inv .0), omega (arith, q, next-found p n k (omega (arith, l .inv .0)) .within), q)
 
-cast-t15 : tie.Need-cast-t15 Inv-loop μ-loop
-cast-t15 c = omega (arith, c .before .before .loop .inv .1, sound (now (c .before .before .before .before .before .before .args .cells)) (c .before .before .before .before .before .before .pre .1) .links, c .before .before .before .link-count .ensures)
+cast-first : tie.Need-cast-first Inv-loop μ-loop
+cast-first c = omega (arith, c .before .before .loop .inv .1, sound (now (c .before .before .before .before .before .before .args .cells)) (c .before .before .before .before .before .before .pre .1) .links, c .before .before .before .link-count .ensures)
 
 returns : tie.Need-returns Inv-loop μ-loop
 unfolding subClassAt
@@ -99,6 +99,6 @@ sub-class-link-spec =
     pick-requires
     loop-less
     loop-again
-    cast-t15
+    cast-first
     returns
     returns-2)
