@@ -188,29 +188,16 @@ fn step_set(
     match step_kind(plan, k) {
         Kind::Whole => NodeSet::whole(n),
         Kind::Empty => NodeSet::EMPTY,
-        Kind::Node(condition) => plain_set(condition, cells, index, values),
+        Kind::Node(x) => plain_set(x, cells, index, values),
         Kind::Both(i, j) => both_set(work, i, j, n),
         Kind::Either(i, j) => either_set(work, i, j, n),
-        Kind::Path(condition, p, j) => {
-            path_set(first, kept, condition, cells, index, values, p, work, j)
+        Kind::Path(x, p, j) => { path_set(first, kept, x, cells, index, values, p, work, j) }
+        Kind::Ends(x, end, l) => {
+            ends_set(first, second, kept, links, x, cells, index, values, end, l)
         }
-        Kind::Ends(condition, end, l) => {
-            ends_set(
-                first,
-                second,
-                kept,
-                links,
-                condition,
-                cells,
-                index,
-                values,
-                end,
-                l,
-            )
-        }
-        Kind::Lang(condition, p) => lang_set(first, kept, condition, cells, index, values, p),
+        Kind::Lang(x, p) => lang_set(first, kept, x, cells, index, values, p),
         Kind::Selected(target) => target_set(target, sub, cells, index),
-        Kind::Links(condition, e) => links_set(condition, cells, index, values, e),
+        Kind::Links(x, e) => links_set(x, cells, index, values, e),
     }
 }
 

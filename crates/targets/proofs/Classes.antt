@@ -1,6 +1,6 @@
 -- The classes under a class, by a search along the rows of a link that are read backwards; and the nodes from which `a` leads to one of them.
 use Prim.Native.Nat.{ℕ, _*_, _≤_, _<_}
-use mathlib.Core.Bool.{Bool, true, false, _&&_, and-comm}
+use mathlib.Core.Bool.{Bool, true, _&&_, and-comm}
 use mathlib.Core.List.{List}
 use mathlib.Core.Option.{Option}
 use mathlib.Core.Path.{_≡_, refl, sym, ap, _∙_}
@@ -18,7 +18,7 @@ use Rattle.closure.proofs.Rows.{leads-nodes}
 use Rattle.model.specs.declared.LinkNo.{LinkNo}
 use Rattle.model.specs.Graph.{rdfType}
 use Rattle.model.specs.Limits.{maxNodes}
-use Rattle.model.specs.Paths.{predicate, zeroOrMore, along, ends, endsOf}
+use Rattle.model.specs.Paths.{predicate, along, ends, endsOf}
 use Rattle.model.specs.Repeats.{star}
 use Rattle.model.specs.Rules.{classPath}
 use Rattle.model.proofs.Repeats.{star-ext, star-converse, star-nodes}

@@ -1,7 +1,7 @@
 -- What read leaves for a valid book: tables that are as-long enough, well formed, and say what the book says.
 use Prim.Native.Nat.{ℕ, _≤_}
 use mathlib.Core.Path.{_≡_, ap, _∙_}
-use mathlib.Core.List.{List, _++_}
+use mathlib.Core.List.{List, [], _++_}
 use mathlib.Core.Bool.{true}
 use native.Mathlib.Omega.{arith}
 use lib.IntN.{ℤ}
@@ -23,7 +23,8 @@ use Rattle.grammar.specs.Valid.{valid}
 use Rattle.grammar.specs.Reading.{reading}
 use Rattle.grammar.proofs.Books.{reading-iff, valid-admissible}
 use Rattle.reader.specs.Answers as reads
-use Rattle.validation.proofs.Whole.{names-left, cells-left, values-left, sub-of, long-kept}
+use Rattle.validation.specs.Lent.{lent}
+use Rattle.validation.proofs.Whole.{names-left, cells-left, values-left, Accepted, sub-of, long-kept}
 
 -- the front of a list replaced by one of the same length
 same-length : {A : Type 0} (xs l : List A) (n : ℕ) → length xs ≡ n → n ≤ length l → length (xs ++ drop n l) ≡ length l
@@ -59,7 +60,7 @@ module _ (s ns cs : List ℕ) (vs : List ℤ) (e : longEnough ns cs vs ≡ true)
   cells-read = ap (take cellCount) cells-are ∙ take-at (encodeCells b) (drop cellCount cs) cellCount (cells-length b)
 
   pub sub-read : subClassAt (take nameCount names′) (take cellCount cells′) ≡ subClassOf b
-  sub-read = sub-of b v names′ (drop nameCount ns) cells′ (drop cellCount cs) values′ (drop valueCount vs) names-are cells-are values-are
+  sub-read = let t : Accepted s (lent ns cs vs [] [] [] []) names′ cells′ values′ = record { book = b; read = read-as; ok = v; names = names-are; cells = cells-are; values = values-are } in sub-of t
 
   pub values-read : take valueCount values′ ≡ encodeValues b
   values-read = ap (take valueCount) values-are ∙ take-at (encodeValues b) (drop valueCount vs) valueCount (values-length b)

@@ -17,6 +17,7 @@ use Rattle.model.proofs.Answers.{same-refusal, not-refused}
 use Rattle.model.specs.Refusals.{codeOf, lineOf}
 use Rattle.model.specs.Books.{Book, links, subClassOf, rules, listOf}
 use Rattle.model.specs.Limits.{maxNodes}
+use Rattle.model.specs.Valid.{admissible}
 use Rattle.tables.specs.Layout.{nameCount, cellCount, valueCount, ruleCount}
 use Rattle.tables.specs.Names.{subClassAt}
 use Rattle.tables.specs.Sizes.{longEnough}
@@ -202,26 +203,55 @@ module _ (s ns cs : List ℕ) (vs : List ℤ) (e : longEnough ns cs vs ≡ true)
     unfolding reads.valuesOf
     values-left = rw (e, a) refl
 
+-- ---- what is known where read has accepted: the book, and the tables as it left them
+pub record Accepted (s : List ℕ) (l : Lent) (ns cs : List ℕ) (vs : List ℤ) : Type 0 where
+  pub book : Book
+  pub read : reading s ≡ value book
+  pub ok : valid book ≡ true
+  pub names : ns ≡ encodeNames book ++ drop nameCount (l .names)
+  pub cells : cs ≡ encodeCells book ++ drop cellCount (l .cells)
+  pub values : vs ≡ encodeValues book ++ drop valueCount (l .values)
+
+pub accepted : (s : List ℕ) (l : Lent) → validateLong l ≡ true → (x : ReadAnswer) (n : Counts) {ns cs : List ℕ} {vs : List ℤ} → reads.answerOf x ≡ reads.readAnswer s (l .names) (l .cells) (l .values) → x ≡ answers.Accepted n
+    → ns ≡ reads.namesOf s (l .names) (l .cells) (l .values) → cs ≡ reads.cellsOf s (l .names) (l .cells) (l .values) → vs ≡ reads.valuesOf s (l .names) (l .cells) (l .values) → Accepted s l ns cs vs
+accepted s l e x n p q en ec ev =
+    let t = room l e .tables in
+    let w = was-accepted s (l .names) (l .cells) (l .values) t x n p q in
+    record {
+      book = w .0;
+      read = w .1;
+      ok = is-valid s l e (w .0) (w .1);
+      names = en ∙ names-left s (l .names) (l .cells) (l .values) t (value (w .0)) (w .1);
+      cells = ec ∙ cells-left s (l .names) (l .cells) (l .values) t (value (w .0)) (w .1);
+      values = ev ∙ values-left s (l .names) (l .cells) (l .values) t (value (w .0)) (w .1);
+    }
+
 -- ---- slices that are the same
 pub lent-same : {ns ns′ cs cs′ : List ℕ} {vs vs′ : List ℤ} {ps ps′ ws ws′ ls ls′ ks ks′ : List ℕ} → ns ≡ ns′ → cs ≡ cs′ → vs ≡ vs′ → ps ≡ ps′ → ws ≡ ws′ → ls ≡ ls′ → ks ≡ ks′ → lent ns cs vs ps ws ls ks ≡ lent ns′ cs′ vs′ ps′ ws′ ls′ ks′
 lent-same a b c d e f g = λ j. record { names = a j; cells = b j; values = c j; plan = d j; work = e j; lists = f j; lengths = g j }
 
 -- ---- the tables that an accepted book leaves
-module _ (b : Book) (v : valid b ≡ true) (names ns cells cs : List ℕ) (values vs : List ℤ) (d : names ≡ encodeNames b ++ ns) (e : cells ≡ encodeCells b ++ cs) (f : values ≡ encodeValues b ++ vs) where
+module _ {s : List ℕ} {l : Lent} {names cells : List ℕ} {values : List ℤ} (t : Accepted s l names cells values) where
+  abbrev b : Book
+  b = t .book
+
+  admitted : admissible b ≡ true
+  admitted = valid-admissible b (t .ok)
+
   pub cells-of : take cellCount cells ≡ encodeCells b
-  cells-of = ap (take cellCount) e ∙ take-at (encodeCells b) cs cellCount (cells-length b)
+  cells-of = ap (take cellCount) (t .cells) ∙ take-at (encodeCells b) (drop cellCount (l .cells)) cellCount (cells-length b)
 
   pub values-of : take valueCount values ≡ encodeValues b
-  values-of = ap (take valueCount) f ∙ take-at (encodeValues b) vs valueCount (values-length b)
+  values-of = ap (take valueCount) (t .values) ∙ take-at (encodeValues b) (drop valueCount (l .values)) valueCount (values-length b)
 
   pub sub-of : subClassAt (take nameCount names) (take cellCount cells) ≡ subClassOf b
-  sub-of = ap₂ subClassAt (ap (take nameCount) d ∙ take-at (encodeNames b) ns nameCount (names-length b)) cells-of ∙ sub-class-read b (valid-names b v links) (valid-admissible b v)
+  sub-of = ap₂ subClassAt (ap (take nameCount) (t .names) ∙ take-at (encodeNames b) (drop nameCount (l .names)) nameCount (names-length b)) cells-of ∙ sub-class-read b (valid-names b (t .ok) links) admitted
 
   pub well-formed-of : wellFormed (take cellCount cells) ≡ true
-  well-formed-of = ap wellFormed cells-of ∙ well-formed b (valid-admissible b v)
+  well-formed-of = ap wellFormed cells-of ∙ well-formed b admitted
 
   same-lists : (r : ℕ) → r < ruleCount (encodeCells b) → listAt (subClassOf b) (encodeCells b) (encodeValues b) r ≡ listOf b (ruleOf b r)
-  same-lists r low = list-read b (valid-admissible b v) r (subst (λ n. r < n) (rules-counted b) low)
+  same-lists r low = list-read b admitted r (subst (λ n. r < n) (rules-counted b) low)
 
   pub rows-of : (ls : List ℕ) → withRows (listAt (subClassAt (take nameCount names) (take cellCount cells)) (take cellCount cells) (take valueCount values)) (ruleCount (take cellCount cells)) ls ≡ withRows (λ r. listOf b (ruleOf b r)) (length (rules b)) ls
   rows-of ls =

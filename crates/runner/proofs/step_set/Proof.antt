@@ -68,11 +68,11 @@ whole-requires c κs = search needs
 enum-told-2 : tie.Need-enum-told-2
 enum-told-2 c = search needs
 
-enum-known-condition : tie.Need-enum-known-condition
-enum-known-condition c = search needs
+enum-known-x : tie.Need-enum-known-x
+enum-known-x c = search needs
 
 plain-set-requires : tie.Need-plain-set-requires
-plain-set-requires c κs = (c .before .before .before .before .before .before .before .before .before .before .before .pre .0, right (c .before .before .before) (c .before .condition .given .1))
+plain-set-requires c κs = (c .before .before .before .before .before .before .before .before .before .before .before .pre .0, right (c .before .before .before) (c .before .x .given .1))
 
 enum-known-i : tie.Need-enum-known-i
 enum-known-i c = search needs
@@ -86,23 +86,23 @@ enum-known-i-2 c = search needs
 either-set-requires : tie.Need-either-set-requires
 either-set-requires c κs = right (c .before .before .before) (c .before .i2 .given .1)
 
-enum-known-condition-2 : tie.Need-enum-known-condition-2
-enum-known-condition-2 c = search needs
+enum-known-x-2 : tie.Need-enum-known-x-2
+enum-known-x-2 c = search needs
 
 path-set-requires : tie.Need-path-set-requires
-path-set-requires c κs = let r = right (c .before .before .before .before) (c .before .before .condition2 .given .1) in (c .before .before .before .before .before .before .before .before .before .before .before .before .pre .0, r .0, r .1, r .2, c .before .before .before .before .before .before .before .before .before .before .before .before .pre .3)
+path-set-requires c κs = let r = right (c .before .before .before .before) (c .before .before .x2 .given .1) in (c .before .before .before .before .before .before .before .before .before .before .before .before .pre .0, r .0, r .1, r .2, c .before .before .before .before .before .before .before .before .before .before .before .before .pre .3)
 
-enum-known-condition-3 : tie.Need-enum-known-condition-3
-enum-known-condition-3 c = search needs
+enum-known-x-3 : tie.Need-enum-known-x-3
+enum-known-x-3 c = search needs
 
 ends-set-requires : tie.Need-ends-set-requires
-ends-set-requires c κs = let r = right (c .before .before .before .before .before) (c .before .before .before .condition3 .given .1) in (c .before .before .before .before .before .before .before .before .before .before .before .before .before .pre .0, r .0, r .1, c .before .before .before .before .before .before .before .before .before .before .before .before .before .pre .3, c .before .before .before .before .before .before .before .before .before .before .before .before .before .pre .4)
+ends-set-requires c κs = let r = right (c .before .before .before .before .before) (c .before .before .before .x3 .given .1) in (c .before .before .before .before .before .before .before .before .before .before .before .before .before .pre .0, r .0, r .1, c .before .before .before .before .before .before .before .before .before .before .before .before .before .pre .3, c .before .before .before .before .before .before .before .before .before .before .before .before .before .pre .4)
 
-enum-known-condition-4 : tie.Need-enum-known-condition-4
-enum-known-condition-4 c = search needs
+enum-known-x-4 : tie.Need-enum-known-x-4
+enum-known-x-4 c = search needs
 
 lang-set-requires : tie.Need-lang-set-requires
-lang-set-requires c κs = let r = right (c .before .before .before .before) (c .before .before .condition4 .given .1) in (c .before .before .before .before .before .before .before .before .before .before .before .before .pre .0, r .0, r .1, c .before .before .before .before .before .before .before .before .before .before .before .before .pre .3)
+lang-set-requires c κs = let r = right (c .before .before .before .before) (c .before .before .x4 .given .1) in (c .before .before .before .before .before .before .before .before .before .before .before .before .pre .0, r .0, r .1, c .before .before .before .before .before .before .before .before .before .before .before .before .pre .3)
 
 enum-known-target : tie.Need-enum-known-target
 enum-known-target c = search needs
@@ -110,11 +110,11 @@ enum-known-target c = search needs
 target-set-requires : tie.Need-target-set-requires
 target-set-requires c κs = (c .before .before .before .before .before .before .before .before .before .before .before .pre .0, right (c .before .before .before) (c .before .target .given .1))
 
-enum-known-condition-5 : tie.Need-enum-known-condition-5
-enum-known-condition-5 c = search needs
+enum-known-x-5 : tie.Need-enum-known-x-5
+enum-known-x-5 c = search needs
 
 links-set-requires : tie.Need-links-set-requires
-links-set-requires c κs = let r = right (c .before .before .before) (c .before .condition5 .given .1) in (c .before .before .before .before .before .before .before .before .before .before .before .pre .0, r .0, r .1, r .2)
+links-set-requires c κs = let r = right (c .before .before .before) (c .before .x5 .given .1) in (c .before .before .before .before .before .before .before .before .before .before .before .pre .0, r .0, r .1, r .2)
 
 returns : tie.Need-returns
 unfolding kindSet firstAfter secondAfter
@@ -126,7 +126,7 @@ returns-2 c = (words (c .before .before) (c .enum-told2 .given .1), (first-rows 
 
 returns-3 : tie.Need-returns-3
 unfolding kindSet firstAfter secondAfter
-returns-3 c = (c .plain-set .ensures ∙ words (c .before .before .before .before) (c .before .before .condition .given .1), (first-rows (c .before .before .before .before) (c .before .before .condition .given .1) (c .before .before .before .before .before .before .before .before .before .before .before .before .pre .3), second-rows (c .before .before .before .before) (c .before .before .condition .given .1) (c .before .before .before .before .before .before .before .before .before .before .before .before .pre .4)))
+returns-3 c = (c .plain-set .ensures ∙ words (c .before .before .before .before) (c .before .before .x .given .1), (first-rows (c .before .before .before .before) (c .before .before .x .given .1) (c .before .before .before .before .before .before .before .before .before .before .before .before .pre .3), second-rows (c .before .before .before .before) (c .before .before .x .given .1) (c .before .before .before .before .before .before .before .before .before .before .before .before .pre .4)))
 
 returns-4 : tie.Need-returns-4
 unfolding kindSet firstAfter secondAfter
@@ -141,7 +141,7 @@ same-length c = search needs
 
 returns-6 : tie.Need-returns-6
 unfolding kindSet firstAfter secondAfter
-returns-6 c = (c .before .before .path-set .ensures .0 ∙ words (c .before .before .before .before .before .before .before) (c .before .before .before .before .before .condition2 .given .1), (first-rows (c .before .before .before .before .before .before .before) (c .before .before .before .before .before .condition2 .given .1) (c .before .before .path-set .ensures .1), second-rows (c .before .before .before .before .before .before .before) (c .before .before .before .before .before .condition2 .given .1) (c .before .before .before .before .before .before .before .before .before .before .before .before .before .before .before .pre .4)))
+returns-6 c = (c .before .before .path-set .ensures .0 ∙ words (c .before .before .before .before .before .before .before) (c .before .before .before .before .before .x2 .given .1), (first-rows (c .before .before .before .before .before .before .before) (c .before .before .before .before .before .x2 .given .1) (c .before .before .path-set .ensures .1), second-rows (c .before .before .before .before .before .before .before) (c .before .before .before .before .before .x2 .given .1) (c .before .before .before .before .before .before .before .before .before .before .before .before .before .before .before .pre .4)))
 
 same-length-2 : tie.Need-same-length-2
 same-length-2 c = search needs
@@ -151,14 +151,14 @@ same-length-3 c = search needs
 
 returns-7 : tie.Need-returns-7
 unfolding kindSet firstAfter secondAfter
-returns-7 c = (c .before .before .before .before .ends-set .ensures .0 ∙ words (c .before .before .before .before .before .before .before .before .before .before) (c .before .before .before .before .before .before .before .before .condition3 .given .1), (first-rows (c .before .before .before .before .before .before .before .before .before .before) (c .before .before .before .before .before .before .before .before .condition3 .given .1) (c .before .before .before .before .ends-set .ensures .1 .0), second-rows (c .before .before .before .before .before .before .before .before .before .before) (c .before .before .before .before .before .before .before .before .condition3 .given .1) (c .before .before .before .before .ends-set .ensures .1 .1)))
+returns-7 c = (c .before .before .before .before .ends-set .ensures .0 ∙ words (c .before .before .before .before .before .before .before .before .before .before) (c .before .before .before .before .before .before .before .before .x3 .given .1), (first-rows (c .before .before .before .before .before .before .before .before .before .before) (c .before .before .before .before .before .before .before .before .x3 .given .1) (c .before .before .before .before .ends-set .ensures .1 .0), second-rows (c .before .before .before .before .before .before .before .before .before .before) (c .before .before .before .before .before .before .before .before .x3 .given .1) (c .before .before .before .before .ends-set .ensures .1 .1)))
 
 same-length-4 : tie.Need-same-length-4
 same-length-4 c = search needs
 
 returns-8 : tie.Need-returns-8
 unfolding kindSet firstAfter secondAfter
-returns-8 c = (c .before .before .lang-set .ensures .0 ∙ words (c .before .before .before .before .before .before .before) (c .before .before .before .before .before .condition4 .given .1), (first-rows (c .before .before .before .before .before .before .before) (c .before .before .before .before .before .condition4 .given .1) (c .before .before .lang-set .ensures .1), second-rows (c .before .before .before .before .before .before .before) (c .before .before .before .before .before .condition4 .given .1) (c .before .before .before .before .before .before .before .before .before .before .before .before .before .before .before .pre .4)))
+returns-8 c = (c .before .before .lang-set .ensures .0 ∙ words (c .before .before .before .before .before .before .before) (c .before .before .before .before .before .x4 .given .1), (first-rows (c .before .before .before .before .before .before .before) (c .before .before .before .before .before .x4 .given .1) (c .before .before .lang-set .ensures .1), second-rows (c .before .before .before .before .before .before .before) (c .before .before .before .before .before .x4 .given .1) (c .before .before .before .before .before .before .before .before .before .before .before .before .before .before .before .pre .4)))
 
 returns-9 : tie.Need-returns-9
 unfolding kindSet firstAfter secondAfter
@@ -166,7 +166,7 @@ returns-9 c = (c .target-set .ensures ∙ words (c .before .before .before .befo
 
 returns-10 : tie.Need-returns-10
 unfolding kindSet firstAfter secondAfter
-returns-10 c = (c .links-set .ensures ∙ words (c .before .before .before .before) (c .before .before .condition5 .given .1), (first-rows (c .before .before .before .before) (c .before .before .condition5 .given .1) (c .before .before .before .before .before .before .before .before .before .before .before .before .pre .3), second-rows (c .before .before .before .before) (c .before .before .condition5 .given .1) (c .before .before .before .before .before .before .before .before .before .before .before .before .pre .4)))
+returns-10 c = (c .links-set .ensures ∙ words (c .before .before .before .before) (c .before .before .x5 .given .1), (first-rows (c .before .before .before .before) (c .before .before .x5 .given .1) (c .before .before .before .before .before .before .before .before .before .before .before .before .pre .3), second-rows (c .before .before .before .before) (c .before .before .x5 .given .1) (c .before .before .before .before .before .before .before .before .before .before .before .before .pre .4)))
 
 pub step-set-spec : {M : Type 1} → statement M
 step-set-spec =
@@ -177,21 +177,21 @@ step-set-spec =
     enum-told
     whole-requires
     enum-told-2
-    enum-known-condition
+    enum-known-x
     plain-set-requires
     enum-known-i
     both-set-requires
     enum-known-i-2
     either-set-requires
-    enum-known-condition-2
+    enum-known-x-2
     path-set-requires
-    enum-known-condition-3
+    enum-known-x-3
     ends-set-requires
-    enum-known-condition-4
+    enum-known-x-4
     lang-set-requires
     enum-known-target
     target-set-requires
-    enum-known-condition-5
+    enum-known-x-5
     links-set-requires
     returns
     returns-2

@@ -8,15 +8,13 @@ use borrow.Author.Tests.{not-true, not-false}
 use Rattle.model.specs.Answers.{Answer, value, refusal}
 use Rattle.model.specs.Books.{Book}
 use Rattle.model.specs.Refusals.{codeOf, lineOf}
-use Rattle.tables.specs.Layout.{nameCount, cellCount, valueCount}
 use Rattle.tables.specs.Sizes.{longEnough}
-use Rattle.grammar.specs.Valid.{valid}
 use Rattle.grammar.specs.Reading.{reading}
 use Rattle.plan.specs.Layout.{planCount}
 use Rattle.translation.specs.Compile.{stepsOf, planOf}
 use Rattle.runner.specs.Run.{filled}
 use Rattle.validation.specs.Lent.{Lent, lent, validateLong}
-use Rattle.validation.proofs.Whole.{room, Meets, too-short, turned-down, taken, is-valid, was-refused, was-accepted, names-left, cells-left, values-left, lent-same, cells-of, values-of, sub-of, well-formed-of, rows-of, lengths-of, long-kept}
+use Rattle.validation.proofs.Whole.{room, Meets, too-short, turned-down, taken, accepted, was-refused, names-left, cells-left, values-left, lent-same, cells-of, values-of, sub-of, well-formed-of, rows-of, lengths-of, long-kept}
 use borrow.Author.Needs.{needs}
 use Rattle.validation.proofs.validate.Statement.{statement}
 use Rattle.validation.proofs.validate.Tie as tie
@@ -63,17 +61,10 @@ run-tables-requires c κs =
     let s : List ℕ = now (a .book) in
     let l : Lent = (lent (now (a .names)) (now (a .cells)) (now (a .values)) (now (a .plan)) (now (a .work)) (now (a .lists)) (now (a .lengths))) in
     let e : validateLong l ≡ true = (sym (c .before .before .before .before .before .before .before .before .before .before .before .before .before .before .before .before .before .before .before .long-enough .ensures) ∙ not-false (c .before .before .before .before .before .before .before .before .before .before .before .before .before .before .before .before .before .before .before .long-enough .result) (c .before .before .before .before .before .before .before .before .before .before .before .before .before .before .before .before .before .before .if1 .left)) in
-    let t : longEnough (now (a .names)) (now (a .cells)) (now (a .values)) ≡ true = room l e .tables in
     let x = c .before .before .before .before .before .before .before .before .before .before .before .before .before .before .read in
-    let w = was-accepted s (now (a .names)) (now (a .cells)) (now (a .values)) t (x .result) (c .before .before .before .before .before .before .before .enum-told .given .0 .0) (x .ensures .0) (c .before .before .before .before .before .before .before .enum-told .given .1) in
-    let b : Book = w .0 in
-    let o : Answer Book = value b in
-    let v : valid b ≡ true = is-valid s l e b (w .1) in
-    let names = x .ensures .1 .0 ∙ names-left s (now (a .names)) (now (a .cells)) (now (a .values)) t o (w .1) in
-    let cells = x .ensures .1 .1 .0 ∙ cells-left s (now (a .names)) (now (a .cells)) (now (a .values)) t o (w .1) in
-    let values = x .ensures .1 .1 .1 ∙ values-left s (now (a .names)) (now (a .cells)) (now (a .values)) t o (w .1) in
+    let t = accepted s l e (x .result) (c .before .before .before .before .before .before .before .enum-told .given .0 .0) (x .ensures .0) (c .before .before .before .before .before .before .before .enum-told .given .1) (x .ensures .1 .0) (x .ensures .1 .1 .0) (x .ensures .1 .1 .1) in
     let m = room l e in
-    (long-kept (now (a .names)) (x .last .1 .0) (now (a .cells)) (x .last .1 .1 .0) (now (a .values)) (x .last .1 .1 .1 .0) t (x .kept .1 .0) (x .kept .1 .1 .0) (x .kept .1 .1 .1 .0), well-formed-of b v (x .last .1 .0) (drop nameCount (now (a .names))) (x .last .1 .1 .0) (drop cellCount (now (a .cells))) (x .last .1 .1 .1 .0) (drop valueCount (now (a .values))) names cells values, m .plan, m .work, m .lists, m .lengths)
+    (long-kept (now (a .names)) (x .last .1 .0) (now (a .cells)) (x .last .1 .1 .0) (now (a .values)) (x .last .1 .1 .1 .0) (m .tables) (x .kept .1 .0) (x .kept .1 .1 .0) (x .kept .1 .1 .1 .0), well-formed-of t, m .plan, m .work, m .lists, m .lengths)
 
 same-length-8 : tie.Need-same-length-8
 same-length-8 c = search needs
@@ -136,24 +127,17 @@ returns-3 c =
     let s : List ℕ = now (a .book) in
     let l : Lent = (lent (now (a .names)) (now (a .cells)) (now (a .values)) (now (a .plan)) (now (a .work)) (now (a .lists)) (now (a .lengths))) in
     let e : validateLong l ≡ true = (sym (c .before .before .before .before .before .before .before .before .before .before .before .before .before .before .before .before .before .before .before .before .before .before .before .before .before .before .before .before .long-enough .ensures) ∙ not-false (c .before .before .before .before .before .before .before .before .before .before .before .before .before .before .before .before .before .before .before .before .before .before .before .before .before .before .before .before .long-enough .result) (c .before .before .before .before .before .before .before .before .before .before .before .before .before .before .before .before .before .before .before .before .before .before .before .before .before .before .before .if1 .left)) in
-    let t : longEnough (now (a .names)) (now (a .cells)) (now (a .values)) ≡ true = room l e .tables in
     let x = c .before .before .before .before .before .before .before .before .before .before .before .before .before .before .before .before .before .before .before .before .before .before .before .read in
-    let w = was-accepted s (now (a .names)) (now (a .cells)) (now (a .values)) t (x .result) (c .before .before .before .before .before .before .before .before .before .before .before .before .before .before .before .before .enum-told .given .0 .0) (x .ensures .0) (c .before .before .before .before .before .before .before .before .before .before .before .before .before .before .before .before .enum-told .given .1) in
-    let b : Book = w .0 in
-    let o : Answer Book = value b in
-    let v : valid b ≡ true = is-valid s l e b (w .1) in
-    let names = x .ensures .1 .0 ∙ names-left s (now (a .names)) (now (a .cells)) (now (a .values)) t o (w .1) in
-    let cells = x .ensures .1 .1 .0 ∙ cells-left s (now (a .names)) (now (a .cells)) (now (a .values)) t o (w .1) in
-    let values = x .ensures .1 .1 .1 ∙ values-left s (now (a .names)) (now (a .cells)) (now (a .values)) t o (w .1) in
+    let t = accepted s l e (x .result) (c .before .before .before .before .before .before .before .before .before .before .before .before .before .before .before .before .enum-told .given .0 .0) (x .ensures .0) (c .before .before .before .before .before .before .before .before .before .before .before .before .before .before .before .before .enum-told .given .1) (x .ensures .1 .0) (x .ensures .1 .1 .0) (x .ensures .1 .1 .1) in
     let y = c .before .before .before .before .before .before .before .before .run-tables in
-    let E = cells-of b v (x .last .1 .0) (drop nameCount (now (a .names))) (x .last .1 .1 .0) (drop cellCount (now (a .cells))) (x .last .1 .1 .1 .0) (drop valueCount (now (a .values))) names cells values in
-    let F = values-of b v (x .last .1 .0) (drop nameCount (now (a .names))) (x .last .1 .1 .0) (drop cellCount (now (a .cells))) (x .last .1 .1 .1 .0) (drop valueCount (now (a .values))) names cells values in
-    let G = sub-of b v (x .last .1 .0) (drop nameCount (now (a .names))) (x .last .1 .1 .0) (drop cellCount (now (a .cells))) (x .last .1 .1 .1 .0) (drop valueCount (now (a .values))) names cells values in
+    let E = cells-of t in
+    let F = values-of t in
+    let G = sub-of t in
     let n = y .ensures .0 ∙ ap (λ k. length (stepsOf k)) E in
-    let m = lent-same names cells values (y .ensures .1 .0 ∙ ap (λ k. planOf k ++ drop planCount (now (a .plan))) E) (y .ensures .1 .1 .0 ∙ (λ j. filled (G j) (E j) (F j) (planOf (E j)) (now (a .work)))) (y .ensures .1 .1 .1 .0 ∙ rows-of b v (x .last .1 .0) (drop nameCount (now (a .names))) (x .last .1 .1 .0) (drop cellCount (now (a .cells))) (x .last .1 .1 .1 .0) (drop valueCount (now (a .values))) names cells values (now (a .lists))) (y .ensures .1 .1 .1 .1 ∙ lengths-of b v (x .last .1 .0) (drop nameCount (now (a .names))) (x .last .1 .1 .0) (drop cellCount (now (a .cells))) (x .last .1 .1 .1 .0) (drop valueCount (now (a .values))) names cells values (now (a .lengths))) in
+    let m = lent-same (t .names) (t .cells) (t .values) (y .ensures .1 .0 ∙ ap (λ k. planOf k ++ drop planCount (now (a .plan))) E) (y .ensures .1 .1 .0 ∙ (λ j. filled (G j) (E j) (F j) (planOf (E j)) (now (a .work)))) (y .ensures .1 .1 .1 .0 ∙ rows-of t (now (a .lists))) (y .ensures .1 .1 .1 .1 ∙ lengths-of t (now (a .lengths))) in
     let n₁ = sym n in
     let m₁ = sym m in
-    subst (λ (z : Answer ℕ × Lent). Meets s l (z .0) (z .1)) (λ j. (value (n₁ j), m₁ j)) (taken s l e b (w .1))
+    subst (λ (z : Answer ℕ × Lent). Meets s l (z .0) (z .1)) (λ j. (value (n₁ j), m₁ j)) (taken s l e (t .book) (t .read))
 
 pub validate-spec : {M : Type 1} → statement M
 validate-spec =
