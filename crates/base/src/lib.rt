@@ -2,6 +2,8 @@
 // and their laws (proofs/). Operations: none; for the crates above:
 //   cell              what stands at a place
 //   pick, pick_cell   the first of two numbers, or the second
+#![tactic(auto)]
+
 ghost use Rattle.std.specs.Prelude.{◌≡◌, cond, get_or};
 
 // What stands at a place, 0 past the end.

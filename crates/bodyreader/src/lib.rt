@@ -1,5 +1,7 @@
 // The reader of a line: a shape line, and any line by its word.
 // Functions for the crate above, on tables that hold the lines above. Operations: none.
+#![tactic(auto)]
+
 ghost use Rattle.std.specs.Prelude.{◌≡◌, List, true, ℕ, ◌≤◌, ◌<◌, ◌+◌, ◌-◌, ℤ, length, get_or};
 ghost use Rattle.std.proofs.Math.Seq.{slice};
 ghost use Rattle.model.specs.Shapes.{Shape};

@@ -3,6 +3,8 @@
 //
 // For the crates above, on slices that these have shown to be long enough:
 //   link   an item joins the chain of its key
+#![tactic(auto)]
+
 ghost use Rattle.std.specs.Prelude.{◌≡◌, ◌+◌, ◌<◌, length};
 ghost use Rattle.chains.specs.Chains.{linked};
 

@@ -11,6 +11,8 @@
 //   close      the rows become those of one or more repetitions
 //   reflect    each node joins its own row
 //   compose    rows gain where a step by one relation and then one by another leads
+#![tactic(auto)]
+
 ghost use Rattle.std.specs.Prelude.{◌≡◌, true, false, ℕ, ◌+◌, ◌*◌, ◌%◌, ◌<◌, ◌≤◌, length};
 ghost use Rattle.nodeset.specs.Words.{bit, words_of};
 ghost use Rattle.model.specs.Limits.{max_nodes};

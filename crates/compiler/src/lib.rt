@@ -1,4 +1,6 @@
 // Tables to a plan: the code for the definition of translation. Operations: compile.
+#![tactic(auto)]
+
 ghost use Rattle.std.specs.Prelude.{◌≡◌, List, [], ◌∷◌, ◌++◌, ℕ, ◌+◌, ◌<◌, ◌≤◌, length, get_or, replicate, drop};
 ghost use Rattle.base.specs.Lists.{values};
 ghost use Rattle.model.specs.Limits.{max_rules, max_forms, max_steps};
@@ -23,7 +25,7 @@ use tables::reads::{
 };
 
 // What an entry adds: the number of the next step, and the entry's own two.
-#[derive(Drop)]
+#[derive(Clone, Copy)]
 pub struct Out {
     pub next: usize,
     pub keep: u16,
@@ -352,7 +354,7 @@ fn make_plan(plan: &mut [u16], cells: &[u16]) -> usize
 }
 
 // What compiling answers: how many steps the plan has, or why there is none.
-#[derive(Drop)]
+#[derive(Clone, Copy)]
 pub enum Compiled {
     Steps(usize),
     Refused(Refusal),

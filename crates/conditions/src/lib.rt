@@ -19,6 +19,8 @@
 //                                      two sets with the same members, with none in common
 //   languages                          the nodes that have a language
 //   insert_if                          a node joins a set, or not
+#![tactic(auto)]
+
 ghost use Rattle.std.specs.Prelude.{◌≡◌, cond, not, ◌&&◌, ◌||◌, List, ◌+◌, ◌<◌, ◌≤◌, eqb, ltb, length, ℤ};
 ghost use Rattle.std.proofs.Math.Option.{Option};
 ghost use Rattle.base.specs.Lists.{member};
@@ -46,7 +48,7 @@ use tables::reads::{
 };
 
 // A set of links, a bit for each: link l is at bit l mod 64 of word l div 64.
-#[derive(Drop)]
+#[derive(Clone, Copy)]
 pub struct LinkSet {
     pub words: [u64; LINK_WORDS],
 }
@@ -54,26 +56,26 @@ pub struct LinkSet {
 const LINK_WORDS: usize = MAX_LINKS / 64;
 
 // What a search found: a node; a pair of nodes; a node in exactly one of two sets, by the set that lacks it; a fact.
-#[derive(Drop)]
+#[derive(Clone, Copy)]
 pub enum Found {
     Node(NodeNo),
     NoNode,
 }
 
-#[derive(Drop)]
+#[derive(Clone, Copy)]
 pub enum FoundPair {
     Pair(NodeNo, NodeNo),
     NoPair,
 }
 
-#[derive(Drop)]
+#[derive(Clone, Copy)]
 pub enum FoundSide {
     SecondLacks(NodeNo),
     FirstLacks(NodeNo),
     NoSide,
 }
 
-#[derive(Drop)]
+#[derive(Clone, Copy)]
 pub enum FoundFact {
     Fact(usize),
     NoFact,
@@ -333,7 +335,7 @@ pub fn test_fails(cells: &[u16], values: &[i64], e: usize, v: NodeNo) -> bool
 }
 
 // How the members of a pair are to be ordered.
-#[derive(Drop)]
+#[derive(Clone, Copy)]
 enum Order {
     Less,
     LessEq,

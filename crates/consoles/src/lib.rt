@@ -4,6 +4,8 @@
 //   is_console            a console's number
 //   Tallies::after        the tallies after a question of a console
 //   load, store           tallies that a caller lends: the first eight of them by value, and tallies over the first eight
+#![tactic(auto)]
+
 ghost use Rattle.std.specs.Prelude.{◌≡◌, cond, ◌≤◌, ltb, length, take, set};
 ghost use Rattle.nodeset.specs.Words.{stored};
 ghost use Rattle.consoles.specs.Tallies.{console_count, one_more, counted};
@@ -12,7 +14,7 @@ ghost use Rattle.consoles.specs.Tallies.{console_count, one_more, counted};
 pub const CONSOLES: usize = 8;
 
 // A tally for each console.
-#[derive(Drop)]
+#[derive(Clone, Copy)]
 pub struct Tallies {
     pub counts: [u32; 8],
 }

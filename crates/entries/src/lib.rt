@@ -9,6 +9,8 @@
 //   links_hold     `closed`
 //   sets_hold      `equal`, `apart`, `less`, `lesseq`
 //   lang_holds     `onelang`
+#![tactic(auto)]
+
 ghost use Rattle.std.specs.Prelude.{◌≡◌, true, ◌&&◌, ℕ, ◌<◌, ◌≤◌};
 ghost use Rattle.base.specs.Bounded.{◌⇒◌, every, size};
 ghost use Rattle.base.specs.Lists.{member};

@@ -1,5 +1,7 @@
 // The reader of FORM, which calls itself with the remaining depth falling. It stores each form entry as it ends.
 // Functions for the crates above, on positions of a text that these have shown to lie within it. Operations: none.
+#![tactic(auto)]
+
 ghost use Rattle.std.specs.Prelude.{◌≡◌, List, [], ◌∷◌, true, cond, ◌≤◌, ◌<◌, ◌+◌, ◌-◌, eqb, ℤ, length, get_or, drop};
 ghost use Rattle.model.specs.Books.{Book};
 ghost use Rattle.model.specs.Limits.{max_forms, max_paths, max_items};
@@ -21,7 +23,7 @@ use text::byte;
 
 // What stands before the FORMs within a bracket: the code of the form's entry, LO, HI and the last path entry, zero where
 // there is none; how many path entries have ended with it, and the position after it.
-#[derive(Drop)]
+#[derive(Clone, Copy)]
 pub struct Front {
     pub code: u16,
     pub low: u16,
@@ -32,7 +34,7 @@ pub struct Front {
 }
 
 // A form that was read whole, or refused; or what stands before the FORMs within it.
-#[derive(Drop)]
+#[derive(Clone, Copy)]
 pub enum Opening {
     Whole(Form),
     Part(Front),

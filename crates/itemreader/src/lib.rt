@@ -1,6 +1,8 @@
 // The reader of single items: names used and new, decimals, lists, and the words after opening brackets.
 // Functions for the crates above, on positions of a text that these have shown to lie within it. Operations: none.
 // The numbers of the words are in words.
+#![tactic(auto)]
+
 pub mod words;
 
 ghost use Rattle.std.specs.Prelude.{◌≡◌, List, true, ℕ, ◌≤◌, ◌<◌, ◌+◌, ◌*◌, ◌-◌, eqb, length, drop};
@@ -31,7 +33,7 @@ use text::{
     number_at,
 };
 
-#[derive(Drop)]
+#[derive(Clone, Copy)]
 pub enum Pool {
     Nodes,
     Links,
@@ -41,20 +43,20 @@ pub enum Pool {
 }
 
 // The number of what was read and the position after it; or the number of a refusal.
-#[derive(Drop)]
+#[derive(Clone, Copy)]
 pub enum Item {
     Is(usize, usize),
     No(u8),
 }
 
-#[derive(Drop)]
+#[derive(Clone, Copy)]
 pub enum Value {
     Is(i64, usize),
     No(u8),
 }
 
 // What stands where a bracket may: none; the number of its word and where that ends; or a refusal.
-#[derive(Drop)]
+#[derive(Clone, Copy)]
 pub enum Head {
     Bare,
     Word(usize, usize),

@@ -1,5 +1,7 @@
 // The reader of the FORMs without a FORM within. It stores each form entry as it ends.
 // Functions for the crates above, on positions of a text that these have shown to lie within it. Operations: none.
+#![tactic(auto)]
+
 ghost use Rattle.std.specs.Prelude.{◌≡◌, List, [], ◌∷◌, true, cond, ℕ, ◌≤◌, ◌<◌, ◌+◌, ◌-◌, eqb, leb, length, get_or, drop, ℤ};
 ghost use Rattle.model.specs.Paths.{Path, End};
 ghost use Rattle.model.specs.Shapes.{Shape, unique_lang};
@@ -24,7 +26,7 @@ use tables::layout::{
 use text::{byte, is_word, item_end};
 
 // How many form entries, path entries and list items have ended.
-#[derive(Drop)]
+#[derive(Clone, Copy)]
 pub struct Ended {
     pub forms: usize,
     pub paths: usize,
@@ -32,7 +34,7 @@ pub struct Ended {
 }
 
 // What has ended with a form that was read, and the position after it; or the number of a refusal.
-#[derive(Drop)]
+#[derive(Clone, Copy)]
 pub enum Form {
     Is(Ended, usize),
     No(u8),

@@ -1,6 +1,8 @@
 // The reader of each kind of line but `shape`, from the end of its word: what stands on it, stored at its places, with the
 // counts after it; or the refusal.
 // Functions for the crate above, on tables that hold the lines above. Operations: none.
+#![tactic(auto)]
+
 ghost use Rattle.std.specs.Prelude.{◌≡◌, List, true, ℕ, ◌≤◌, ◌<◌, ◌+◌, ◌*◌, ◌-◌, ℤ, length};
 ghost use Rattle.std.proofs.Math.Seq.{slice};
 ghost use Rattle.model.specs.Graph.{Term, Triple};
@@ -33,21 +35,21 @@ use text::{byte, put_name};
 pub const MAX_WITHIN: usize = MAX_DEPTH - 1;
 
 // The position after a line and the counts with it; or the number of a refusal.
-#[derive(Drop)]
+#[derive(Clone, Copy)]
 pub enum LineAnswer {
     Next(usize, Counts),
     No(u8),
 }
 
 // A target's code, its operand and the position after it; or the number of a refusal.
-#[derive(Drop)]
+#[derive(Clone, Copy)]
 pub enum TargetAnswer {
     Is(u16, usize, usize),
     No(u8),
 }
 
 // What the cells say of a node.
-#[derive(Drop)]
+#[derive(Clone, Copy)]
 pub struct Node {
     pub kind: u16,
     pub datatype: u16,

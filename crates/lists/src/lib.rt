@@ -1,5 +1,7 @@
 // The lists of the rules, read off the work space.
 // Operations: list, one rule's list. For the crates above: list_rows, all lists, on tables and a plan that these have checked.
+#![tactic(auto)]
+
 ghost use Rattle.std.specs.Prelude.{◌≡◌, true, ◌+◌, ◌*◌, ◌<◌, ◌≤◌, length};
 ghost use Rattle.base.specs.Bounded.{members};
 ghost use Rattle.nodeset.specs.Words.{has};
@@ -28,7 +30,7 @@ pub const LIST_PLACES: usize = MAX_NODES * MAX_RULES;
 pub const LENGTH_PLACES: usize = MAX_RULES;
 
 // How many nodes a list has; or why there is none.
-#[derive(Drop)]
+#[derive(Clone, Copy)]
 pub enum Listed {
     Nodes(usize),
     Refused(Refusal),

@@ -3,6 +3,8 @@
 // numbers, which are 0 where a refusal leaves nothing to say.
 // Operations: melivanoup_read, melivanoup_verdict, melivanoup_rounds, melivanoup_nearest, melivanoup_compile, melivanoup_run,
 // melivanoup_list, melivanoup_validate, melivanoup_report.
+#![tactic(auto)]
+
 ghost use Rattle.std.specs.Prelude.{◌≡◌, false};
 ghost use Rattle.model.specs.Refusals.{code_of, line_of};
 ghost use Rattle.model.specs.Answers.{refusal_number, refusal_line, value_or};

@@ -1,5 +1,7 @@
 // The meaning of a book: graph, paths, shapes, targets and rules (specs/), with their laws (proofs/).
 // Operations: code and line, what document 01 prints of a refusal.
+#![tactic(auto)]
+
 ghost use Rattle.std.specs.Prelude.{◌≡◌};
 ghost use Rattle.model.specs.Refusals.{code_of, line_of};
 
@@ -38,11 +40,11 @@ pub const NAME_BYTES: usize = 32;
 pub const MAX_STEPS: usize = 512;
 
 // The number of a node in its pool. Never the number of a link: source 000 keeps properties apart from nodes.
-#[derive(Drop)]
+#[derive(Clone, Copy)]
 pub struct NodeNo(pub u16);
 
 // The number of a link (a predicate) in its pool.
-#[derive(Drop)]
+#[derive(Clone, Copy)]
 pub struct LinkNo(pub u16);
 
 // The link `a` and the type `langstring` come first in their pools.
@@ -51,7 +53,7 @@ pub const LINK_A: u16 = 0;
 pub const TYPE_LANGSTRING: u16 = 0;
 
 // How many of each a book has: the ten counts of its tables.
-#[derive(Drop)]
+#[derive(Clone, Copy)]
 pub struct Counts {
     pub nodes: usize,
     pub links: usize,
@@ -66,7 +68,7 @@ pub struct Counts {
 }
 
 // Why an operation declines. The first seven are the book writer's, with the line; the others the caller's.
-#[derive(Drop)]
+#[derive(Clone, Copy)]
 pub enum Refusal {
     TooLong,
     Grammar(usize),

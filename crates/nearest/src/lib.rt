@@ -5,6 +5,8 @@
 // The ends of the path from every node are found once, as rows. A search along them shows which nodes can be reached at all; which
 // of these conform is decided of all of them together, as the verdict decides it, so that no node's verdict is found twice. Then
 // the search is made again, and ends at the first round that reaches one of them.
+#![tactic(auto)]
+
 ghost use Rattle.std.specs.Prelude.{◌≡◌, true, ◌&&◌, ◌*◌, ◌<◌, ◌≤◌, length};
 ghost use Rattle.nodeset.specs.Words.{has, words_of};
 ghost use Rattle.closure.specs.Rows.{leads, Within};
@@ -43,7 +45,7 @@ fn spares(rows: &[u64], cells: &[u16], index: &[u16], values: &[i64], v: usize, 
 }
 
 // Where the nearest spare is: how many repetitions away, and its number.
-#[derive(Drop)]
+#[derive(Clone, Copy)]
 struct Found {
     hops: usize,
     node: usize,
@@ -70,7 +72,7 @@ fn first_met(rows: &[u64], v: usize, n: usize, spares: NodeSet) -> Found
 }
 
 // What is answered.
-#[derive(Drop)]
+#[derive(Clone, Copy)]
 pub enum Spare {
     At(usize, NodeNo),
     NoSpare,

@@ -17,6 +17,8 @@
 //   test, with            n is in the set; the set with n
 //   union, intersection, difference, count
 //   none_below            no number below n is in the set
+#![tactic(auto)]
+
 ghost use Rattle.std.specs.Prelude.{◌≡◌, not, ◌&&◌, ℕ, ◌+◌, ◌*◌, ◌≤◌, ◌<◌, get_or, set, ltb};
 ghost use Rattle.std.specs.Int.Count.{ones};
 ghost use Rattle.base.specs.Bounded.{every, size};
@@ -56,7 +58,7 @@ pub fn insert(words: &mut [u64], n: usize)
 }
 
 // How two sets are put together.
-#[derive(Drop)]
+#[derive(Clone, Copy)]
 enum Operation {
     Union,
     Intersection,
@@ -195,7 +197,7 @@ pub fn next_outside(a: &[u64], b: &[u64], from: usize, n: usize) -> usize
 }
 
 // A set of nodes: sixteen words.
-#[derive(Drop)]
+#[derive(Clone, Copy)]
 pub struct NodeSet {
     pub words: [u64; 16],
 }

@@ -1,5 +1,7 @@
 // The reader of PATH and END. It stores path entries as they end.
 // Functions for the crates above, on positions of a text that these have shown to lie within it. Operations: none.
+#![tactic(auto)]
+
 ghost use Rattle.std.specs.Prelude.{◌≡◌, cond, ◌≤◌, ◌<◌, ◌+◌, eqb, leb, length, get_or, drop};
 ghost use Rattle.model.specs.Books.{Book};
 ghost use Rattle.model.specs.Limits.{max_paths};

@@ -14,6 +14,8 @@
 //   index_facts          chains of the facts by the keys in a column
 //   index_table          both for the facts of the tables
 //   last_out, next_out   where the chain of the facts out of a node begins, and what follows a fact on it
+#![tactic(auto)]
+
 ghost use Rattle.std.specs.Prelude.{◌≡◌, true, cond, ℕ, ◌+◌, ◌*◌, ◌<◌, ◌≤◌, eqb, ltb, length, get_or, replicate};
 ghost use Rattle.model.specs.Paths.{ends_of};
 ghost use Rattle.model.specs.Limits.{max_nodes, max_links, max_facts};
@@ -53,7 +55,7 @@ pub const ROWS_WORDS: usize = 16 * MAX_NODES;
 const LINKS: u16 = MAX_LINKS as u16;
 
 // What the ends are ends of: `id`, the node itself; a link; a path entry.
-#[derive(Drop)]
+#[derive(Clone, Copy)]
 pub enum End {
     Itself,
     Link(LinkNo),
@@ -62,7 +64,7 @@ pub enum End {
 
 // The sets that stand side by side, and what they start from: one set, which is lent; one for each node, in rows, which are lent;
 // one for each node, that node alone, and nothing is lent.
-#[derive(Drop)]
+#[derive(Clone, Copy)]
 pub enum Sets {
     One,
     Rows,

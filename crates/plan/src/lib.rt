@@ -1,5 +1,7 @@
 // The lent plan: its layout, what each step's set is and when a plan is well formed (specs/), with laws (proofs/).
 // Operations: none; the crates above call these functions. The codes of the steps are in steps.
+#![tactic(auto)]
+
 pub mod steps;
 
 ghost use Rattle.std.specs.Prelude.{◌≡◌, [], ◌∷◌, ◌<◌, ◌≤◌, length};

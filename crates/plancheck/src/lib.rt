@@ -1,6 +1,8 @@
 // Refusal 9 on plans: whether a lent plan is well formed, for the tables that it is to be run on. Typed reads of a plan (reads).
 // Operations: plan_well_formed; it takes any content of any length, and looks at 512 steps and 65,535 rules at the most.
 // For the crates above: both_well_formed, the plan and the tables that it is for.
+#![tactic(auto)]
+
 pub mod reads;
 
 ghost use Rattle.std.specs.Prelude.{◌≡◌};
@@ -70,7 +72,7 @@ fn step_ok(cells: &[u16], plan: &[u16], k: usize) -> bool
 }
 
 // What is looked at number by number.
-#[derive(Drop)]
+#[derive(Clone, Copy)]
 enum Part {
     Steps,
     Rules,

@@ -5,6 +5,8 @@
 // For the crates above, which show that nothing stands past the rows of n nodes:
 //   Level    a search after some rounds, and one round more
 //   search   the whole search
+#![tactic(auto)]
+
 ghost use Rattle.std.specs.Prelude.{◌≡◌, ◌*◌, ◌<◌, ◌≤◌, eqb, length};
 ghost use Rattle.nodeset.specs.Words.{words_of, union, difference};
 ghost use Rattle.closure.specs.Rows.{leads, Within};
@@ -33,7 +35,7 @@ fn image(set: NodeSet, rows: &[u64], n: usize) -> NodeSet
 }
 
 // A search after some rounds: the nodes reached, and its frontier, those of them that the last round was the first to reach.
-#[derive(Drop)]
+#[derive(Clone, Copy)]
 pub struct Level {
     pub reached: NodeSet,
     pub frontier: NodeSet,
@@ -68,7 +70,7 @@ impl Level {
 }
 
 // What a search comes to: the nodes that it reaches, and how many rounds reach one that none before them did.
-#[derive(Drop)]
+#[derive(Clone, Copy)]
 pub struct Reached {
     pub nodes: NodeSet,
     pub rounds: usize,

@@ -1,5 +1,7 @@
 // The reader: from the bytes of a book to its tables, or the refusal with its line.
 // Operation: read.
+#![tactic(auto)]
+
 ghost use Rattle.std.specs.Prelude.{◌≡◌, [], ◌≤◌, pos, length};
 ghost use Rattle.base.specs.Bytes.{bytes};
 ghost use Rattle.model.specs.Answers.{map_value};
@@ -31,14 +33,14 @@ use tables::lent::{clear_cells, clear_names, clear_values, enough};
 use text::{hash, put_name};
 
 // The counts of an accepted book; or why it is refused.
-#[derive(Drop)]
+#[derive(Clone, Copy)]
 pub enum ReadAnswer {
     Accepted(Counts),
     Refused(Refusal),
 }
 
 // The counts after the last line; or the number of a refusal and its line.
-#[derive(Drop)]
+#[derive(Clone, Copy)]
 pub enum LinesAnswer {
     Read(Counts),
     No(u8, usize),

@@ -1,5 +1,7 @@
 // The report of a whole run, written to a lent page part by part.
 // Operations: report_part, a part of the report of a book; report_refusal, the report of a refusal.
+#![tactic(auto)]
+
 ghost use Rattle.std.specs.Prelude.{◌≡◌, true, ◌∷◌, map, ◌+◌, ◌*◌, ◌<◌, ◌≤◌, length, get_or, take, drop, ltb};
 ghost use Rattle.base.specs.Bounded.{every};
 ghost use Rattle.base.specs.Lists.{allb};
@@ -32,7 +34,7 @@ pub const PAGE_BYTES: usize = MAX_NODES * BREAK_BYTES;
 pub const REFUSAL_BYTES: usize = 33;
 
 // How many bytes stand on the page; or why there are none.
-#[derive(Drop)]
+#[derive(Clone, Copy)]
 pub enum Page {
     Bytes(usize),
     Refused(Refusal),

@@ -4,6 +4,8 @@
 //
 // The ends of the path from every node are found once, as rows, whatever is nested in it; then the search goes along them. The rows
 // serve the crate nearest too.
+#![tactic(auto)]
+
 ghost use Rattle.std.specs.Prelude.{◌≡◌, true, ◌*◌, ◌<◌, ◌≤◌, length, replicate};
 ghost use Rattle.closure.specs.Rows.{rows_of};
 ghost use Rattle.model.specs.Limits.{max_nodes};
@@ -46,7 +48,7 @@ fn path_rounds(cells: &[u16], v: NodeNo, e: usize) -> usize
 }
 
 // What is answered.
-#[derive(Drop)]
+#[derive(Clone, Copy)]
 pub enum Searched {
     Rounds(usize),
     Refused(Refusal),

@@ -6,6 +6,8 @@
 // For the crates above, which show that the facts lie between n nodes and that the path entries' tables are well formed:
 //   all_ends         the rows become the ends, where they held nothing past n nodes; read backwards where back
 //   all_table_ends   the same over the facts of the tables
+#![tactic(auto)]
+
 ghost use Rattle.std.specs.Prelude.{◌≡◌, true, ◌*◌, ◌≤◌, length, replicate};
 ghost use Rattle.model.specs.Paths.{ends_of};
 ghost use Rattle.model.specs.Limits.{max_nodes};

@@ -3,6 +3,8 @@
 //
 // It sees neither reader nor compiler nor verdict: any tables and any plan may be handed in, and are checked before the first
 // word is written.
+#![tactic(auto)]
+
 ghost use Rattle.std.specs.Prelude.{◌≡◌, true, ◌*◌, ◌<◌, ◌≤◌, length};
 ghost use Rattle.model.specs.Limits.{max_steps};
 ghost use Rattle.tables.specs.Layout.{name_count, cell_count, node_count};
@@ -44,14 +46,14 @@ const FEW_NODES: usize = 64;
 const FEW_ROWS: usize = 16 * FEW_NODES;
 
 // What a run answers.
-#[derive(Drop)]
+#[derive(Clone, Copy)]
 pub enum Ran {
     Done,
     Refused(Refusal),
 }
 
 // What a step asks for, with its operands.
-#[derive(Drop)]
+#[derive(Clone, Copy)]
 enum Kind {
     Whole,
     Empty,

@@ -10,6 +10,8 @@
 //   ends_set      .. on two end sets
 // (the ends of all nodes stand in lent rows, which are kept for the next step)
 //   both_set, either_set   the nodes in both of two sets, in one of them
+#![tactic(auto)]
+
 ghost use Rattle.std.specs.Prelude.{◌≡◌, true, false, cond, ◌&&◌, ◌||◌, ◌*◌, ◌<◌, drop};
 ghost use Rattle.nodeset.specs.Words.{has, nodes_of};
 ghost use Rattle.model.specs.Shapes.{from, objects, starts};
@@ -36,7 +38,7 @@ use rows::all_table_ends;
 use tables::reads::node_count;
 
 // What rows of ends hold: nothing yet, or the ends of all nodes.
-#[derive(Drop)]
+#[derive(Clone, Copy)]
 pub enum Kept {
     Unfilled,
     RowsOf(End),
@@ -45,7 +47,7 @@ pub enum Kept {
 // What is asked of each node, a case for each keeping and each breaking step: whether it is a node; whether it meets the test of a
 // form entry; how many of its ends are in a set, and that all are; whether two end sets are equal, are apart, whether each pair is
 // less, or at most; whether no two ends in a set have the same language; whether each fact out of it has a listed link.
-#[derive(Drop)]
+#[derive(Clone, Copy)]
 pub enum Condition {
     Is(NodeNo),
     IsNot(NodeNo),

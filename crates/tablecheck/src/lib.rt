@@ -1,5 +1,7 @@
 // Refusal 9: whether tables that somebody lends are well formed. Operations: well_formed; it takes any content of any length,
 // and reads some fifty thousand cells at the most. For plancheck: node_there, link_there, end_ok.
+#![tactic(auto)]
+
 ghost use Rattle.std.specs.Prelude.{◌≡◌, [], ◌&&◌, ◌+◌, ltb, take, drop};
 ghost use Rattle.base.specs.Bounded.{every};
 ghost use Rattle.tables.specs.Layout.{root_at, node_count, link_count, shape_count, fact_count};
@@ -124,7 +126,7 @@ fn path_ok(cells: &[u16], e: usize) -> bool
 }
 
 // What a list's items are: languages (`lang`), links (`closed`).
-#[derive(Drop)]
+#[derive(Clone, Copy)]
 enum ItemsOf {
     Langs,
     Links,
@@ -229,7 +231,7 @@ fn rule_ok(cells: &[u16], k: usize) -> bool
 }
 
 // The shorter parts; nodes and facts have loops of their own.
-#[derive(Drop)]
+#[derive(Clone, Copy)]
 enum Part {
     Paths,
     Forms,

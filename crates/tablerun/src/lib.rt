@@ -1,5 +1,7 @@
 // From well-formed tables to the lists of all rules: compiled, run and read off.
 // Functions for the crate above, which has checked the lengths of what is lent. Operations: none.
+#![tactic(auto)]
+
 ghost use Rattle.std.specs.Prelude.{◌≡◌, true, ◌++◌, ◌≤◌, length, take, drop};
 ghost use Rattle.tables.specs.Layout.{name_count, cell_count, value_count, rule_count};
 ghost use Rattle.tables.specs.Names.{sub_class_at};

@@ -7,6 +7,8 @@
 // For the crate above, which shows that the tables are well formed:
 //   sub_class_link   the link named `under`, by the names that the tables hold
 //   target_set       the nodes that a target selects
+#![tactic(auto)]
+
 ghost use Rattle.std.specs.Prelude.{◌≡◌, [], true, not, ◌+◌, ◌<◌, ◌≤◌, eqb, length};
 ghost use Rattle.std.proofs.Math.Option.{Option};
 ghost use Rattle.base.specs.Bytes.{eql};
@@ -32,7 +34,7 @@ use tables::layout::LINK_NAMES;
 use tables::reads::{link_count, node_count};
 
 // The target of a rule: subjects, objects of a link; instances of a class.
-#[derive(Drop)]
+#[derive(Clone, Copy)]
 pub enum Target {
     From(LinkNo),
     Into(LinkNo),
@@ -40,7 +42,7 @@ pub enum Target {
 }
 
 // The link that leads from a class to one that it lies under, or none.
-#[derive(Drop)]
+#[derive(Clone, Copy)]
 pub enum SubClass {
     Link(LinkNo),
     Absent,

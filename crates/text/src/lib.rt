@@ -1,5 +1,7 @@
 // The bytes of a book: items, names, decimals, and pools of names in so many bytes each.
 // Functions for the crates above, on positions of a text that these have shown to lie within it. Operations: none.
+#![tactic(auto)]
+
 ghost use Rattle.std.specs.Prelude.{◌≡◌, true, cond, ◌≤◌, ◌<◌, ◌+◌, ◌*◌, ◌-◌, length, get_or};
 ghost use Rattle.std.proofs.Math.Seq.{slice};
 ghost use Rattle.base.specs.Bounded.{every};
@@ -16,7 +18,7 @@ use base::cell;
 use model::{MAX_COUNT, MAX_NAME, NAME_BYTES};
 
 // A signed decimal of the 64-bit range; a well written decimal out of it; anything else.
-#[derive(Drop)]
+#[derive(Clone, Copy)]
 pub enum Number {
     Not,
     Range,
@@ -24,7 +26,7 @@ pub enum Number {
 }
 
 // An unsigned decimal up to 1,024; a greater one; anything else.
-#[derive(Drop)]
+#[derive(Clone, Copy)]
 pub enum Bound {
     Not,
     Over,
@@ -32,14 +34,14 @@ pub enum Bound {
 }
 
 // The number of a name in its pool.
-#[derive(Drop)]
+#[derive(Clone, Copy)]
 pub enum Found {
     At(usize),
     Nothing,
 }
 
 // The value of decimal digits without a leading zero, or that it is 10^19 or more; anything else.
-#[derive(Drop)]
+#[derive(Clone, Copy)]
 pub enum Mag {
     Not,
     Over,

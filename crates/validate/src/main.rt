@@ -1,4 +1,6 @@
 // The printing program: a book on standard input, its report on standard output.
+#![tactic(auto)]
+
 ghost use Rattle.std.specs.Prelude.{◌≤◌, length};
 ghost use Rattle.model.specs.Answers.{value_or};
 ghost use Rattle.report.specs.Answers.{answer_of};

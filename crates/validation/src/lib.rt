@@ -1,5 +1,7 @@
 // The whole run: from the bytes of a book to the lists of all its rules.
 // Operation: validate. Demand 3 is its first promise.
+#![tactic(auto)]
+
 ghost use Rattle.std.specs.Prelude.{◌≡◌};
 ghost use Rattle.validation.specs.Claim.{answer_of, Demand3};
 ghost use Rattle.validation.specs.Lent.{lent, validate_long};
@@ -14,7 +16,7 @@ use tablerun::run_tables;
 use tables::lent::enough;
 
 // The number of steps of the plan; or why the book is refused.
-#[derive(Drop)]
+#[derive(Clone, Copy)]
 pub enum Validated {
     Steps(usize),
     Refused(Refusal),

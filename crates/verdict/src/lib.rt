@@ -7,6 +7,8 @@
 // what is known is kept. Few nodes are decided one by one, each from its own ends; many from the ends of all nodes at once. Of
 // entry e, the nodes that conform stand from word 32 * e of the memo on, and those that do not from word 32 * e + 16 on.
 // For the crates above: conforming_among, the nodes of a set that conform to an entry.
+#![tactic(auto)]
+
 ghost use Rattle.std.specs.Prelude.{◌≡◌, true, not, cond, ◌&&◌, ℕ, ◌+◌, ◌*◌, ◌<◌, ◌≤◌, length};
 ghost use Rattle.nodeset.specs.Words.{has, words_of, with};
 ghost use Rattle.model.specs.Answers.{is_given};
@@ -349,7 +351,7 @@ fn conforming(cells: &[u16], values: &[i64], e: usize, v: NodeNo) -> bool
 }
 
 // What is answered.
-#[derive(Drop)]
+#[derive(Clone, Copy)]
 pub enum Judged {
     Yes,
     No,
@@ -357,7 +359,7 @@ pub enum Judged {
 }
 
 // An answer, and the tallies afterwards.
-#[derive(Drop)]
+#[derive(Clone, Copy)]
 pub struct Outcome {
     pub answer: Judged,
     pub tallies: Tallies,

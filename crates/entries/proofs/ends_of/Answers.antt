@@ -1,0 +1,18 @@
+-- `ends_of_lem` meets its contract: the ends from the set of v alone.
+use mathlib.Core.Path.{◌∙◌}
+use Rattle.model.specs.Paths.{ends_of}
+use Rattle.tables.specs.Layout.{node_count}
+use Rattle.tables.specs.Decode.{triples_at}
+use Rattle.paths.specs.Ends.{end_in}
+use Rattle.entries.proofs.Codes.{nodes_le}
+use Rattle.entries.proofs.Ends.{image_single}
+use Rattle.entries.proofs.ends_of.Goals as goal
+
+pub ends_from-requires : goal.ends_from-requires
+ends_from-requires c = (c.requires.0, c.requires.1)
+
+pub returns : goal.returns
+returns c =
+    let a = c.args in
+    let cs = a.cells.now in
+    c.ends_from.ensures ∙ image_single (node_count cs) (ends_of (node_count cs) (triples_at cs) (end_in cs a.end)) c.insert.new.0 a.v.0 (nodes_le cs c.requires.0) c.requires.2 c.insert.ensures

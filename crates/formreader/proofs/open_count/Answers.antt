@@ -1,0 +1,69 @@
+use Prim.Native.Nat.{ℕ, ◌-◌}
+use mathlib.Core.Path.{refl, sym}
+use native.Mathlib.Omega.{arith}
+use Rattle.encoding.specs.Flatten.{upper_number}
+use Rattle.grammar.specs.Syntax.{low, high}
+use Rattle.grammar.specs.Reading.{arg_at, readers_at}
+use Rattle.itemreader.specs.Answers.{same}
+use Rattle.itemreader.proofs.Items.{below-is, item_got, item_refused, number_got}
+use Rattle.leafreader.proofs.Forms.{form_no}
+use Rattle.formreader.specs.Frames.{times}
+use Rattle.formreader.proofs.Frames.{low_refused, high_refused, count-rest}
+use Rattle.formreader.proofs.open_count.Goals as goal
+
+pub read_high-requires : goal.read_high-requires
+read_high-requires c =
+    let w = below-is _ _ c.read_low.result _ _ c.read_low.ensures.below c.in-Is.is in
+    w.1
+
+pub overflow_cast-low : goal.overflow_cast-low
+overflow_cast-low c =
+    let w = (below-is _ _ c.read_low.result _ _ c.read_low.ensures.below c.in-Is.is).0 in
+    omega arith
+
+pub overflow_cast-high : goal.overflow_cast-high
+overflow_cast-high c =
+    let w = (below-is _ _ c.read_high.result _ _ c.read_high.ensures.below c.in-Is-read_high.is).0 in
+    omega arith
+
+pub open_path-requires : goal.open_path-requires
+open_path-requires c =
+    let w = (below-is _ _ c.read_high.result _ _ c.read_high.ensures.below c.in-Is-read_high.is).1 in
+    let p = c.requires in
+    (w, p.1, p.2, p.3, p.4, p.5, p.6, p.7)
+
+pub returns-in-No : goal.returns-in-No
+returns-in-No c =
+    let s = c.args in
+    let k = c.k-1.given in
+    let r = c.read_low in
+    (λ a h b e vs. form_no k.0.0 (low_refused s.book.now a (s.left - 1) b s.at k.0.0 (item_refused same (arg_at s.book.now a (readers_at s.book.now a (s.left - 1)) low b s.at) r.result k.0.0 (r.ensures.0 a (readers_at s.book.now a (s.left - 1)) b) k.1)) refl, (tt, refl))
+
+pub returns-in-No-read_high : goal.returns-in-No-read_high
+returns-in-No-read_high c =
+    let s = c.args in
+    let k = c.k-in-No-read_high-1.given in
+    let j = c.low-1.given in
+    let r = c.read_low in
+    let u = c.read_high in
+    let lo : ℕ = j.0.0 in
+    let mid : ℕ = j.0.1.0 in
+    (λ a h b e vs. form_no k.0.0 (high_refused s.book.now a (s.left - 1) b s.at lo mid (number_got (arg_at s.book.now a (readers_at s.book.now a (s.left - 1)) low b s.at) r.result lo mid (r.ensures.0 a (readers_at s.book.now a (s.left - 1)) b) j.1) k.0.0 (item_refused upper_number (arg_at s.book.now a (readers_at s.book.now a (s.left - 1)) high b mid) u.result k.0.0 (u.ensures.0 a (readers_at s.book.now a (s.left - 1)) b) k.1)) refl, (tt, refl))
+
+pub returns-in-Is-read_high : goal.returns-in-Is-read_high
+returns-in-Is-read_high c =
+    let s = c.args in
+    let j = c.low-1.given in
+    let i = c.high-1.given in
+    let r = c.read_low in
+    let u = c.read_high in
+    let o = c.open_path in
+    let lo : ℕ = j.0.0 in
+    let mid : ℕ = j.0.1.0 in
+    let next : ℕ = i.0.1.0 in (
+      λ a h b e vs.
+          let y = item_got upper_number (arg_at s.book.now a (readers_at s.book.now a (s.left - 1)) high b mid) u.result i.0.0 next (u.ensures.0 a (readers_at s.book.now a (s.left - 1)) b) i.1 in
+          rw (count-rest s.book.now a (s.left - 1) b s.at lo mid (number_got (arg_at s.book.now a (readers_at s.book.now a (s.left - 1)) low b s.at) r.result lo mid (r.ensures.0 a (readers_at s.book.now a (s.left - 1)) b) j.1) y.0 next y.1)
+          (o.ensures.0 a h b e (times lo y.0) refl refl (sym y.2) vs),
+      (o.ensures.1.0, o.ensures.1.1),
+    )

@@ -1,0 +1,35 @@
+use Prim.Native.Nat.{ℕ, ◌-◌, ◌≤◌, ◌<◌}
+use mathlib.Core.Path.{◌≡◌, refl}
+use mathlib.Core.Logic.{⊎_elim}
+use native.Mathlib.Omega.{arith}
+use Rattle.leafreader.proofs.Forms.{body_is}
+use Rattle.formreader.specs.Frames.{every}
+use Rattle.formreader.proofs.Frames.{word_fronted, all_rest, leaf_code}
+use Rattle.formreader.proofs.open_word.Goals as goal
+
+pub read_leaf-requires : goal.read_leaf-requires
+read_leaf-requires c =
+    let s = c.args in
+    let p = c.requires in
+    let n = c.in_default-1.rest in
+    let w = c.in_default.branch in
+    let none : (k : ℕ) → 2 ≤ k → k < 5 → s.code ≡ k → ⊥ = λ k l h e. ⊎_elim (λ x. let y = x.taken in omega arith) (λ x. let y = x.1.left in omega arith) w in
+    (p.0, p.1, p.2, p.3, p.5, p.6, p.7, p.8, p.9, leaf_code s.code p.9 (none 2 (omega arith) (omega arith)) (none 3 (omega arith) (omega arith)) (none 4 (omega arith) (omega arith)) n.0.1 n.1, p.10)
+
+pub returns-in-12 : goal.returns-in-12
+returns-in-12 c =
+    let s = c.args in
+    let o = c.open_count in
+    (λ a h b e i. rw (body_is s.book.now a (s.left - 1) s.code 12 b s.at c.in-12.is) (o.ensures.0 a h b e s.values.now), (o.ensures.1.0, (o.ensures.1.1, refl)))
+
+pub returns-in-13 : goal.returns-in-13
+returns-in-13 c =
+    let s = c.args in
+    let o = c.open_path in
+    (λ a h b e i. rw (all_rest s.book.now a (s.left - 1) s.code b s.at c.in-13.is) (o.ensures.0 a h b e every refl refl refl s.values.now), (o.ensures.1.0, (o.ensures.1.1, refl)))
+
+pub returns-in-2-to-4 : goal.returns-in-2-to-4
+returns-in-2-to-4 c =
+    let s = c.args in
+    let p = c.requires in
+    (λ a h b e i. word_fronted s.book.now a (s.left - 1) s.code s.n.paths b s.at s.cells.now s.values.now c.if-code-lt2.false c.if-code-lt5.true, ((p.4, p.5, p.6, p.0), (refl, refl)))

@@ -1,0 +1,7 @@
+use Rattle.linereader.proofs.operand_pool.Goals as goal
+
+pub returns-then-k : goal.returns-then-k
+returns-then-k c = rw c.if-k.true
+
+pub returns-else-k : goal.returns-else-k
+returns-else-k c = rw c.if-k.false

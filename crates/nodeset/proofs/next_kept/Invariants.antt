@@ -1,0 +1,12 @@
+use Prim.Native.Nat.{◌-◌}
+use mathlib.Core.Path.{◌≡◌}
+use Rattle.base.specs.Least.{next_from}
+use Rattle.nodeset.specs.Words.{has}
+use Rattle.nodeset.specs.Operations.{keeps}
+use Rattle.nodeset.proofs.next_kept.Given as goal
+
+abbrev pub invariant-loop-at : goal.invariant-loop-at
+invariant-loop-at l = next_from (λ m. keeps l.op (has l.a m) (has l.b m)) l.at l.n ≡ next_from (λ m. keeps l.op (has l.a m) (has l.b m)) l.from l.n
+
+abbrev pub decreases-loop-at : goal.decreases-loop-at
+decreases-loop-at l = l.n - l.at

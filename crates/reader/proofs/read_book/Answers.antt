@@ -1,0 +1,59 @@
+use mathlib.Core.Path.{◌≡◌, ap, ◌∙◌}
+use mathlib.Core.List.{List}
+use Prim.Native.Nat.{ℕ}
+use native.Mathlib.Omega.{arith}
+use Rattle.base.specs.Bytes.{bytes}
+use Rattle.model.specs.Books.{links, types}
+use Rattle.stores.specs.Lines.{put_name}
+use Rattle.model.specs.declared.Counts.{Counts}
+use Rattle.reader.specs.declared.LinesAnswer.{LinesAnswer}
+use Rattle.reader.proofs.Cleared.{built_names, started}
+use Rattle.reader.proofs.Outcomes.{Whole, Turned, was_read, was_turned}
+use Rattle.reader.proofs.read_book.Goals as goal
+use Rattle.reader.proofs.read_book.Goals.{After-put_built_in, After-read_lines}
+
+-- the tables before the first line
+names_then : (c : After-put_built_in) → c.put_built_in.new.0 ≡ built_names c.args.names.now
+names_then c = c.put_built_in.ensures ∙ ap (λ (l : List ℕ). put_name types 0 (bytes "langstring") (put_name links 0 (bytes "a") l)) c.clear.ensures.new_names
+
+-- what the lines left
+whole : (c : After-read_lines) (n : Counts) → c.read_lines.result ≡ LinesAnswer.Read n → Whole c.args.book.now c.requires.0 c.read_lines.result c.args.names.now c.put_built_in.new.0 c.read_lines.new.0 c.args.cells.now c.clear.new.1.0 c.read_lines.new.1.0 c.args.values.now c.clear.new.1.1.0 c.read_lines.new.1.1.0 (names_then c.before.before.before.before.before.before) c.clear.ensures.new_cells c.clear.ensures.new_values n
+whole c n e = was_read c.args.book.now c.requires.0 c.read_lines.result c.args.names.now c.put_built_in.new.0 c.read_lines.new.0 c.args.cells.now c.clear.new.1.0 c.read_lines.new.1.0 c.args.values.now c.clear.new.1.1.0 c.read_lines.new.1.1.0 (names_then c.before.before.before.before.before.before) c.clear.ensures.new_cells c.clear.ensures.new_values c.read_lines.ensures n e
+
+turned : (c : After-read_lines) (k line : ℕ) → c.read_lines.result ≡ LinesAnswer.No k line → Turned c.args.book.now c.requires.0 c.read_lines.result c.args.names.now c.put_built_in.new.0 c.read_lines.new.0 c.args.cells.now c.clear.new.1.0 c.read_lines.new.1.0 c.args.values.now c.clear.new.1.1.0 c.read_lines.new.1.1.0 (names_then c.before.before.before.before.before.before) c.clear.ensures.new_cells c.clear.ensures.new_values k line
+turned c k line e = was_turned c.args.book.now c.requires.0 c.read_lines.result c.args.names.now c.put_built_in.new.0 c.read_lines.new.0 c.args.cells.now c.clear.new.1.0 c.read_lines.new.1.0 c.args.values.now c.clear.new.1.1.0 c.read_lines.new.1.1.0 (names_then c.before.before.before.before.before.before) c.clear.ensures.new_cells c.clear.ensures.new_values c.read_lines.ensures k line e
+
+pub read_lines-requires : goal.read_lines-requires
+read_lines-requires c =
+    let s = c.args in
+    let p = c.requires in
+    let k = c.clear.auto in
+    (omega (arith, c.put_built_in.auto.names), omega arith, omega arith, started s.names.now _ s.cells.now _ s.values.now _ (names_then (goal.at.read_lines-requires c).After-put_built_in) c.clear.ensures.new_cells c.clear.ensures.new_values)
+
+pub put_counts-requires : goal.put_counts-requires
+put_counts-requires c =
+    let k = c.counts-1.given in
+    let w = whole (goal.at.put_counts-requires c).After-read_lines k.0.0 k.1 in
+    (omega (arith, c.read_lines.auto, c.clear.auto, c.requires), w.limits, w.fits)
+
+pub refusal-requires : goal.refusal-requires
+refusal-requires c =
+    let k = c.k-1.given in
+    let w = turned (goal.at.refusal-requires c).After-read_lines k.0.0 k.0.1.0 k.1 in
+    (w.least, w.greatest)
+
+pub returns-in-Read : goal.returns-in-Read
+returns-in-Read c =
+    let k = c.counts-1.given in
+    let w = whole (goal.at.returns-in-Read c).After-read_lines k.0.0 k.1 in
+    (w.answer, (w.names, (c.put_counts.ensures ∙ w.cells, w.values)))
+
+pub returns-in-No : goal.returns-in-No
+returns-in-No c =
+    let k = c.k-1.given in
+    let w = turned (goal.at.returns-in-No c).After-read_lines k.0.0 k.0.1.0 k.1 in
+    let r = c.refusal.ensures in
+    let z = c.clear-in-No.ensures in
+    let e = r.0 in
+    let f = r.1 in
+    (rw (e, f) w.answer, (z.0 ∙ w.names, (z.1.0 ∙ w.cells, z.1.1 ∙ w.values)))

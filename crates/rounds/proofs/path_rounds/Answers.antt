@@ -1,0 +1,30 @@
+-- `path_rounds` meets its contract.
+use Prim.Native.Nat.{ℕ, ◌*◌, ◌≤◌, ◌<◌}
+use mathlib.Core.Path.{refl, sym, ap, ◌∙◌, subst}
+use lib.ListN.{length}
+use Rattle.closure.specs.Rows.{leads, Within}
+use Rattle.model.specs.Limits.{max_nodes}
+use Rattle.model.specs.Rounds.{rounds}
+use Rattle.rounds.proofs.Tables.{search_room, search_rounds}
+use Rattle.rounds.proofs.path_rounds.Goals as goal
+
+pub path_rows-requires : goal.path_rows-requires
+path_rows-requires c =
+    let pre = c.requires in
+    let made = c.index_table.ensures in
+    (refl, record { room = pre.0; ok = pre.1; indexed = made.0; subjects = made.1 }, pre.3)
+
+pub search-found-requires : goal.search-found-requires
+search-found-requires c =
+    let a = c.args in
+    let pre = c.requires in
+    let rows = c.path_rows.new.0 in
+    let room = search_room a.cells.now a.e pre.1 c.path_rows.ensures in
+    subst (λ (n : ℕ). (a.v.0 < n) × (n ≤ max_nodes) × (16 * n ≤ length rows) × Within n rows) (sym c.node_count.ensures) (pre.2, room.0, room.1, room.2)
+
+pub returns : goal.returns
+returns c =
+    let a = c.args in
+    let pre = c.requires in
+    let rows = c.path_rows.new.0 in
+    c.search-found.ensures.rounds_value ∙ ap (λ (n : ℕ). rounds (leads rows) n a.v.0) c.node_count.ensures ∙ search_rounds a.cells.now a.e pre.1 c.path_rows.ensures a.v.0 pre.2

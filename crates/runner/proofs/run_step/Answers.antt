@@ -1,0 +1,21 @@
+-- `run_step` meets its contract: the step's words are stored from 16 times its number on.
+use Prim.Native.Nat.{ℕ, ◌*◌, ◌-◌}
+use mathlib.Core.List.{List}
+use mathlib.Core.Path.{refl, ap, ◌∙◌}
+use native.Mathlib.Omega.{arith}
+use lib.ListN.{length}
+use Rattle.runner.specs.Steps.{put}
+use Rattle.runner.proofs.Work.{put-tail, length-step}
+use Rattle.targets.specs.Classes.{sub_of}
+use Rattle.runner.proofs.run_step.Goals as goal
+
+pub returns : goal.returns
+returns c =
+    let a = c.args in
+    let pre = c.requires in
+    let ws : List ℕ = a.work.now in
+    let s = c.step_set-set in (
+      put-tail ws s.result.words a.k (length ws - 16 * a.k) (length-step (sub_of a.sub) a.cells.now a.values.now a.plan.now ws a.k s.ensures.0) (omega (arith, pre.1, pre.5)) refl c.store.ensures
+          ∙ ap (put ws a.k) s.ensures.0,
+      (s.ensures.1.0, s.ensures.1.1),
+    )

@@ -1,0 +1,115 @@
+-- `step_set` meets its contract, arm by arm.
+use Prim.Native.Nat.{ℕ, ◌*◌}
+use mathlib.Core.Bool.{◌&&◌, ◌||◌}
+use mathlib.Core.List.{List}
+use mathlib.Core.Path.{◌≡◌, sym, ap, ◌∙◌, subst}
+use lib.Dec.{ltb}
+use lib.ListN.{drop}
+use Rattle.nodeset.specs.Words.{has, words_of, nodes_of}
+use Rattle.plan.specs.Layout.{step_at}
+use Rattle.stepsets.specs.Ends.{RowsHeld}
+use Rattle.targets.specs.Classes.{sub_of}
+use Rattle.runner.specs.declared.Kind.{Kind}
+use Rattle.runner.specs.Kinds.{kind_of, first_after, second_after}
+use Rattle.runner.specs.Steps.{step_from}
+use Rattle.runner.proofs.Sets.{kind_set, KindOk, kind_ok, kind-from}
+use Rattle.runner.proofs.step_set.Reads as reads
+use Rattle.runner.proofs.step_set.Lts as lts
+use Rattle.tables.proofs.reads.node_count.Reads as node-count-reads
+use Rattle.runner.proofs.step_kind.Reads as step-kind-reads
+use Rattle.nodeset.proofs.NodeSet.whole.Reads as whole-reads
+use Rattle.stepsets.proofs.plain_set.Reads as plain-set-reads
+use Rattle.stepsets.proofs.both_set.Reads as both-set-reads
+use Rattle.stepsets.proofs.either_set.Reads as either-set-reads
+use Rattle.stepsets.proofs.path_set.Reads as path-set-reads
+use Rattle.stepsets.proofs.ends_set.Reads as ends-set-reads
+use Rattle.stepsets.proofs.lang_set.Reads as lang-set-reads
+use Rattle.stepsets.proofs.links_set.Reads as links-set-reads
+use Rattle.targets.proofs.target_set.Reads as target-set-reads
+use Rattle.runner.proofs.step_set.Goals as goal
+
+-- what is asked of each callee, and what it tells
+abbrev calls : lts.Claims
+calls = (node-count-reads.Asked, node-count-reads.Learnt, step-kind-reads.Asked, step-kind-reads.Learnt, whole-reads.Asked, whole-reads.Learnt, plain-set-reads.Asked, plain-set-reads.Learnt, both-set-reads.Asked, both-set-reads.Learnt, either-set-reads.Asked, either-set-reads.Learnt, path-set-reads.Asked, path-set-reads.Learnt, ends-set-reads.Asked, ends-set-reads.Learnt, lang-set-reads.Asked, lang-set-reads.Learnt, target-set-reads.Asked, target-set-reads.Learnt, links-set-reads.Asked, links-set-reads.Learnt)
+
+-- what is known of the step where the match begins, which all arms share
+abbrev Place : Type 0
+Place = lts.After-step-kind calls reads.Pre reads.Post
+
+-- the words that its kind asks for are its set; what the calls require of its kind
+words : (c : Place) {x : Kind} → c.step-kind.result ≡ x → kind_set (sub_of c.before.before.before.before.before.before.before.before.args.sub) c.before.before.before.before.before.before.before.before.args.cells.now c.before.before.before.before.before.before.before.before.args.values.now c.before.before.before.before.before.before.before.before.args.work.now x ≡ step_from (sub_of c.before.before.before.before.before.before.before.before.args.sub) c.before.before.before.before.before.before.before.before.args.cells.now c.before.before.before.before.before.before.before.before.args.values.now c.before.before.before.before.before.before.before.before.args.plan.now c.before.before.before.before.before.before.before.before.args.work.now c.before.before.before.before.before.before.before.before.args.k
+words c e = ap (kind_set (sub_of c.before.before.before.before.before.before.before.before.args.sub) c.before.before.before.before.before.before.before.before.args.cells.now c.before.before.before.before.before.before.before.before.args.values.now c.before.before.before.before.before.before.before.before.args.work.now) (sym e ∙ c.step-kind.ensures) ∙ kind-from (sub_of c.before.before.before.before.before.before.before.before.args.sub) c.before.before.before.before.before.before.before.before.args.cells.now c.before.before.before.before.before.before.before.before.args.index.now c.before.before.before.before.before.before.before.before.requires.0 c.before.before.before.before.before.before.before.before.args.values.now c.before.before.before.before.before.before.before.before.args.work.now c.before.before.before.before.before.before.before.before.args.k c.before.before.before.before.before.before.before.before.args.plan.now c.before.before.before.before.before.before.before.before.requires.2
+
+right : (c : Place) {x : Kind} → c.step-kind.result ≡ x → KindOk c.before.before.before.before.before.before.before.before.args.cells.now x
+right c e = subst (KindOk c.before.before.before.before.before.before.before.before.args.cells.now) (sym c.step-kind.ensures ∙ e) (kind_ok c.before.before.before.before.before.before.before.before.args.cells.now c.before.before.before.before.before.before.before.before.args.k c.before.before.before.before.before.before.before.before.requires.1 (step_at c.before.before.before.before.before.before.before.before.args.plan.now c.before.before.before.before.before.before.before.before.args.k) c.before.before.before.before.before.before.before.before.requires.2)
+
+-- the rows, after a step of that kind
+first_rows : (c : Place) {x : Kind} {rows : List ℕ} → c.step-kind.result ≡ x → RowsHeld c.before.before.before.before.before.before.before.before.args.cells.now (first_after x c.before.before.before.before.before.before.before.before.args.kept) rows → RowsHeld c.before.before.before.before.before.before.before.before.args.cells.now (first_after (kind_of (step_at c.before.before.before.before.before.before.before.before.args.plan.now c.before.before.before.before.before.before.before.before.args.k)) c.before.before.before.before.before.before.before.before.args.kept) rows
+first_rows c {rows = rows} e h = subst (λ (y : Kind). RowsHeld c.before.before.before.before.before.before.before.before.args.cells.now (first_after y c.before.before.before.before.before.before.before.before.args.kept) rows) (sym e ∙ c.step-kind.ensures) h
+
+second-rows : (c : Place) {x : Kind} {rows : List ℕ} → c.step-kind.result ≡ x → RowsHeld c.before.before.before.before.before.before.before.before.args.cells.now (second_after x c.before.before.before.before.before.before.before.before.args.links) rows → RowsHeld c.before.before.before.before.before.before.before.before.args.cells.now (second_after (kind_of (step_at c.before.before.before.before.before.before.before.before.args.plan.now c.before.before.before.before.before.before.before.before.args.k)) c.before.before.before.before.before.before.before.before.args.links) rows
+second-rows c {rows = rows} e h = subst (λ (y : Kind). RowsHeld c.before.before.before.before.before.before.before.before.args.cells.now (second_after y c.before.before.before.before.before.before.before.before.args.links) rows) (sym e ∙ c.step-kind.ensures) h
+
+pub plain_set-requires : goal.plain_set-requires
+plain_set-requires c = (c.requires.0, right c.before.before.before c.in-Node.is)
+
+pub both_set-requires : goal.both_set-requires
+both_set-requires c = right c.before.before.before c.in-Both.is
+
+pub either_set-requires : goal.either_set-requires
+either_set-requires c = right c.before.before.before c.in-Either.is
+
+pub path_set-requires : goal.path_set-requires
+path_set-requires c = let r = right c.before.before.before.before c.in-Path.is in (c.requires.0, r.0, r.1, r.2, c.requires.3)
+
+pub ends_set-requires : goal.ends_set-requires
+ends_set-requires c = let r = right c.before.before.before.before.before c.in-Ends.is in (c.requires.0, r.0, r.1, c.requires.3, c.requires.4)
+
+pub lang_set-requires : goal.lang_set-requires
+lang_set-requires c = let r = right c.before.before.before.before c.in-Lang.is in (c.requires.0, r.0, r.1, c.requires.3)
+
+pub target_set-requires : goal.target_set-requires
+target_set-requires c = (c.requires.0, right c.before.before.before c.in-Selected.is)
+
+pub links_set-requires : goal.links_set-requires
+links_set-requires c = let r = right c.before.before.before c.in-Links.is in (c.requires.0, r.0, r.1, r.2)
+
+pub returns-in-Whole : goal.returns-in-Whole
+unfolding kind_set first_after second_after
+returns-in-Whole c = (c.whole.ensures ∙ ap (λ (m : ℕ). words_of (λ v. ltb v m) 16) c.node_count-n.ensures ∙ words c.before.before.before c.in-Whole.is, (first_rows c.before.before.before c.in-Whole.is c.requires.3, second-rows c.before.before.before c.in-Whole.is c.requires.4))
+
+pub returns-in-Empty : goal.returns-in-Empty
+unfolding kind_set first_after second_after
+returns-in-Empty c = (words c.before.before c.in-Empty.is, (first_rows c.before.before c.in-Empty.is c.requires.3, second-rows c.before.before c.in-Empty.is c.requires.4))
+
+pub returns-in-Node : goal.returns-in-Node
+unfolding kind_set first_after second_after
+returns-in-Node c = (c.plain_set.ensures ∙ words c.before.before.before.before c.in-Node.is, (first_rows c.before.before.before.before c.in-Node.is c.requires.3, second-rows c.before.before.before.before c.in-Node.is c.requires.4))
+
+pub returns-in-Both : goal.returns-in-Both
+unfolding kind_set first_after second_after
+returns-in-Both c = (c.both_set.ensures ∙ ap (nodes_of (λ v. has (drop (16 * c.in-Both.i) c.args.work.now) v && has (drop (16 * c.in-Both.j) c.args.work.now) v)) c.node_count-n.ensures ∙ words c.before.before.before.before c.in-Both.is, (first_rows c.before.before.before.before c.in-Both.is c.requires.3, second-rows c.before.before.before.before c.in-Both.is c.requires.4))
+
+pub returns-in-Either : goal.returns-in-Either
+unfolding kind_set first_after second_after
+returns-in-Either c = (c.either_set.ensures ∙ ap (nodes_of (λ v. has (drop (16 * c.in-Either.i) c.args.work.now) v || has (drop (16 * c.in-Either.j) c.args.work.now) v)) c.node_count-n.ensures ∙ words c.before.before.before.before c.in-Either.is, (first_rows c.before.before.before.before c.in-Either.is c.requires.3, second-rows c.before.before.before.before c.in-Either.is c.requires.4))
+
+pub returns-in-Path : goal.returns-in-Path
+unfolding kind_set first_after second_after
+returns-in-Path c = (c.path_set.ensures.words_value ∙ words c.before.before.before.before.before.before.before c.in-Path.is, (first_rows c.before.before.before.before.before.before.before c.in-Path.is c.path_set.ensures.rows_held, second-rows c.before.before.before.before.before.before.before c.in-Path.is c.requires.4))
+
+pub returns-in-Ends : goal.returns-in-Ends
+unfolding kind_set first_after second_after
+returns-in-Ends c = (c.ends_set.ensures.words_value ∙ words c.before.before.before.before.before.before.before.before.before.before c.in-Ends.is, (first_rows c.before.before.before.before.before.before.before.before.before.before c.in-Ends.is c.ends_set.ensures.rows_held, second-rows c.before.before.before.before.before.before.before.before.before.before c.in-Ends.is c.ends_set.ensures.rows_held_2))
+
+pub returns-in-Lang : goal.returns-in-Lang
+unfolding kind_set first_after second_after
+returns-in-Lang c = (c.lang_set.ensures.words_value ∙ words c.before.before.before.before.before.before.before c.in-Lang.is, (first_rows c.before.before.before.before.before.before.before c.in-Lang.is c.lang_set.ensures.rows_held, second-rows c.before.before.before.before.before.before.before c.in-Lang.is c.requires.4))
+
+pub returns-in-Selected : goal.returns-in-Selected
+unfolding kind_set first_after second_after
+returns-in-Selected c = (c.target_set.ensures ∙ words c.before.before.before.before c.in-Selected.is, (first_rows c.before.before.before.before c.in-Selected.is c.requires.3, second-rows c.before.before.before.before c.in-Selected.is c.requires.4))
+
+pub returns-in-Links : goal.returns-in-Links
+unfolding kind_set first_after second_after
+returns-in-Links c = (c.links_set.ensures ∙ words c.before.before.before.before c.in-Links.is, (first_rows c.before.before.before.before c.in-Links.is c.requires.3, second-rows c.before.before.before.before c.in-Links.is c.requires.4))

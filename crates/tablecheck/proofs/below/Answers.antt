@@ -1,0 +1,4 @@
+use Rattle.tablecheck.proofs.below.Goals as goal
+
+pub returns : goal.returns
+returns c = cc

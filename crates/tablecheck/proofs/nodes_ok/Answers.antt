@@ -1,0 +1,24 @@
+use Prim.Native.Nat.{◌-◌, zero-le}
+use mathlib.Core.Bool.{true}
+use native.Mathlib.Omega.{arith}
+use Rattle.tables.specs.Layout.{node_count}
+use Rattle.tables.specs.WellFormed.{node_ok}
+use Rattle.tablecheck.proofs.Columns.{passed_none, passed_next, passed_end}
+use Rattle.tablecheck.proofs.nodes_ok.Goals as goal
+
+pub loop-v-init : goal.loop-v-init
+loop-v-init c = (zero-le, passed_none true _)
+
+pub overflow_cast-v : goal.overflow_cast-v
+overflow_cast-v c = omega (arith, c.loop-v-test, c.node_count-n.ensures, (c.type_inv.cells 0).fits)
+
+pub loop-v-preserved : goal.loop-v-preserved
+loop-v-preserved c =
+    let l = c.before.before in
+    (omega arith, passed_next true (node_ok l.before.before.before.args.cells.now) l.loop.v l.loop.invariant.1 c.node_ok-ok.ensures)
+
+pub returns : goal.returns
+returns c =
+    let l = c.before in
+    let s = l.before.before.before in
+    passed_end true (node_ok s.args.cells.now) l.loop.v (node_count s.args.cells.now) (omega (arith, l.before.node-count.ensures)) l.loop.invariant.1

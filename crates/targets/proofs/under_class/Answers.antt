@@ -1,0 +1,35 @@
+-- `under_class` meets its contract.
+use Prim.Native.Nat.{ℕ, ◌*◌, ◌≤◌, ◌<◌}
+use mathlib.Core.Path.{refl, sym, ap, ◌∙◌, subst}
+use lib.ListN.{length}
+use Rattle.nodeset.specs.Words.{words_of}
+use Rattle.closure.specs.Rows.{leads, Within}
+use Rattle.model.specs.Limits.{max_nodes}
+use Rattle.model.specs.Repeats.{star}
+use Rattle.tables.specs.Layout.{node_count}
+use Rattle.rows.proofs.Rows.{empty-room}
+use Rattle.targets.proofs.Classes.{few, link-known, link-rows, search_room, under-found}
+use Rattle.targets.proofs.under_class.Goals as goal
+
+pub all_table_ends-requires : goal.all_table_ends-requires
+all_table_ends-requires c =
+    let a = c.args in
+    let pre = c.requires in
+    let room = empty-room (node_count a.cells.now) (few a.cells.now a.index.now pre.0) refl in
+    (pre.0, link-known a.cells.now a.link, room.0, room.1)
+
+pub search-found-requires : goal.search-found-requires
+search-found-requires c =
+    let a = c.args in
+    let pre = c.requires in
+    let rows = c.all_table_ends.new.0 in
+    let room = search_room a.cells.now a.index.now pre.0 a.link.0 (link-rows a.cells.now a.link refl c.all_table_ends.ensures) in
+    subst (λ (n : ℕ). (a.c.0 < n) × (n ≤ max_nodes) × (16 * n ≤ length rows) × Within n rows) (sym c.node_count.ensures) (pre.1, room.0, room.1, room.2)
+
+pub returns : goal.returns
+returns c =
+    let a = c.args in
+    let pre = c.requires in
+    let rows = c.all_table_ends.new.0 in
+    c.search-found.ensures.words_value ∙ ap (λ (n : ℕ). words_of (star (leads rows) n a.c.0) 16) c.node_count.ensures
+    ∙ under-found a.cells.now a.index.now pre.0 a.link.0 (link-rows a.cells.now a.link refl c.all_table_ends.ensures) a.c.0 pre.1

@@ -1,0 +1,22 @@
+use Prim.Native.Nat.{◌-◌}
+use mathlib.Core.Path.{refl, sym, ◌∙◌}
+use Rattle.text.proofs.Items.{item_end_out, item_end-edge, item_end-step}
+use Rattle.text.proofs.item_end.Goals as goal
+
+pub loop-i-init : goal.loop-i-init
+loop-i-init c = refl
+
+pub returns-then-is_edge : goal.returns-then-is_edge
+returns-then-is_edge c =
+    let l = c.before.before.before.before in
+    sym (l.loop.invariant ∙ item_end-edge l.before.before.args.book.now l.loop.i c.loop-i-test.true (sym c.is_edge.ensures ∙ c.if-is_edge.true))
+
+pub loop-i-preserved : goal.loop-i-preserved
+loop-i-preserved c =
+    let l = c.before.before.before.before in
+    l.loop.invariant ∙ item_end-step l.before.before.args.book.now l.loop.i c.loop-i-test.true (sym c.is_edge.ensures ∙ c.if-is_edge.false)
+
+pub returns : goal.returns
+returns c =
+    let l = c.before in
+    sym (l.loop.invariant ∙ item_end_out l.before.before.args.book.now l.loop.i c.loop-i-test.false)

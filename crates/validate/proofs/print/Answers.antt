@@ -1,0 +1,13 @@
+use Prim.Native.Nat.{◌≤◌}
+use mathlib.Core.Path.{sym, subst}
+use lib.ListN.{length}
+use lib.Seq.{length-take-le}
+use Rattle.model.specs.Answers.{value_or}
+use Rattle.report.specs.Answers.{answer_of}
+use Rattle.validate.proofs.print.Goals as goal
+
+pub slice_bounds-write_all-end : goal.slice_bounds-write_all-end
+slice_bounds-write_all-end c =
+    let a = c.args in
+    let k = c.written-1.given in
+    sym (length-take-le k.0.0 a.page.now (subst (λ w. value_or 0 (answer_of w) ≤ length a.page.now) k.1 c.requires))

@@ -1,0 +1,62 @@
+use Prim.Native.Nat.{ℕ}
+use mathlib.Core.Path.{◌≡◌, refl, sym, ap, subst, ◌∙◌}
+use mathlib.Core.List.{List, ◌++◌}
+use mathlib.Core.Bool.{true}
+use lib.ListN.{length, drop}
+use borrow.Author.Tests.{not-true, not-false}
+use Rattle.model.specs.Answers.{Answer, value, refusal}
+use Rattle.model.specs.Books.{Book}
+use Rattle.model.specs.Refusals.{code_of, line_of}
+use Rattle.tables.specs.Sizes.{long_enough}
+use Rattle.grammar.specs.Reading.{reading}
+use Rattle.plan.specs.Layout.{plan_count}
+use Rattle.translation.specs.Compile.{steps_of, plan_of}
+use Rattle.runner.specs.Run.{filled}
+use Rattle.validation.specs.Lent.{Lent, lent, validate_long}
+use Rattle.validation.proofs.Whole.{room, Meets, too_short, turned_down, taken, accepted, was_refused, names-left, cells_left_lem, values-left, lent_same, cells_of_lem, values_of_lem, sub_of_lem, well_formed_of, rows_of, lengths_of, long_kept}
+use Rattle.validation.proofs.validate.Goals as goal
+
+pub returns-then-not-long_enough : goal.returns-then-not-long_enough
+returns-then-not-long_enough c = let a = c.args in too_short a.book.now (lent a.names.now a.cells.now a.values.now a.plan.now a.work.now a.lists.now a.lengths.now) (sym c.long_enough.ensures ∙ not-true c.long_enough.result c.if-not-long_enough.true-raw)
+
+pub run_tables-requires : goal.run_tables-requires
+run_tables-requires c =
+    let a = c.args in
+    let s : List ℕ = a.book.now in
+    let l : Lent = (lent a.names.now a.cells.now a.values.now a.plan.now a.work.now a.lists.now a.lengths.now) in
+    let e : validate_long l ≡ true = (sym c.long_enough.ensures ∙ not-false c.long_enough.result c.if-not-long_enough.false-raw) in
+    let x = c.read in
+    let t = accepted s l e x.result c.in-Accepted.field-0 x.ensures.0 c.in-Accepted.is x.ensures.1.0 x.ensures.1.1.0 x.ensures.1.1.1 in
+    let m = room l e in
+    (long_kept a.names.now x.new.1.0 a.cells.now x.new.1.1.0 a.values.now x.new.1.1.1.0 m.tables x.auto.1.0 x.auto.1.1.0 x.auto.1.1.1.0, well_formed_of t, m.plan, m.work, m.lists, m.lengths)
+
+pub returns-in-Refused : goal.returns-in-Refused
+returns-in-Refused c =
+    let a = c.args in
+    let s : List ℕ = a.book.now in
+    let l : Lent = (lent a.names.now a.cells.now a.values.now a.plan.now a.work.now a.lists.now a.lengths.now) in
+    let e : validate_long l ≡ true = (sym c.long_enough.ensures ∙ not-false c.long_enough.result c.if-not-long_enough.false-raw) in
+    let t : long_enough a.names.now a.cells.now a.values.now ≡ true = (room l e).tables in
+    let x = c.read in
+    let r = c.in-Refused.r in
+    let q : reading s ≡ refusal (code_of r) (line_of r) = was_refused s a.names.now a.cells.now a.values.now t x.result r x.ensures.0 c.in-Refused.is in
+    let o : Answer Book = refusal (code_of r) (line_of r) in
+    subst (Meets s l (refusal (code_of r) (line_of r))) (sym (lent_same (x.ensures.1.0 ∙ names-left s a.names.now a.cells.now a.values.now t o q) (x.ensures.1.1.0 ∙ cells_left_lem s a.names.now a.cells.now a.values.now t o q) (x.ensures.1.1.1 ∙ values-left s a.names.now a.cells.now a.values.now t o q) refl refl refl refl)) (turned_down s l e (code_of r) (line_of r) q)
+
+pub returns-in-Accepted : goal.returns-in-Accepted
+returns-in-Accepted c =
+    let a = c.args in
+    let s : List ℕ = a.book.now in
+    let l : Lent = (lent a.names.now a.cells.now a.values.now a.plan.now a.work.now a.lists.now a.lengths.now) in
+    let e : validate_long l ≡ true = (sym c.long_enough.ensures ∙ not-false c.long_enough.result c.if-not-long_enough.false-raw) in
+    let x = c.read in
+    let t = accepted s l e x.result c.in-Accepted.field-0 x.ensures.0 c.in-Accepted.is x.ensures.1.0 x.ensures.1.1.0 x.ensures.1.1.1 in
+    let y = c.run_tables in
+    let E = cells_of_lem t in
+    let F = values_of_lem t in
+    let G = sub_of_lem t in
+    let n = y.ensures.0 ∙ ap (λ k. length (steps_of k)) E in
+    let m = lent_same t.names t.cells t.values (y.ensures.1.0 ∙ ap (λ k. plan_of k ++ drop plan_count a.plan.now) E) (y.ensures.1.1.0 ∙ (λ j. filled (G j) (E j) (F j) (plan_of (E j)) a.work.now)) (y.ensures.1.1.1.0 ∙ rows_of t a.lists.now) (y.ensures.1.1.1.1 ∙ lengths_of t a.lengths.now) in
+    let n₁ = sym n in
+    let m₁ = sym m in
+    subst (λ (z : Answer ℕ × Lent). Meets s l z.0 z.1) (λ j. (value (n₁ j), m₁ j)) (taken s l e t.book t.read)
