@@ -20,7 +20,7 @@ use Rattle.bodyreader.proofs.shape_line.Goals as goal
 use Rattle.bodyreader.proofs.shape_line.Goals.{After-read_form}
 
 -- the form after the name, as it was read
-read : (c : After-read_form) (a : Book) → Held c.args.names.now c.args.counts a → (w : Name) → FormRead (arg_at c.args.book.now a (readers_at c.args.book.now a max_within) form (after (new shapes) w (begun_above a)) c.in-Is.end) (begun_of (ended_now c.args.counts)) c.args.cells.now c.read_form.new.0 c.args.values.now c.read_form.new.1.0 c.read_form.result
+read : (c : After-read_form) (a : Book) → Held c.args.names.now c.args.counts a → (w : Name) → FormRead (arg_at c.args.book.now a (readers_at c.args.book.now a max_within) form (after (new shapes) w (begun_above a)) c.in-Is.end) (begun_of (ended_now c.args.counts)) c.args.cells.now c.read_form.new.cells c.args.values.now c.read_form.new.values c.read_form.result
 read c a h w =
     let s = c.args in
     let e = begun_after s.names.now s.counts a h w in

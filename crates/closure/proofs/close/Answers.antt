@@ -24,7 +24,7 @@ pub loop-j-preserved : goal.loop-j-preserved
 loop-j-preserved c =
     let a = c.args in
     let t = c.loop-j in
-    (search rules, subst (λ (i : ℕ). Closing a.n i a.rows.now c.pass.new.0) (let z : 64 * t.j + 64 ≡ 64 * (t.j + 1) = omega arith in z) (closing-on a.n (64 * t.j) (64 * t.j + 64) a.rows.now t.rows c.pass.new.0 t.invariant.1 c.pass.ensures))
+    (search rules, subst (λ (i : ℕ). Closing a.n i a.rows.now c.pass.new.rows) (let z : 64 * t.j + 64 ≡ 64 * (t.j + 1) = omega arith in z) (closing-on a.n (64 * t.j) (64 * t.j + 64) a.rows.now t.rows c.pass.new.rows t.invariant.1 c.pass.ensures))
 
 pub shape_of-rows : goal.shape_of-rows
 shape_of-rows c = c.loop-j.invariant.1.long

@@ -29,4 +29,4 @@ returns c =
     let a = c.args in
     let pre = c.requires in
     let done = c.close_block.ensures in
-    closing_block a.n (64 * a.j) c.least-end.result a.rows.now c.close_block.new.0 (record { few = pre.0.few; words = omega (arith, pre.0.words, done.0.long) }) (block_of a.n (64 * a.j) c.least-end.result pre.1 c.least-end.ensures) done.0 done.1 c.spread_block.ensures
+    closing_block a.n (64 * a.j) c.least-end.result a.rows.now c.close_block.new.rows (record { few = pre.0.few; words = omega (arith, pre.0.words, done.0.long) }) (block_of a.n (64 * a.j) c.least-end.result pre.1 c.least-end.ensures) done.0 done.1 c.spread_block.ensures

@@ -35,57 +35,57 @@ read c =
 
 pub returns-in-0 : goal.returns-in-0
 unfolding numbers_of
-returns-in-0 c = arm_top (read c.before.before.before.before.before) c.two.new.0 c.two.result c.in-0.is c.two.ensures
+returns-in-0 c = arm_top (read c.before.before.before.before.before) c.two.new.plan c.two.result c.in-0.is c.two.ensures
 
 pub returns-in-1 : goal.returns-in-1
-returns-in-1 c = arm_is (read c.before.before.before.before.before) c.is_steps.new.0 c.is_steps.result c.in-1.is c.is_steps.ensures
+returns-in-1 c = arm_is (read c.before.before.before.before.before) c.is_steps.new.plan c.is_steps.result c.in-1.is c.is_steps.ensures
 
 pub returns-in-2 : goal.returns-in-2
 returns-in-2 c = arm_shape (read c.before.before) (read c.before.before).ps c.same_steps.result c.in-2.is refl c.same_steps.ensures.0 c.same_steps.ensures.1 c.same_steps.ensures.2
 
 pub returns-in-3 : goal.returns-in-3
 unfolding numbers_of
-returns-in-3 c = arm_conj (read c.before.before.before.before.before) c.parts_steps.new.0 c.parts_steps.result c.in-3.is c.parts_steps.ensures
+returns-in-3 c = arm_conj (read c.before.before.before.before.before) c.parts_steps.new.plan c.parts_steps.result c.in-3.is c.parts_steps.ensures
 
 pub returns-in-4 : goal.returns-in-4
 unfolding numbers_of
-returns-in-4 c = arm_disj (read c.before.before.before.before.before) c.parts_steps-in-4.new.0 c.parts_steps-in-4.result c.in-4.is c.parts_steps-in-4.ensures
+returns-in-4 c = arm_disj (read c.before.before.before.before.before) c.parts_steps-in-4.new.plan c.parts_steps-in-4.result c.in-4.is c.parts_steps-in-4.ensures
 
 pub returns-in-5 : goal.returns-in-5
 returns-in-5 c = arm_neg (read c.before.before) (read c.before.before).ps c.swapped.result c.in-5.is refl c.swapped.ensures.0 c.swapped.ensures.1 c.swapped.ensures.2
 
 pub returns-in-13 : goal.returns-in-13
-returns-in-13 c = arm_count (read c.before.before.before.before.before) c.count_entry.new.0 c.count_entry.result c.in-13.is c.count_entry.ensures
+returns-in-13 c = arm_count (read c.before.before.before.before.before) c.count_entry.new.plan c.count_entry.result c.in-13.is c.count_entry.ensures
 
 pub returns-in-14 : goal.returns-in-14
-returns-in-14 c = arm_all (read c.before.before.before.before.before) c.all_entry.new.0 c.all_entry.result c.in-14.is c.all_entry.ensures
+returns-in-14 c = arm_all (read c.before.before.before.before.before) c.all_entry.new.plan c.all_entry.result c.in-14.is c.all_entry.ensures
 
 pub returns-in-15 : goal.returns-in-15
 unfolding numbers_of
-returns-in-15 c = arm_equal (read c.before.before.before.before.before) c.link_steps.new.0 c.link_steps.result c.in-15.is c.link_steps.ensures
+returns-in-15 c = arm_equal (read c.before.before.before.before.before) c.link_steps.new.plan c.link_steps.result c.in-15.is c.link_steps.ensures
 
 pub returns-in-16 : goal.returns-in-16
 unfolding numbers_of
-returns-in-16 c = arm_apart (read c.before.before.before.before.before) c.link_steps-in-16.new.0 c.link_steps-in-16.result c.in-16.is c.link_steps-in-16.ensures
+returns-in-16 c = arm_apart (read c.before.before.before.before.before) c.link_steps-in-16.new.plan c.link_steps-in-16.result c.in-16.is c.link_steps-in-16.ensures
 
 pub returns-in-17 : goal.returns-in-17
 unfolding numbers_of
-returns-in-17 c = arm_closed (read c.before.before.before.before.before) c.own_steps.new.0 c.own_steps.result c.in-17.is c.own_steps.ensures
+returns-in-17 c = arm_closed (read c.before.before.before.before.before) c.own_steps.new.plan c.own_steps.result c.in-17.is c.own_steps.ensures
 
 pub returns-in-18 : goal.returns-in-18
 unfolding numbers_of
-returns-in-18 c = arm_less (read c.before.before.before.before.before) c.link_steps-in-18.new.0 c.link_steps-in-18.result c.in-18.is c.link_steps-in-18.ensures
+returns-in-18 c = arm_less (read c.before.before.before.before.before) c.link_steps-in-18.new.plan c.link_steps-in-18.result c.in-18.is c.link_steps-in-18.ensures
 
 pub returns-in-19 : goal.returns-in-19
 unfolding numbers_of
-returns-in-19 c = arm_lesseq (read c.before.before.before.before.before) c.link_steps-in-19.new.0 c.link_steps-in-19.result c.in-19.is c.link_steps-in-19.ensures
+returns-in-19 c = arm_lesseq (read c.before.before.before.before.before) c.link_steps-in-19.new.plan c.link_steps-in-19.result c.in-19.is c.link_steps-in-19.ensures
 
 pub returns-in-20 : goal.returns-in-20
-returns-in-20 c = arm_onelang (read c.before.before.before.before.before) c.path_steps.new.0 c.path_steps.result c.in-20.is c.path_steps.ensures
+returns-in-20 c = arm_onelang (read c.before.before.before.before.before) c.path_steps.new.plan c.path_steps.result c.in-20.is c.path_steps.ensures
 
 pub returns-in-6-to-12 : goal.returns-in-6-to-12
 unfolding numbers_of
-returns-in-6-to-12 c = arm_test (read c.before.before.before.before.before.before) c.own_steps-in-6-to-12.new.0 c.own_steps-in-6-to-12.result (nots_past _ c.form_code-code.result 0 codes.form_kind zero-le c.in_default-1.rest.0.0.0.0.0.0.0.0) c.if-code-lt13.true c.own_steps-in-6-to-12.ensures
+returns-in-6-to-12 c = arm_test (read c.before.before.before.before.before.before) c.own_steps-in-6-to-12.new.plan c.own_steps-in-6-to-12.result (nots_past _ c.form_code-code.result 0 codes.form_kind zero-le c.in_default-1.rest.0.0.0.0.0.0.0.0) c.if-code-lt13.true c.own_steps-in-6-to-12.ensures
 
 pub returns-in-21-to-65535 : goal.returns-in-21-to-65535
 returns-in-21-to-65535 c = arm_unknown (read c.before.before) (read c.before.before).ps (record { next = (read c.before.before).n; keep = 0; breaking = 0 }) (nots_past _ c.form_code-code.result codes.form_count 8 c.if-code-lt13.false c.in_default-1.rest) refl refl refl refl

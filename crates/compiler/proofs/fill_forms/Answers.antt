@@ -25,7 +25,7 @@ pub bounds-breaks-e : goal.bounds-breaks-e
 bounds-breaks-e c = omega (arith, c.requires.0.forms)
 
 pub loop-e-preserved : goal.loop-e-preserved
-loop-e-preserved c = let a = c.args in let l = c.loop-e in (omega arith, l.invariant.1, c.compile_entry-out.auto.plan ∙ l.invariant.2, length-set l.breaks _ _ ∙ l.invariant.3, length-set l.keeps _ _ ∙ l.invariant.4, forms-more a.cells.now a.plan.now l.plan c.compile_entry-out.new.0 l.keeps l.breaks l.e l.n c.compile_entry-out.result.next c.compile_entry-out.result.keep c.compile_entry-out.result.breaking l.invariant.5 l.invariant.6 c.compile_entry-out.ensures (omega (arith, c.requires.0.forms)), keeps-more a.cells.now a.plan.now l.plan c.compile_entry-out.new.0 l.keeps l.breaks l.e l.n c.compile_entry-out.result.next c.compile_entry-out.result.keep c.compile_entry-out.result.breaking l.invariant.5 l.invariant.6 c.compile_entry-out.ensures (omega (arith, c.requires.0.forms)))
+loop-e-preserved c = let a = c.args in let l = c.loop-e in (omega arith, l.invariant.1, c.compile_entry-out.auto.plan ∙ l.invariant.2, length-set l.breaks _ _ ∙ l.invariant.3, length-set l.keeps _ _ ∙ l.invariant.4, forms-more a.cells.now a.plan.now l.plan c.compile_entry-out.new.plan l.keeps l.breaks l.e l.n c.compile_entry-out.result.next c.compile_entry-out.result.keep c.compile_entry-out.result.breaking l.invariant.5 l.invariant.6 c.compile_entry-out.ensures (omega (arith, c.requires.0.forms)), keeps-more a.cells.now a.plan.now l.plan c.compile_entry-out.new.plan l.keeps l.breaks l.e l.n c.compile_entry-out.result.next c.compile_entry-out.result.keep c.compile_entry-out.result.breaking l.invariant.5 l.invariant.6 c.compile_entry-out.ensures (omega (arith, c.requires.0.forms)))
 
 pub returns : goal.returns
 returns c = let a = c.args in let q : c.loop-e.e ≡ form_count a.cells.now = omega arith in subst (λ (m : ℕ). FormsAdded a.cells.now a.plan.now c.loop-e.plan m c.loop-e.n c.loop-e.breaks) q c.loop-e.invariant.5

@@ -27,7 +27,7 @@ pub overflow_add-n : goal.overflow_add-n
 overflow_add-n c = omega (arith, c.requires.0.rules, c.requires.0.forms, c.loop-r.invariant.3, steps-few c.args.cells.now c.loop-r.r)
 
 pub loop-r-preserved : goal.loop-r-preserved
-loop-r-preserved c = let a = c.args in let l = c.loop-r in (omega arith, l.invariant.1, c.rule_steps.auto.plan ∙ l.invariant.2, rule_next a.cells.now l.r l.n l.invariant.3, λ t e. rule_more a.cells.now t l.plan c.rule_steps.new.0 l.r l.n (get_or a.breaks.now (root_at a.cells.now (rule_shape_at a.cells.now l.r)) 0) (omega (arith, c.requires.0.rules)) (omega (arith, c.requires.0.rules, c.requires.0.forms, c.loop-r.invariant.3, steps-few c.args.cells.now c.loop-r.r)) l.invariant.3 (c.requires.2 (root_at a.cells.now (rule_shape_at a.cells.now l.r))) (c.rule_steps.ensures ∙ ap (λ (i : ℕ). rule_stored a.cells.now l.plan i l.n (get_or a.breaks.now (root_at a.cells.now (rule_shape_at a.cells.now i)) 0)) c.narrow.ensures) (l.invariant.4 t e))
+loop-r-preserved c = let a = c.args in let l = c.loop-r in (omega arith, l.invariant.1, c.rule_steps.auto.plan ∙ l.invariant.2, rule_next a.cells.now l.r l.n l.invariant.3, λ t e. rule_more a.cells.now t l.plan c.rule_steps.new.plan l.r l.n (get_or a.breaks.now (root_at a.cells.now (rule_shape_at a.cells.now l.r)) 0) (omega (arith, c.requires.0.rules)) (omega (arith, c.requires.0.rules, c.requires.0.forms, c.loop-r.invariant.3, steps-few c.args.cells.now c.loop-r.r)) l.invariant.3 (c.requires.2 (root_at a.cells.now (rule_shape_at a.cells.now l.r))) (c.rule_steps.ensures ∙ ap (λ (i : ℕ). rule_stored a.cells.now l.plan i l.n (get_or a.breaks.now (root_at a.cells.now (rule_shape_at a.cells.now i)) 0)) c.narrow.ensures) (l.invariant.4 t e))
 
 pub returns : goal.returns
 returns c = let cs : List ℕ = c.args.cells.now in let q : c.loop-r.r ≡ rule_count cs = omega arith in (c.loop-r.invariant.3 ∙ ap (λ (m : ℕ). length (steps_to cs m)) q, λ t e. c.loop-r.invariant.4 t e ∙ ap (λ (m : ℕ). laid t [] (values (rule_step cs) m) (steps_to cs m)) q)

@@ -42,7 +42,7 @@ pub overflow_add-k : goal.overflow_add-k
 overflow_add-k c = omega (arith, c.search-test, room (goal.at.overflow_add-k c).In-search)
 
 pub loop-k-init : goal.loop-k-init
-loop-k-init c = (c.search.invariant.0, omega arith, λ vs. clear_begins (alike c.args.cells.now vs) c.gather-count.new.0 c.search.i)
+loop-k-init c = (c.search.invariant.0, omega arith, λ vs. clear_begins (alike c.args.cells.now vs) c.gather-count.new.into c.search.i)
 
 pub offset_bounds-ends-k : goal.offset_bounds-ends-k
 offset_bounds-ends-k c = omega (arith, c.loop-k-test, room (goal.at.offset_bounds-ends-k c).In-search)
@@ -52,12 +52,12 @@ bounds-ends-k c = omega (arith, c.loop-k-test, room (goal.at.bounds-ends-k c).In
 
 -- what is asked of the pair
 asked : (c : After-same_language) (vs : List ℤ)
-    → c.same_language.result ≡ alike c.args.cells.now vs (get_or c.gather-count.new.0 c.search.i 0) (get_or c.gather-count.new.0 c.loop-k.k 0)
+    → c.same_language.result ≡ alike c.args.cells.now vs (get_or c.gather-count.new.into c.search.i 0) (get_or c.gather-count.new.into c.loop-k.k 0)
 asked c vs =
     let cs = c.args.cells.now in
     let i = c.search.invariant in
-    let x : ℕ = get_or c.gather-count.new.0 c.search.i 0 in
-    let y : ℕ = get_or c.gather-count.new.0 c.loop-k.k 0 in
+    let x : ℕ = get_or c.gather-count.new.into c.search.i 0 in
+    let y : ℕ = get_or c.gather-count.new.into c.loop-k.k 0 in
     c.same_language.ensures
     ∙ (λ j. c.has_language-known.ensures j && (eqb (kind_at cs y) codes.node_words && eqb (c.node_lang-lang.ensures j) (lang_at cs y)))
     ∙ lang_test cs vs x y (omega (arith, i.1, (i.2.inside c.search.i c.search-test.true).0)) (omega (arith, i.1, (i.2.inside c.loop-k.k c.loop-k-test.true).0))
@@ -68,7 +68,7 @@ overflow_add-k-in-loop-k c = omega (arith, c.loop-k-test, room (goal.at.overflow
 pub loop-k-preserved : goal.loop-k-preserved
 loop-k-preserved c =
     let l = c.loop-k in
-    (l.invariant.0, omega (arith, l.invariant.1), λ vs. clear_more (alike c.args.cells.now vs) c.gather-count.new.0 c.search.i l.k (l.invariant.2 vs) (sym (asked (goal.at.loop-k-preserved c).After-same_language vs) ∙ c.if-same_language.false))
+    (l.invariant.0, omega (arith, l.invariant.1), λ vs. clear_more (alike c.args.cells.now vs) c.gather-count.new.into c.search.i l.k (l.invariant.2 vs) (sym (asked (goal.at.loop-k-preserved c).After-same_language vs) ∙ c.if-same_language.false))
 
 pub overflow_add-i : goal.overflow_add-i
 overflow_add-i c = omega (arith, c.search-test, room (goal.at.overflow_add-i c).In-search)
@@ -76,7 +76,7 @@ overflow_add-i c = omega (arith, c.search-test, room (goal.at.overflow_add-i c).
 pub search-preserved : goal.search-preserved
 search-preserved c =
     let cs = c.args.cells.now in
-    let ends : List ℕ = c.gather-count.new.0 in
+    let ends : List ℕ = c.gather-count.new.into in
     let s = c.search in
     let l = c.loop-k in
     let count = c.gather-count.result in
@@ -89,7 +89,7 @@ returns-after-search c =
     let s = c.search in
     let done : s.i ≡ c.gather-count.result = omega (arith, s.invariant.3, c.search-test) in
     λ vs. ap pair_found s.invariant.0
-    ∙ sym (sym (clash-ordered cs vs (λ w. has a.a.now w && has a.b.now w)) ∙ ap (first_pair (among (λ w. has a.a.now w && has a.b.now w) (λ w. has a.a.now w && has a.b.now w) (ordered (alike cs vs)))) (sym s.invariant.1) ∙ clash_miss (λ w. has a.a.now w && has a.b.now w) (alike cs vs) c.node_count-n.result s.invariant.2 (subst (λ (k : ℕ). every (λ j. clear_of (alike cs vs) c.gather-count.new.0 j c.gather-count.result) k ≡ true) done (s.invariant.4 vs)))
+    ∙ sym (sym (clash-ordered cs vs (λ w. has a.a.now w && has a.b.now w)) ∙ ap (first_pair (among (λ w. has a.a.now w && has a.b.now w) (λ w. has a.a.now w && has a.b.now w) (ordered (alike cs vs)))) (sym s.invariant.1) ∙ clash_miss (λ w. has a.a.now w && has a.b.now w) (alike cs vs) c.node_count-n.result s.invariant.2 (subst (λ (k : ℕ). every (λ j. clear_of (alike cs vs) c.gather-count.new.into j c.gather-count.result) k ≡ true) done (s.invariant.4 vs)))
 
 pub returns-then-same_language : goal.returns-then-same_language
 returns-then-same_language c =

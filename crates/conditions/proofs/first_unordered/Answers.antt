@@ -64,13 +64,13 @@ bounds-seconds-k c = room (goal.at.bounds-seconds-k c).In-loop-k
 -- what is asked of the pair
 asked : (c : After-breaks_order)
     → let a = c.args in
-    c.breaks_order.result ≡ unordered a.order (term_at a.cells.now a.values.now c.search.x) (term_at a.cells.now a.values.now (get_or c.gather-count.new.0 c.loop-k.k 0))
+    c.breaks_order.result ≡ unordered a.order (term_at a.cells.now a.values.now c.search.x) (term_at a.cells.now a.values.now (get_or c.gather-count.new.into c.loop-k.k 0))
 asked c =
     let a = c.args in
     let cs = a.cells.now in
     let vs = a.values.now in
     let i = c.search.invariant in
-    let y : ℕ = get_or c.gather-count.new.0 c.loop-k.k 0 in
+    let y : ℕ = get_or c.gather-count.new.into c.loop-k.k 0 in
     c.breaks_order.ensures
     ∙ (λ j. not (c.has_number-known.ensures j) || (not (eqb (kind_at cs y) codes.node_number) || comes_back a.order (read_back c.number-value.result c.number-value.type_inv c.number-value.ensures j) (number_at vs y)))
     ∙ order_test cs vs c.search.x y (omega (arith, c.search-test, i.1)) (omega (arith, i.1, (i.2.inside c.loop-k.k c.loop-k-test.true).0)) a.order
@@ -82,7 +82,7 @@ loop-k-preserved c =
     let vs = a.values.now in
     let f : ℕ → ℕ → Bool = λ x y. unordered a.order (term_at cs vs x) (term_at cs vs y) in
     let l = c.loop-k in
-    (l.invariant.0, omega (arith, c.loop-k-test), every_more (λ j. not (f c.search.x (get_or c.gather-count.new.0 j 0))) l.k l.invariant.2 (ap not (sym (asked (goal.at.loop-k-preserved c).After-breaks_order) ∙ c.if-breaks_order.false)))
+    (l.invariant.0, omega (arith, c.loop-k-test), every_more (λ j. not (f c.search.x (get_or c.gather-count.new.into j 0))) l.k l.invariant.2 (ap not (sym (asked (goal.at.loop-k-preserved c).After-breaks_order) ∙ c.if-breaks_order.false)))
 
 pub search-smaller : goal.search-smaller
 search-smaller c = let a = c.args in omega (arith, next-after (has a.a.now) {x = c.search.x} (omega (arith, c.search-test)) c.next_member-x-in-search.ensures, c.search-test)
@@ -96,7 +96,7 @@ search-preserved c =
     let n = c.node_count-n.result in
     let s = c.search in
     let l = c.loop-k in
-    let full : passed_by f s.x c.gather-count.new.0 c.gather-count.result ≡ true = subst (λ (k : ℕ). passed_by f s.x c.gather-count.new.0 k ≡ true) (let e : l.k ≡ c.gather-count.result = omega (arith, l.invariant.1, c.loop-k-test) in e) l.invariant.2 in
+    let full : passed_by f s.x c.gather-count.new.into c.gather-count.result ≡ true = subst (λ (k : ℕ). passed_by f s.x c.gather-count.new.into k ≡ true) (let e : l.k ≡ c.gather-count.result = omega (arith, l.invariant.1, c.loop-k-test) in e) l.invariant.2 in
     (l.invariant.0, s.invariant.1, s.invariant.2, passed_more (has a.a.now) (quiet (has a.b.now) f n) n s.invariant.3 (omega (arith, c.search-test)) (row_quiet (has a.a.now) (has a.b.now) f n s.invariant.2 s.x full) c.next_member-x-in-search.ensures)
 
 pub returns-after-search : goal.returns-after-search
@@ -118,5 +118,5 @@ returns-then-breaks_order c =
     let n = c.node_count-n.result in
     let s = c.search in
     let l = c.loop-k in
-    let y : ℕ = get_or c.gather-count.new.0 l.k 0 in
+    let y : ℕ = get_or c.gather-count.new.into l.k 0 in
     sym (ap (first_pair (among (has a.a.now) (has a.b.now) f)) (sym s.invariant.1) ∙ pair-hit (has a.a.now) (has a.b.now) f n s.invariant.2 s.invariant.3 (omega (arith, c.search-test)) (omega (arith, c.loop-k-test)) l.invariant.2 (sym (asked (goal.at.returns-then-breaks_order c).After-breaks_order) ∙ c.if-breaks_order.true))

@@ -15,4 +15,4 @@ pub returns : goal.returns
 returns c =
     let a = c.args in
     let cs = a.cells.now in
-    c.ends_from.ensures ∙ image_single (node_count cs) (ends_of (node_count cs) (triples_at cs) (end_in cs a.end)) c.insert.new.0 a.v.0 (nodes_le cs c.requires.0) c.requires.2 c.insert.ensures
+    c.ends_from.ensures ∙ image_single (node_count cs) (ends_of (node_count cs) (triples_at cs) (end_in cs a.end)) c.insert.new.words a.v.0 (nodes_le cs c.requires.0) c.requires.2 c.insert.ensures

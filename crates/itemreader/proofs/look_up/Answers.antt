@@ -6,13 +6,12 @@ use Rattle.itemreader.proofs.look_up.Goals as goal
 
 pub find_chained-requires : goal.find_chained-requires
 find_chained-requires c =
-    let s = c.before.before.before.before.before.before in
-    let w = pool_within s.args.counts s.args.pool s.requires.4 in
-    let l = pool_inside (pool_of s.args.pool) in
+    let w = pool_within c.args.counts c.args.pool c.requires.4 in
+    let l = pool_inside (pool_of c.args.pool) in
     let f = l.0 in
-    let k = count-within s.args.counts (pool_of s.args.pool) s.requires.4 in
-    let n = s.requires.3 in
-    rw (c.base-first.ensures, c.count.ensures, c.most.ensures) (s.requires.0, s.requires.1, s.requires.2, omega arith, omega arith, omega arith, l.1, s.requires.5.chains (pool_of s.args.pool))
+    let k = count-within c.args.counts (pool_of c.args.pool) c.requires.4 in
+    let n = c.requires.3 in
+    rw (c.base-first.ensures, c.count.ensures, c.most.ensures) (c.requires.0, c.requires.1, c.requires.2, omega arith, omega arith, omega arith, l.1, c.requires.5.chains (pool_of c.args.pool))
 
 pub returns : goal.returns
 returns c = rw (c.find_chained.ensures, c.base-first.ensures, c.count.ensures)

@@ -17,7 +17,7 @@ returns-then-tallies-lt-CONSOLES c =
     (c.number.ensures ∙ ap refusal_number e, (ap (λ (x : Answer Bool). one_if (value_or false x)) e, ap (λ (x : Answer Bool). tallied x a.console ts) e))
 
 -- what comes back
-handed : (c : After-store) → let a = c.args in let x = verdict_answer a.names.now a.cells.now a.values.now a.tallies.now (question a.console a.node a.shape) in (answer_of c.verdict-outcome.result.answer ≡ x) × (c.store.new.0 ≡ tallied x a.console a.tallies.now)
+handed : (c : After-store) → let a = c.args in let x = verdict_answer a.names.now a.cells.now a.values.now a.tallies.now (question a.console a.node a.shape) in (answer_of c.verdict-outcome.result.answer ≡ x) × (c.store.new.into ≡ tallied x a.console a.tallies.now)
 handed c =
     let a = c.args in
     let h = lent-reply a.names.now a.cells.now a.values.now a.tallies.now (question a.console a.node a.shape) (omega (arith, c.if-tallies-lt-CONSOLES.false)) c.load-held.ensures c.verdict-outcome.ensures in

@@ -35,7 +35,7 @@ returns-then-none_below c =
     let cs = a.cells.now in
     let made = c.path_rows.ensures in
     let room = search_room cs a.p pre.1 made in
-    let rows = c.path_rows.new.0 in
+    let rows = c.path_rows.new.rows in
     let path = ends (node_count cs) (triples_at cs) (path_at cs a.p) in
     ap value (no-spare-along cs a.values.now rows a.v.0 a.e room.0 room.2 pre.2 c.spares-set.ensures path made c.node_count-n.ensures (sym c.none_below.ensures ∙ c.if-none_below.true))
 
@@ -46,7 +46,7 @@ first_met-found-requires c =
     let cs = a.cells.now in
     let made = c.path_rows.ensures in
     let room = search_room cs a.p pre.1 made in
-    let rows = c.path_rows.new.0 in
+    let rows = c.path_rows.new.rows in
     let path = ends (node_count cs) (triples_at cs) (path_at cs a.p) in
     let any = spare_there cs a.values.now rows a.v.0 a.e room.0 room.2 pre.2 c.spares-set.ensures path made c.node_count-n.ensures (sym c.none_below.ensures ∙ c.if-none_below.false) in
     let m = c.node_count-n.ensures in
@@ -62,6 +62,6 @@ returns c =
     let cs = a.cells.now in
     let made = c.path_rows.ensures in
     let room = search_room cs a.p pre.1 made in
-    let rows = c.path_rows.new.0 in
+    let rows = c.path_rows.new.rows in
     let path = ends (node_count cs) (triples_at cs) (path_at cs a.p) in
     ap value (spare-along cs a.values.now rows a.v.0 a.e room.0 room.2 pre.2 c.spares-set.ensures path made c.node_count-n.ensures c.first_met-found.ensures.node_value)

@@ -33,7 +33,7 @@ counted c =
     let a = c.args in
     let pre = c.requires in
     let t = c.loop-nodes in
-    rounds-found (leads a.rows.now) a.n a.v pre.0 t.count t.invariant.1 (sym (none_new a.rows.now a.n a.v pre.1 pre.3 pre.0 t.count (level-after c.before.before.before)) ∙ sym c.none_below.ensures ∙ c.if-none_below.true)
+    rounds-found (leads a.rows.now) a.n a.v pre.0 t.count t.invariant.1 (sym (none_new a.rows.now a.n a.v pre.1 pre.3 pre.0 t.count (level-after (goal.at.Then-none_below c).After-next-level)) ∙ sym c.none_below.ensures ∙ c.if-none_below.true)
 
 pub returns-then-none_below : goal.returns-then-none_below
 returns-then-none_below c =
@@ -47,7 +47,7 @@ still_growing c =
     let a = c.args in
     let pre = c.requires in
     let t = c.loop-nodes in
-    none_more (settled (leads a.rows.now) a.n a.v) t.count t.invariant.1 (sym (none_new a.rows.now a.n a.v pre.1 pre.3 pre.0 t.count (level-after c.before.before.before)) ∙ sym c.none_below.ensures ∙ c.if-none_below.false)
+    none_more (settled (leads a.rows.now) a.n a.v) t.count t.invariant.1 (sym (none_new a.rows.now a.n a.v pre.1 pre.3 pre.0 t.count (level-after (goal.at.Else-none_below c).After-next-level)) ∙ sym c.none_below.ensures ∙ c.if-none_below.false)
 
 -- so there are more nodes
 more-nodes : (c : Else-none_below) → c.loop-nodes.count + 1 < c.args.n

@@ -10,16 +10,14 @@ use Rattle.reader.proofs.index_pool.Goals as goal
 
 pub overflow_mul-at : goal.overflow_mul-at
 overflow_mul-at c =
-    let s = c.before.before.before.before.before.before in
-    let w = pool_within s.args.after s.args.pool s.requires.2 in
+    let w = pool_within c.args.after c.args.pool c.requires.2 in
     let k = c.count.ensures in
     let l = c.if-i-count.true in
     omega arith
 
 pub overflow_add-at : goal.overflow_add-at
 overflow_add-at c =
-    let s = c.before.before.before.before.before.before in
-    let w = pool_within s.args.after s.args.pool s.requires.2 in
+    let w = pool_within c.args.after c.args.pool c.requires.2 in
     let k = c.count.ensures in
     let l = c.if-i-count.true in
     let f = c.base-first.ensures in
@@ -27,8 +25,7 @@ overflow_add-at c =
 
 pub overflow_add-at-then-i-count : goal.overflow_add-at-then-i-count
 overflow_add-at-then-i-count c =
-    let s = c.before.before.before.before.before.before.before in
-    let w = pool_within s.args.after s.args.pool s.requires.2 in
+    let w = pool_within c.args.after c.args.pool c.requires.2 in
     let k = c.count.ensures in
     let l = c.if-i-count.true in
     let f = c.base-first.ensures in
@@ -36,27 +33,25 @@ overflow_add-at-then-i-count c =
 
 pub hash-requires : goal.hash-requires
 hash-requires c =
-    let s = c.before.before.before.before.before.before.before in
-    let w = pool_within s.args.after s.args.pool s.requires.2 in
+    let w = pool_within c.args.after c.args.pool c.requires.2 in
     let k = c.count.ensures in
     let l = c.if-i-count.true in
     let f = c.base-first.ensures in
-    let n = s.requires.1 in
+    let n = c.requires.1 in
     (omega arith, omega arith)
 
 pub link-requires : goal.link-requires
 link-requires c =
-    let s = c.before.before.before.before.before.before.before.before.before in
-    let p = pool_of s.args.pool in
+    let p = pool_of c.args.pool in
     let r = (pool_inside p).0 in
-    let w = count-within s.args.after p s.requires.2 in
+    let w = count-within c.args.after p c.requires.2 in
     let k = c.count.ensures in
     let l = c.if-i-count.true in
     let f = c.base-first.ensures in
     let m = c.most.ensures in
     let q : 0 < c.most.result = rw m (pool_inside p).1 in
     let h = mod-lt c.hash.result q in
-    let n = s.requires.0 in
+    let n = c.requires.0 in
     (omega arith, omega arith, omega arith)
 
 pub returns-then-i-count : goal.returns-then-i-count

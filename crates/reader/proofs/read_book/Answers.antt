@@ -13,15 +13,15 @@ use Rattle.reader.proofs.read_book.Goals as goal
 use Rattle.reader.proofs.read_book.Goals.{After-put_built_in, After-read_lines}
 
 -- the tables before the first line
-names_then : (c : After-put_built_in) → c.put_built_in.new.0 ≡ built_names c.args.names.now
+names_then : (c : After-put_built_in) → c.put_built_in.new.names ≡ built_names c.args.names.now
 names_then c = c.put_built_in.ensures ∙ ap (λ (l : List ℕ). put_name types 0 (bytes "langstring") (put_name links 0 (bytes "a") l)) c.clear.ensures.new_names
 
 -- what the lines left
-whole : (c : After-read_lines) (n : Counts) → c.read_lines.result ≡ LinesAnswer.Read n → Whole c.args.book.now c.requires.0 c.read_lines.result c.args.names.now c.put_built_in.new.0 c.read_lines.new.0 c.args.cells.now c.clear.new.1.0 c.read_lines.new.1.0 c.args.values.now c.clear.new.1.1.0 c.read_lines.new.1.1.0 (names_then c.before.before.before.before.before.before) c.clear.ensures.new_cells c.clear.ensures.new_values n
-whole c n e = was_read c.args.book.now c.requires.0 c.read_lines.result c.args.names.now c.put_built_in.new.0 c.read_lines.new.0 c.args.cells.now c.clear.new.1.0 c.read_lines.new.1.0 c.args.values.now c.clear.new.1.1.0 c.read_lines.new.1.1.0 (names_then c.before.before.before.before.before.before) c.clear.ensures.new_cells c.clear.ensures.new_values c.read_lines.ensures n e
+whole : (c : After-read_lines) (n : Counts) → c.read_lines.result ≡ LinesAnswer.Read n → Whole c.args.book.now c.requires.0 c.read_lines.result c.args.names.now c.put_built_in.new.names c.read_lines.new.names c.args.cells.now c.clear.new.cells c.read_lines.new.cells c.args.values.now c.clear.new.values c.read_lines.new.values (names_then (goal.at.After-read_lines c).After-put_built_in) c.clear.ensures.new_cells c.clear.ensures.new_values n
+whole c n e = was_read c.args.book.now c.requires.0 c.read_lines.result c.args.names.now c.put_built_in.new.names c.read_lines.new.names c.args.cells.now c.clear.new.cells c.read_lines.new.cells c.args.values.now c.clear.new.values c.read_lines.new.values (names_then (goal.at.After-read_lines c).After-put_built_in) c.clear.ensures.new_cells c.clear.ensures.new_values c.read_lines.ensures n e
 
-turned : (c : After-read_lines) (k line : ℕ) → c.read_lines.result ≡ LinesAnswer.No k line → Turned c.args.book.now c.requires.0 c.read_lines.result c.args.names.now c.put_built_in.new.0 c.read_lines.new.0 c.args.cells.now c.clear.new.1.0 c.read_lines.new.1.0 c.args.values.now c.clear.new.1.1.0 c.read_lines.new.1.1.0 (names_then c.before.before.before.before.before.before) c.clear.ensures.new_cells c.clear.ensures.new_values k line
-turned c k line e = was_turned c.args.book.now c.requires.0 c.read_lines.result c.args.names.now c.put_built_in.new.0 c.read_lines.new.0 c.args.cells.now c.clear.new.1.0 c.read_lines.new.1.0 c.args.values.now c.clear.new.1.1.0 c.read_lines.new.1.1.0 (names_then c.before.before.before.before.before.before) c.clear.ensures.new_cells c.clear.ensures.new_values c.read_lines.ensures k line e
+turned : (c : After-read_lines) (k line : ℕ) → c.read_lines.result ≡ LinesAnswer.No k line → Turned c.args.book.now c.requires.0 c.read_lines.result c.args.names.now c.put_built_in.new.names c.read_lines.new.names c.args.cells.now c.clear.new.cells c.read_lines.new.cells c.args.values.now c.clear.new.values c.read_lines.new.values (names_then (goal.at.After-read_lines c).After-put_built_in) c.clear.ensures.new_cells c.clear.ensures.new_values k line
+turned c k line e = was_turned c.args.book.now c.requires.0 c.read_lines.result c.args.names.now c.put_built_in.new.names c.read_lines.new.names c.args.cells.now c.clear.new.cells c.read_lines.new.cells c.args.values.now c.clear.new.values c.read_lines.new.values (names_then (goal.at.After-read_lines c).After-put_built_in) c.clear.ensures.new_cells c.clear.ensures.new_values c.read_lines.ensures k line e
 
 pub read_lines-requires : goal.read_lines-requires
 read_lines-requires c =

@@ -7,6 +7,5 @@ use Rattle.reader.proofs.read_lines.Goals as goal
 
 pub read_from-requires : goal.read_from-requires
 read_from-requires c =
-    let s = c.before.before.before.before.before.before.before.before.before.before.before in
     let x = c.index_new in
-    (s.requires.0, s.requires.1, s.requires.2, s.requires.3, search rules, refl, subst (Indexed s.args.names.now built_in_counts) (sym x.ensures) (start-indexed s.args.names.now))
+    (c.requires.0, c.requires.1, c.requires.2, c.requires.3, search rules, refl, subst (Indexed c.args.names.now built_in_counts) (sym x.ensures) (start-indexed c.args.names.now))

@@ -18,7 +18,7 @@ pub search-found-requires : goal.search-found-requires
 search-found-requires c =
     let a = c.args in
     let pre = c.requires in
-    let rows = c.path_rows.new.0 in
+    let rows = c.path_rows.new.rows in
     let room = search_room a.cells.now a.e pre.1 c.path_rows.ensures in
     subst (λ (n : ℕ). (a.v.0 < n) × (n ≤ max_nodes) × (16 * n ≤ length rows) × Within n rows) (sym c.node_count.ensures) (pre.2, room.0, room.1, room.2)
 
@@ -26,5 +26,5 @@ pub returns : goal.returns
 returns c =
     let a = c.args in
     let pre = c.requires in
-    let rows = c.path_rows.new.0 in
+    let rows = c.path_rows.new.rows in
     c.search-found.ensures.rounds_value ∙ ap (λ (n : ℕ). rounds (leads rows) n a.v.0) c.node_count.ensures ∙ search_rounds a.cells.now a.e pre.1 c.path_rows.ensures a.v.0 pre.2

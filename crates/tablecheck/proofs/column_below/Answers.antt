@@ -9,14 +9,10 @@ loop-i-init c = (zero-le, passed_none _ _)
 
 pub loop-i-preserved : goal.loop-i-preserved
 loop-i-preserved c =
-    let l = c.before.before in
-    let t = l.before.column.result.now in
-    let s = l.before.before.before in
-    (omega arith, passed_next (rest_below t s.args.bound s.args.len) (cell_below t s.args.bound) l.loop.i l.loop.invariant.1 refl)
+    let t = c.column-there.result.now in
+    (omega arith, passed_next (rest_below t c.args.bound c.args.len) (cell_below t c.args.bound) c.loop-i.i c.loop-i.invariant.1 refl)
 
 pub returns : goal.returns
 returns c =
-    let l = c.before in
-    let d = l.before.column in
-    let s = l.before.before.before in
-    column_done s.args.cells.now d.result.now s.args.base s.args.len s.args.bound l.loop.i d.ensures (omega arith) l.loop.invariant.1
+    let d = c.column-there in
+    column_done c.args.cells.now d.result.now c.args.base c.args.len c.args.bound c.loop-i.i d.ensures (omega arith) c.loop-i.invariant.1

@@ -14,11 +14,8 @@ overflow_cast-v c = omega (arith, c.loop-v-test, c.node_count-n.ensures, (c.type
 
 pub loop-v-preserved : goal.loop-v-preserved
 loop-v-preserved c =
-    let l = c.before.before in
-    (omega arith, passed_next true (node_ok l.before.before.before.args.cells.now) l.loop.v l.loop.invariant.1 c.node_ok-ok.ensures)
+    (omega arith, passed_next true (node_ok c.args.cells.now) c.loop-v.v c.loop-v.invariant.1 c.node_ok-ok.ensures)
 
 pub returns : goal.returns
 returns c =
-    let l = c.before in
-    let s = l.before.before.before in
-    passed_end true (node_ok s.args.cells.now) l.loop.v (node_count s.args.cells.now) (omega (arith, l.before.node-count.ensures)) l.loop.invariant.1
+    passed_end true (node_ok c.args.cells.now) c.loop-v.v (node_count c.args.cells.now) (omega (arith, c.node_count-n.ensures)) c.loop-v.invariant.1

@@ -37,22 +37,18 @@ read c = path_by_lem c.before.before.before.before.args.cells.now c.before.befor
 pub returns-in-0 : goal.returns-in-0
 unfolding path_entry_of path_entry_ok
 returns-in-0 c =
-    let b = c.before.before.before in
-    case_is (by b) b.path-code.result (read b) codes.path_link c.in-0.is (read_twice (link_count b.before.before.before.before.args.cells.now) c.link_there.ensures c.path_link.ensures b.before.before.path-first.ensures)
+    case_is (by c.before.before.before) c.path_code.result (read c.before.before.before) codes.path_link c.in-0.is (read_twice (link_count c.args.cells.now) c.link_there.ensures c.path_link.ensures c.path_first-a.ensures)
 
 pub returns-in-2 : goal.returns-in-2
 unfolding path_entry_of path_entry_ok
 returns-in-2 c =
-    let b = c.before.before in
-    case_in (by b) b.path-code.result (read b) codes.path_seq 2 (next codes.path_inv b.path-code.result (next codes.path_link b.path-code.result zero-le c.in_default-1.rest.0.1) c.in_default-1.rest.1) c.if-this-lt4.true (refl, (refl, tt))
+    case_in (by c.before.before) c.path_code.result (read c.before.before) codes.path_seq 2 (next codes.path_inv c.path_code.result (next codes.path_link c.path_code.result zero-le c.in_default-1.rest.0.1) c.in_default-1.rest.1) c.if-this-lt4.true (refl, (refl, tt))
 
 pub returns-in-6-to-65535 : goal.returns-in-6-to-65535
 returns-in-6-to-65535 c =
-    let b = c.before.before.before in
-    case_past (by b) b.path-code.result (read b) codes.path_unknown c.if-this-lt6.false (λ j l. path_unknown_lem b.before.before.before.before.args.cells.now b.before.before.before.before.args.e b.before.before.path-first.result b.before.path-second.result j l)
+    case_past (by c.before.before.before) c.path_code.result (read c.before.before.before) codes.path_unknown c.if-this-lt6.false (λ j l. path_unknown_lem c.args.cells.now c.args.e c.path_first-a.result c.path_second-b.result j l)
 
 pub returns-in-1 : goal.returns-in-1
 unfolding path_entry_of path_entry_ok
 returns-in-1 c =
-    let b = c.before in
-    ⊎_elim (λ m. case_is (by b) b.path-code.result (read b) codes.path_inv m.keys2 refl) (λ m. case_in (by b) b.path-code.result (read b) codes.path_star 2 m.1.left m.2.taken (refl, (refl, tt))) c.in-1-1.branch
+    ⊎_elim (λ m. case_is (by c.before) c.path_code.result (read c.before) codes.path_inv m.keys2 refl) (λ m. case_in (by c.before) c.path_code.result (read c.before) codes.path_star 2 m.1.left m.2.taken (refl, (refl, tt))) c.in-1-1.branch

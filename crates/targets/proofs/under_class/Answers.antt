@@ -22,7 +22,7 @@ pub search-found-requires : goal.search-found-requires
 search-found-requires c =
     let a = c.args in
     let pre = c.requires in
-    let rows = c.all_table_ends.new.0 in
+    let rows = c.all_table_ends.new.rows in
     let room = search_room a.cells.now a.index.now pre.0 a.link.0 (link-rows a.cells.now a.link refl c.all_table_ends.ensures) in
     subst (λ (n : ℕ). (a.c.0 < n) × (n ≤ max_nodes) × (16 * n ≤ length rows) × Within n rows) (sym c.node_count.ensures) (pre.1, room.0, room.1, room.2)
 
@@ -30,6 +30,6 @@ pub returns : goal.returns
 returns c =
     let a = c.args in
     let pre = c.requires in
-    let rows = c.all_table_ends.new.0 in
+    let rows = c.all_table_ends.new.rows in
     c.search-found.ensures.words_value ∙ ap (λ (n : ℕ). words_of (star (leads rows) n a.c.0) 16) c.node_count.ensures
     ∙ under-found a.cells.now a.index.now pre.0 a.link.0 (link-rows a.cells.now a.link refl c.all_table_ends.ensures) a.c.0 pre.1

@@ -9,27 +9,22 @@ use Rattle.text.proofs.all_digits.Goals as goal
 
 pub returns-then-not-is_digit : goal.returns-then-not-is_digit
 returns-then-not-is_digit c =
-    let l = c.before.before.before.before in
-    let s = l.before.before in
     sym
-    (l.loop.invariant.2
-    ∙ all-fails digit s.args.book.now s.args.end l.loop.i c.loop-i-test.true s.requires.1 (sym c.is_digit.ensures ∙ not-true _ c.if-not-is_digit.true-raw))
+    (c.loop-i.invariant.2
+    ∙ all-fails digit c.args.book.now c.args.end c.loop-i.i c.loop-i-test.true c.requires.1 (sym c.is_digit.ensures ∙ not-true _ c.if-not-is_digit.true-raw))
 
 pub loop-i-preserved : goal.loop-i-preserved
 loop-i-preserved c =
-    let l = c.before.before.before.before in
-    let s = l.before.before in (
+    (
       search rules,
       search rules,
-      l.loop.invariant.2
-          ∙ all_more digit s.args.book.now s.args.end l.loop.i c.loop-i-test.true s.requires.1 (sym c.is_digit.ensures ∙ not-false _ c.if-not-is_digit.false-raw),
+      c.loop-i.invariant.2
+          ∙ all_more digit c.args.book.now c.args.end c.loop-i.i c.loop-i-test.true c.requires.1 (sym c.is_digit.ensures ∙ not-false _ c.if-not-is_digit.false-raw),
     )
 
 pub returns : goal.returns
 returns c =
-    let l = c.before in
-    let s = l.before.before in
-    let e : s.args.end ≡ l.loop.i = omega arith in
+    let e : c.args.end ≡ c.loop-i.i = omega arith in
     sym
-    (l.loop.invariant.2
-    ∙ rw (← e) (all_none digit s.args.book.now s.args.end))
+    (c.loop-i.invariant.2
+    ∙ rw (← e) (all_none digit c.args.book.now c.args.end))

@@ -14,15 +14,13 @@ use Rattle.text.proofs.find_chained.Goals.{After-cell-e-in-loop-e}
 
 pub overflow_add-heads : goal.overflow_add-heads
 overflow_add-heads c =
-    let s = c.before.before.before.before in
-    let m = mod-lt c.hash.result s.requires.6 in
+    let m = mod-lt c.hash.result c.requires.6 in
     omega arith
 
 pub loop-e-init : goal.loop-e-init
 loop-e-init c =
-    let s = c.before.before.before.before.before in
-    let a = s.args in
-    walk_begins a.names.now a.base a.count a.slots (slice a.at a.end a.book.now) s.requires.7 c.cell-e.result s.requires.6
+    let a = c.args in
+    walk_begins a.names.now a.base a.count a.slots (slice a.at a.end a.book.now) c.requires.7 c.cell-e.result c.requires.6
     (c.cell-e.ensures ∙ ap (λ (h : ℕ). get_or a.index.now (a.heads + h % a.slots) 0) c.hash.ensures)
 
 -- what the loop holds after one item more
@@ -32,9 +30,8 @@ more : (c : After-cell-e-in-loop-e)
     (c.cell-e-in-loop-e.result ≤ l.e - 1) × Walk a.names.now a.base a.count a.slots (slice a.at a.end a.book.now) c.cell-e-in-loop-e.result (cond (eql (padded (slice a.at a.end a.book.now)) (place a.names.now a.base (l.e - 1))) (At (l.e - 1)) l.found)
 more c =
     let l = c.loop-e in
-    let s = c.before.before.before.before.before.before.before.before.before.before in
-    let a = s.args in
-    walk_more a.names.now a.base a.count a.slots (slice a.at a.end a.book.now) s.requires.7 l.e (l.e - 1) c.cell-e-in-loop-e.result l.found (omega (arith, c.loop-e-test.true)) l.invariant c.cell-e-in-loop-e.ensures
+    let a = c.args in
+    walk_more a.names.now a.base a.count a.slots (slice a.at a.end a.book.now) c.requires.7 l.e (l.e - 1) c.cell-e-in-loop-e.result l.found (omega (arith, c.loop-e-test.true)) l.invariant c.cell-e-in-loop-e.ensures
 
 pub loop-e-smaller : goal.loop-e-smaller
 loop-e-smaller c =

@@ -16,21 +16,15 @@ loop-k-init c = (search rules, rw sub-zero)
 
 pub returns-then-same_name : goal.returns-then-same_name
 returns-then-same_name c =
-    let l = c.before.before.before in
-    let s = l.before.before.before in
-    let w : List ℕ = padded (slice s.args.at s.args.end s.args.book.now) in
-    sym (l.loop.invariant.1 ∙ first_here (λ i. eql w (place s.args.names.now s.args.base i)) s.args.count l.loop.k c.loop-k-test.true (sym c.same_name.ensures ∙ c.if-same_name.true))
+    let w : List ℕ = padded (slice c.args.at c.args.end c.args.book.now) in
+    sym (c.loop-k.invariant.1 ∙ first_here (λ i. eql w (place c.args.names.now c.args.base i)) c.args.count c.loop-k.k c.loop-k-test.true (sym c.same_name.ensures ∙ c.if-same_name.true))
 
 pub loop-k-preserved : goal.loop-k-preserved
 loop-k-preserved c =
-    let l = c.before.before.before in
-    let s = l.before.before.before in
-    let w : List ℕ = padded (slice s.args.at s.args.end s.args.book.now) in
-    (omega arith, l.loop.invariant.1 ∙ first_step (λ i. eql w (place s.args.names.now s.args.base i)) s.args.count l.loop.k c.loop-k-test.true (sym c.same_name.ensures ∙ c.if-same_name.false))
+    let w : List ℕ = padded (slice c.args.at c.args.end c.args.book.now) in
+    (omega arith, c.loop-k.invariant.1 ∙ first_step (λ i. eql w (place c.args.names.now c.args.base i)) c.args.count c.loop-k.k c.loop-k-test.true (sym c.same_name.ensures ∙ c.if-same_name.false))
 
 pub returns : goal.returns
 returns c =
-    let l = c.before in
-    let s = l.before.before.before in
-    let w : List ℕ = padded (slice s.args.at s.args.end s.args.book.now) in
-    sym (l.loop.invariant.1 ∙ first-none (λ i. eql w (place s.args.names.now s.args.base i)) s.args.count l.loop.k c.loop-k-test.false)
+    let w : List ℕ = padded (slice c.args.at c.args.end c.args.book.now) in
+    sym (c.loop-k.invariant.1 ∙ first-none (λ i. eql w (place c.args.names.now c.args.base i)) c.args.count c.loop-k.k c.loop-k-test.false)

@@ -24,10 +24,9 @@ overflow_add-h c =
 pub loop-i-preserved : goal.loop-i-preserved
 loop-i-preserved c =
     let l = c.loop-i in
-    let s = c.before.before.before in
     let i = l.i - 1 in
     let z : i + 1 ≡ l.i = omega (arith, c.loop-i-test.true) in
-    (omega (arith, c.loop-i-test.true), omega arith, mod-lt (get_or s.args.book.now i 0 + 131 * l.h) (omega arith), ap (λ (h : ℕ). (get_or s.args.book.now i 0 + 131 * h) % 65536) (l.invariant.3 ∙ ap (λ (j : ℕ). hash_of (slice j s.args.end s.args.book.now)) (sym z)) ∙ sym (hash_more s.args.book.now s.args.end i (omega arith) s.requires.1))
+    (omega (arith, c.loop-i-test.true), omega arith, mod-lt (get_or c.args.book.now i 0 + 131 * l.h) (omega arith), ap (λ (h : ℕ). (get_or c.args.book.now i 0 + 131 * h) % 65536) (l.invariant.3 ∙ ap (λ (j : ℕ). hash_of (slice j c.args.end c.args.book.now)) (sym z)) ∙ sym (hash_more c.args.book.now c.args.end i (omega arith) c.requires.1))
 
 pub returns : goal.returns
 returns c =

@@ -3,5 +3,4 @@ use Rattle.text.proofs.is_mag.Goals as goal
 
 pub returns : goal.returns
 returns c =
-    let s = c.before.before.before in
-    rw (c.byte-b.ensures, c.all_digits.ensures) (is_mag-at s.args.book.now s.args.at s.args.end s.requires.0 s.requires.1)
+    rw (c.byte-b.ensures, c.all_digits.ensures) (is_mag-at c.args.book.now c.args.at c.args.end c.requires.0 c.requires.1)

@@ -8,15 +8,12 @@ loop-i-init c = refl
 
 pub returns-then-is_edge : goal.returns-then-is_edge
 returns-then-is_edge c =
-    let l = c.before.before.before.before in
-    sym (l.loop.invariant ∙ item_end-edge l.before.before.args.book.now l.loop.i c.loop-i-test.true (sym c.is_edge.ensures ∙ c.if-is_edge.true))
+    sym (c.loop-i.invariant ∙ item_end-edge c.args.book.now c.loop-i.i c.loop-i-test.true (sym c.is_edge.ensures ∙ c.if-is_edge.true))
 
 pub loop-i-preserved : goal.loop-i-preserved
 loop-i-preserved c =
-    let l = c.before.before.before.before in
-    l.loop.invariant ∙ item_end-step l.before.before.args.book.now l.loop.i c.loop-i-test.true (sym c.is_edge.ensures ∙ c.if-is_edge.false)
+    c.loop-i.invariant ∙ item_end-step c.args.book.now c.loop-i.i c.loop-i-test.true (sym c.is_edge.ensures ∙ c.if-is_edge.false)
 
 pub returns : goal.returns
 returns c =
-    let l = c.before in
-    sym (l.loop.invariant ∙ item_end_out l.before.before.args.book.now l.loop.i c.loop-i-test.false)
+    sym (c.loop-i.invariant ∙ item_end_out c.args.book.now c.loop-i.i c.loop-i-test.false)

@@ -25,42 +25,33 @@ loop-i-init c =
 
 pub returns-then-v-ge1000000000000000000 : goal.returns-then-v-ge1000000000000000000
 returns-then-v-ge1000000000000000000 c =
-    let l = c.before.before in
-    let s = l.before.before.before.before in
-    sym (mag_over (slice s.args.at s.args.end s.args.book.now) l.loop.invariant.5 (rw l.loop.invariant.4 (value-over s.args.book.now s.args.end l.loop.i c.loop-i-test.true s.requires.1 l.loop.v c.if-v-ge1000000000000000000.true)))
+    sym (mag_over (slice c.args.at c.args.end c.args.book.now) c.loop-i.invariant.5 (rw c.loop-i.invariant.4 (value-over c.args.book.now c.args.end c.loop-i.i c.loop-i-test.true c.requires.1 c.loop-i.v c.if-v-ge1000000000000000000.true)))
 
 -- the byte read is a digit, and digits follow
 abbrev Here : Type 0
 Here = After-shared_slice_known-in-loop-i-1
 
 read_digit : (c : Here)
-    → let l = c.before.before.before in
-    let s = l.before.before.before.before.args in
-    (48 ≤ get_or s.book.now l.loop.i 0) × (get_or s.book.now l.loop.i 0 ≤ 57) × (allb digit (slice (l.loop.i + 1) s.end s.book.now) ≡ true)
-read_digit c =
-    let l = c.before.before.before in
-    let s = l.before.before.before.before in
-    digits-first s.args.book.now s.args.end l.loop.i c.before.before.loop-test.true s.requires.1 l.loop.invariant.3
+    → let l = c.loop-i in
+    let s = c.args in
+    (48 ≤ get_or s.book.now l.i 0) × (get_or s.book.now l.i 0 ≤ 57) × (allb digit (slice (l.i + 1) s.end s.book.now) ≡ true)
+read_digit c = digits-first c.args.book.now c.args.end c.loop-i.i c.loop-i-test.true c.requires.1 c.loop-i.invariant.3
 
 pub overflow_cast-v : goal.overflow_cast-v
-overflow_cast-v c = let d = read_digit c in omega arith
+overflow_cast-v c = let d = read_digit (goal.at.overflow_cast-v c).After-shared_slice_known-in-loop-i-1 in omega arith
 
 pub overflow_sub-v : goal.overflow_sub-v
-overflow_sub-v c = let d = read_digit c in omega arith
+overflow_sub-v c = let d = read_digit (goal.at.overflow_sub-v c).After-shared_slice_known-in-loop-i-1 in omega arith
 
 pub overflow_add-v : goal.overflow_add-v
-overflow_add-v c = let d = read_digit c in omega arith
+overflow_add-v c = let d = read_digit (goal.at.overflow_add-v c).After-shared_slice_known-in-loop-i-1 in omega arith
 
 pub loop-i-preserved : goal.loop-i-preserved
 loop-i-preserved c =
-    let l = c.before.before.before in
-    let s = l.before.before.before.before in
-    let d = read_digit c in
-    (omega arith, omega arith, omega arith, d.2, l.loop.invariant.4 ∙ value-step s.args.book.now s.args.end l.loop.i c.loop-i-test.true s.requires.1 l.loop.v, l.loop.invariant.5)
+    let d = read_digit (goal.at.loop-i-preserved c).After-shared_slice_known-in-loop-i-1 in
+    (omega arith, omega arith, omega arith, d.2, c.loop-i.invariant.4 ∙ value-step c.args.book.now c.args.end c.loop-i.i c.loop-i-test.true c.requires.1 c.loop-i.v, c.loop-i.invariant.5)
 
 pub returns : goal.returns
 returns c =
-    let l = c.before in
-    let s = l.before.before.before.before in
-    let e : s.args.end ≡ l.loop.i = omega arith in
-    sym (mag_is (slice s.args.at s.args.end s.args.book.now) l.loop.invariant.5 l.loop.v (l.loop.invariant.4 ∙ rw (← e) (value_none l.loop.v s.args.book.now s.args.end)) l.loop.invariant.2)
+    let e : c.args.end ≡ c.loop-i.i = omega arith in
+    sym (mag_is (slice c.args.at c.args.end c.args.book.now) c.loop-i.invariant.5 c.loop-i.v (c.loop-i.invariant.4 ∙ rw (← e) (value_none c.loop-i.v c.args.book.now c.args.end)) c.loop-i.invariant.2)

@@ -5,15 +5,12 @@ use Rattle.text.proofs.number_at.Goals as goal
 
 pub returns-then-at-end : goal.returns-then-at-end
 returns-then-at-end c =
-    let s = c.before.before in
-    sym (number-none s.args.book.now s.args.at s.args.end s.requires.1 c.if-at-end.true)
+    sym (number-none c.args.book.now c.args.at c.args.end c.requires.1 c.if-at-end.true)
 
 pub returns-then-byte-eq45 : goal.returns-then-byte-eq45
 returns-then-byte-eq45 c =
-    let s = c.before.before.before.before.before in
-    c.negative.ensures ∙ sym (number-minus s.args.book.now s.args.at s.args.end s.requires.1 (omega arith) (sym c.byte.ensures ∙ c.if-byte-eq45.true))
+    c.negative.ensures ∙ sym (number-minus c.args.book.now c.args.at c.args.end c.requires.1 (omega arith) (sym c.byte.ensures ∙ c.if-byte-eq45.true))
 
 pub returns : goal.returns
 returns c =
-    let s = c.before.before.before.before.before in
-    c.positive.ensures ∙ sym (number-plain s.args.book.now s.args.at s.args.end s.requires.1 (omega arith) (λ e. c.if-byte-eq45.false (c.byte.ensures ∙ e)))
+    c.positive.ensures ∙ sym (number-plain c.args.book.now c.args.at c.args.end c.requires.1 (omega arith) (λ e. c.if-byte-eq45.false (c.byte.ensures ∙ e)))

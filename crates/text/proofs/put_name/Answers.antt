@@ -17,18 +17,14 @@ loop-i-init c =
 
 pub loop-i-preserved : goal.loop-i-preserved
 loop-i-preserved c =
-    let l = c.before.before in
-    let s = l.before.before.before in
-    let i : ℕ = l.loop.i in
-    let p : List ℕ = padded (slice s.args.at s.args.end s.args.book.now) in
-    let lp = padded-length (slice s.args.at s.args.end s.args.book.now) (rw (length-slice s.args.at s.args.end s.args.book.now s.requires.1) (omega arith)) in
-    (omega arith, rw (l.loop.invariant.1, c.letter.ensures, add-one i) (paste-suc s.args.names.now s.args.place p i 0 (omega arith) (omega arith)), simp length-set l.loop.invariant.2)
+    let i : ℕ = c.loop-i.i in
+    let p : List ℕ = padded (slice c.args.at c.args.end c.args.book.now) in
+    let lp = padded-length (slice c.args.at c.args.end c.args.book.now) (rw (length-slice c.args.at c.args.end c.args.book.now c.requires.1) (omega arith)) in
+    (omega arith, rw (c.loop-i.invariant.1, c.letter.ensures, add-one i) (paste-suc c.args.names.now c.args.place p i 0 (omega arith) (omega arith)), simp length-set c.loop-i.invariant.2)
 
 pub returns : goal.returns
 returns c =
-    let l = c.before in
-    let s = l.before.before.before in
-    let p : List ℕ = padded (slice s.args.at s.args.end s.args.book.now) in
-    let lp = padded-length (slice s.args.at s.args.end s.args.book.now) (rw (length-slice s.args.at s.args.end s.args.book.now s.requires.1) (omega arith)) in
-    let e : l.loop.i ≡ length p = omega arith in
-    l.loop.invariant.1 ∙ rw e (store_done s.args.names.now p s.args.place)
+    let p : List ℕ = padded (slice c.args.at c.args.end c.args.book.now) in
+    let lp = padded-length (slice c.args.at c.args.end c.args.book.now) (rw (length-slice c.args.at c.args.end c.args.book.now c.requires.1) (omega arith)) in
+    let e : c.loop-i.i ≡ length p = omega arith in
+    c.loop-i.invariant.1 ∙ rw e (store_done c.args.names.now p c.args.place)

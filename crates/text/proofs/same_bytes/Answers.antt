@@ -9,12 +9,8 @@ loop-j-init c = (zero-le, every-none _)
 
 pub loop-j-preserved : goal.loop-j-preserved
 loop-j-preserved c =
-    let l = c.before.before.before in
-    let s = l.before in
-    (omega arith, every-next (same_at s.args.names.now s.args.place s.args.book.now s.args.at) l.loop.j l.loop.invariant.1)
+    (omega arith, every-next (same_at c.args.names.now c.args.place c.args.book.now c.args.at) c.loop-j.j c.loop-j.invariant.1)
 
 pub returns : goal.returns
 returns c =
-    let l = c.before in
-    let s = l.before in
-    every-end (same_at s.args.names.now s.args.place s.args.book.now s.args.at) l.loop.j s.args.len (omega arith) l.loop.invariant.1
+    every-end (same_at c.args.names.now c.args.place c.args.book.now c.args.at) c.loop-j.j c.args.len (omega arith) c.loop-j.invariant.1

@@ -5,6 +5,5 @@ use Rattle.text.proofs.same_name.Goals as goal
 
 pub returns : goal.returns
 returns c =
-    let s = c.before.before.before.before in
     ap₂ (λ (a b : Bool). a && b) c.same_bytes.ensures c.zeros.ensures
-    ∙ padded-same s.args.book.now s.args.names.now s.args.at s.args.end s.args.place s.requires.1 s.requires.2 s.requires.3
+    ∙ padded-same c.args.book.now c.args.names.now c.args.at c.args.end c.args.place c.requires.1 c.requires.2 c.requires.3

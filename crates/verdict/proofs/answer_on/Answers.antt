@@ -41,7 +41,7 @@ returns-then-not-is_console c =
 there : (c : After-root) → let a = c.args in (a.node < node_count a.cells.now) × (a.shape < shape_count a.cells.now)
 there c =
     let a = c.args in
-    places_there a.cells.now a.values.now (question a.console a.node a.shape) (well c.before.before) (both c.before.before) refl
+    places_there a.cells.now a.values.now (question a.console a.node a.shape) (well (goal.at.After-root c).After-is_console) (both (goal.at.After-root c).After-is_console) refl
 
 pub overflow_cast-node : goal.overflow_cast-node
 overflow_cast-node c = omega (arith, (there (goal.at.overflow_cast-node c).After-root).0, (sound c.args.cells.now (well (goal.at.overflow_cast-node c).After-is_console)).nodes)
@@ -55,7 +55,7 @@ conforming-requires c =
 given : (c : After-root) {b : Bool} → let a = c.args in conforms (graph_at a.cells.now a.values.now) (shape_at a.cells.now a.values.now c.root.result) a.node ≡ b → value b ≡ answer_on a.cells.now a.values.now (question a.console a.node a.shape)
 given c =
     let a = c.args in
-    on_given a.cells.now a.values.now (question a.console a.node a.shape) (well c.before.before) (both c.before.before) refl (sym c.is_console.ensures ∙ not-false _ c.if-not-is_console.false-raw) c.root.result c.root.ensures
+    on_given a.cells.now a.values.now (question a.console a.node a.shape) (well (goal.at.After-root c).After-is_console) (both (goal.at.After-root c).After-is_console) refl (sym c.is_console.ensures ∙ not-false _ c.if-not-is_console.false-raw) c.root.result c.root.ensures
 
 pub returns-then-not-conforming : goal.returns-then-not-conforming
 returns-then-not-conforming c = given (goal.at.returns-then-not-conforming c).After-root (sym c.conforming.ensures ∙ not-true _ c.if-not-conforming.true-raw)

@@ -22,29 +22,29 @@ use Rattle.verdict.proofs.set_of_rows.Goals.{After-form_code, In_default}
 
 -- ---- what is known before the match: the tables and the operands
 abbrev cells : After-form_code → List ℕ
-cells m = m.before.before.before.before.before.before.before.before.before.before.before.before.before.before.before.before.args.cells.now
+cells m = m.args.cells.now
 
-ready : (m : After-form_code) → Ready (cells m) m.before.before.before.before.before.before.before.before.before.before.before.before.before.before.before.before.args.index.now m.before.before.before.before.before.before.before.before.before.before.before.before.before.before.before.before.args.values.now m.before.before.before.before.before.before.before.before.before.before.before.before.before.before.before.before.args.memo.now m.before.before.before.before.before.before.before.before.before.before.before.before.before.before.before.before.args.e
-ready m = m.before.before.before.before.before.before.before.before.before.before.before.before.before.before.before.before.requires.0
+ready : (m : After-form_code) → Ready (cells m) m.args.index.now m.args.values.now m.args.memo.now m.args.e
+ready m = m.requires.0
 
-first : (m : After-form_code) → m.before.before.before.before.before.before.before.before.before.wide.result ≡ form_first_at (cells m) m.before.before.before.before.before.before.before.before.before.before.before.before.before.before.before.before.args.e
-first m = m.before.before.before.before.before.before.before.before.before.wide.ensures ∙ m.before.before.before.before.before.before.before.before.before.before.form-first.ensures
+first : (m : After-form_code) → m.wide-p.result ≡ form_first_at (cells m) m.args.e
+first m = m.wide-p.ensures ∙ m.form_first.ensures
 
-half : (m : After-form_code) → 2 * m.before.before.wide4.result ≡ 2 * form_second_at (cells m) m.before.before.before.before.before.before.before.before.before.before.before.before.before.before.before.before.args.e
-half m = ap (λ (x : ℕ). 2 * x) (m.before.before.wide4.ensures ∙ m.before.before.before.form-second.ensures)
+half : (m : After-form_code) → 2 * m.wide-j.result ≡ 2 * form_second_at (cells m) m.args.e
+half m = ap (λ (x : ℕ). 2 * x) (m.wide-j.ensures ∙ m.form_second.ensures)
 
-low : (m : After-form_code) → m.before.before.before.before.before.before.wide2.result ≡ form_third_at (cells m) m.before.before.before.before.before.before.before.before.before.before.before.before.before.before.before.before.args.e
-low m = m.before.before.before.before.before.before.wide2.ensures ∙ m.before.before.before.before.before.before.before.form-third.ensures
+low : (m : After-form_code) → m.wide.result ≡ form_third_at (cells m) m.args.e
+low m = m.wide.ensures ∙ m.form_third.ensures
 
-high : (m : After-form_code) → m.before.before.before.before.wide3.result ≡ form_fourth_at (cells m) m.before.before.before.before.before.before.before.before.before.before.before.before.before.before.before.before.args.e
-high m = m.before.before.before.before.wide3.ensures ∙ m.before.before.before.before.before.form-fourth.ensures
+high : (m : After-form_code) → m.wide-2.result ≡ form_fourth_at (cells m) m.args.e
+high m = m.wide-2.ensures ∙ m.form_fourth.ensures
 
 -- END of `equal` and `apart`
-end-right : (m : After-form_code) (n : ℕ) → form_code_at (cells m) m.before.before.before.before.before.before.before.before.before.before.before.before.before.before.before.before.args.e ≡ n → 15 ≤ n → n ≤ 19 → (n ≡ 17 → ⊥) → end_known (cells m) m.before.end-at.result ≡ true
-end-right m n q a b ne = ap (end_known (cells m)) m.before.end-at.ensures ∙ end-ok (cells m) m.before.before.before.before.before.before.before.before.before.wide.result (ap (tables.end_number_ok (cells m)) (first m) ∙ set-end (cells m) (ready m).tables [] m.before.before.before.before.before.before.before.before.before.before.before.before.before.before.before.before.args.e (ready m).entry (omega (arith, q)) (omega (arith, q)) (λ h. ne (sym q ∙ h)))
+end-right : (m : After-form_code) (n : ℕ) → form_code_at (cells m) m.args.e ≡ n → 15 ≤ n → n ≤ 19 → (n ≡ 17 → ⊥) → end_known (cells m) m.end_at-end.result ≡ true
+end-right m n q a b ne = ap (end_known (cells m)) m.end_at-end.ensures ∙ end-ok (cells m) m.wide-p.result (ap (tables.end_number_ok (cells m)) (first m) ∙ set-end (cells m) (ready m).tables [] m.args.e (ready m).entry (omega (arith, q)) (omega (arith, q)) (λ h. ne (sym q ∙ h)))
 
 -- a path entry
-entry : (m : After-form_code) → form_first_at (cells m) m.before.before.before.before.before.before.before.before.before.before.before.before.before.before.before.before.args.e < path_count (cells m) → m.before.before.before.before.before.before.before.before.before.wide.result < path_count (cells m)
+entry : (m : After-form_code) → form_first_at (cells m) m.args.e < path_count (cells m) → m.wide-p.result < path_count (cells m)
 entry m h = subst (λ (p : ℕ). p < path_count (cells m)) (sym (first m)) h
 
 -- the code that is left
@@ -54,7 +54,7 @@ first_four k l a b c d = omega arith
 last_four : (k : ℕ) → codes.form_closed ≤ k → k ≤ codes.form_onelang → (k ≡ codes.form_closed → ⊥) → (k ≡ codes.form_less → ⊥) → (k ≡ codes.form_lesseq → ⊥) → k ≡ codes.form_onelang
 last_four k l m a b c = omega arith
 
-lang : (c : In_default) → form_code_at (cells c.before) c.args.e ≡ codes.form_onelang
+lang : (c : In_default) → form_code_at (cells (goal.at.In_default c).After-form_code) c.args.e ≡ codes.form_onelang
 lang c =
     let k = c.form_code.result in
     let pre = c.requires in
@@ -67,7 +67,7 @@ lang c =
     let n18 : k ≡ codes.form_less → ⊥ = c.in_default.rest.0.1 in
     let n19 : k ≡ codes.form_lesseq → ⊥ = c.in_default.rest.1 in
     let past : codes.form_closed ≤ k = first_four k (subst (λ (x : ℕ). codes.form_count ≤ x) (sym e) pre.1) n13 n14 n15 n16 in
-    let most : k ≤ codes.form_onelang = subst (λ (x : ℕ). x ≤ codes.form_onelang) (sym e) (code_le (ready c.before)) in
+    let most : k ≤ codes.form_onelang = subst (λ (x : ℕ). x ≤ codes.form_onelang) (sym e) (code_le (ready (goal.at.In_default c).After-form_code)) in
     sym e ∙ last_four k past most n17 n18 n19
 
 pub path_set-requires : goal.path_set-requires
