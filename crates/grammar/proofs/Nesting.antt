@@ -69,7 +69,7 @@ module _ (s : List ℕ) (above : Book) (N : Pools above) (k : Slot) (F : Family 
   pub family_exact : Bare → Exact s (Edge s) reader W (Good above d n k)
   family_exact B =
       record {
-        sound = λ at h x nx e. ⊎_elim (λ b. B.bare-sound at h x nx b) (opened_good x at nx) (bracket_sound s above N F placed R d' deep full (λ c. true) (begun n) X opens (bare at) at h x nx e);
+        sound = λ at h x nx e. ⊎_elim (λ b. B.bare_sound at h x nx b) (opened_good x at nx) (bracket_sound s above N F placed R d' deep full (λ c. true) (begun n) X opens (bare at) at h x nx e);
         complete = λ at nx x p q e. ⊎_elim
             (λ f. let u = f at nx p q e in bracket-bare s above N F placed R d' deep full (λ c. true) (begun n) X opens (bare at) at u.0 ∙ u.1)
             (λ v. let (c, xs, i) = v in subst (λ (x : Arg k). Span s at nx (W x) → Good above d n k x → reader at ≡ got x nx) i (built c xs at nx) p q)

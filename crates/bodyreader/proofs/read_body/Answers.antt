@@ -58,5 +58,5 @@ returns-in-9 c =
 pub returns-in_default : goal.returns-in_default
 returns-in_default c =
     let s = c.args in
-    let e : s.k ≡ 10 = let l = nots_past (Unit {0}) s.k 0 10 zero-le c.in_default.rest in let m = c.requires.1 in omega arith in
+    let e : s.k ≡ 10 = let l = nots_past (Unit {0}) s.k 0 10 zero-le c.in_default.in_default-own.rest in let m = c.requires.1 in omega arith in
     λ a h kinds. done_coded s.book.now a s.counts s.k 10 s.at _ s.names.now s.names.now s.cells.now _ s.values.now s.values.now (e) (c.rule_line.ensures a s.values.now h)

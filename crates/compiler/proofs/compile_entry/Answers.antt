@@ -85,7 +85,7 @@ returns-in-20 c = arm_onelang (read c.before.before.before.before.before) c.path
 
 pub returns-in-6-to-12 : goal.returns-in-6-to-12
 unfolding numbers_of
-returns-in-6-to-12 c = arm_test (read c.before.before.before.before.before.before) c.own_steps-in-6-to-12.new.plan c.own_steps-in-6-to-12.result (nots_past _ c.form_code-code.result 0 codes.form_kind zero-le c.in_default-1.rest.0.0.0.0.0.0.0.0) c.if-code-lt13.true c.own_steps-in-6-to-12.ensures
+returns-in-6-to-12 c = arm_test (read c.before.before.before.before.before.before) c.own_steps-in-6-to-12.new.plan c.own_steps-in-6-to-12.result (nots_past _ c.form_code-code.result 0 codes.form_kind zero-le c.in-6-to-12.in_default-own.rest.0.0.0.0.0.0.0.0) c.in-6-to-12.if-code-lt13-own.true c.own_steps-in-6-to-12.ensures
 
 pub returns-in-21-to-65535 : goal.returns-in-21-to-65535
-returns-in-21-to-65535 c = arm_unknown (read c.before.before) (read c.before.before).ps (record { next = (read c.before.before).n; keep = 0; breaking = 0 }) (nots_past _ c.form_code-code.result codes.form_count 8 c.if-code-lt13.false c.in_default-1.rest) refl refl refl refl
+returns-in-21-to-65535 c = arm_unknown (read c.before.before) (read c.before.before).ps (record { next = (read c.before.before).n; keep = 0; breaking = 0 }) (nots_past _ c.form_code-code.result codes.form_count 8 c.in-21-to-65535.if-code-lt13-own.false c.in-21-to-65535.in_default-own.rest) refl refl refl refl

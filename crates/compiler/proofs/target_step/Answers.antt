@@ -19,4 +19,4 @@ returns-in-2 c = let a = c.args in target-objects a.cells.now a.plan.now c.put_s
 
 pub returns-in-3-to-65535 : goal.returns-in-3-to-65535
 unfolding numbers_of
-returns-in-3-to-65535 c = let a = c.args in target_class_lem a.cells.now a.plan.now c.put_step-in-3-to-65535.new.plan a.r a.n c.rule_target-code.result c.rule_node-c.result.0 c.rule_target-code.ensures c.rule_node-c.ensures (nots_past _ c.rule_target-code.result 0 codes.target_class zero-le c.in-3-to-65535.rest) c.put_step-in-3-to-65535.ensures
+returns-in-3-to-65535 c = let a = c.args in target_class_lem a.cells.now a.plan.now c.put_step-in-3-to-65535.new.plan a.r a.n c.rule_target-code.result c.rule_node-c.result.0 c.rule_target-code.ensures c.rule_node-c.ensures (nots_past _ c.rule_target-code.result 0 codes.target_class zero-le c.in-3-to-65535.in-3-to-65535-own.rest) c.put_step-in-3-to-65535.ensures

@@ -10,4 +10,4 @@ pub returns-in-1 : goal.returns-in-1
 returns-in-1 c = λ vs. let a = c.args in kind_blank_lem a.cells.now vs a.v.0 c.requires c.node_kind-kind.result c.node_kind-kind.ensures c.in-1.is
 
 pub returns-in-2-to-65535 : goal.returns-in-2-to-65535
-returns-in-2-to-65535 c = λ vs. let a = c.args in kind_literal_lem a.cells.now vs a.v.0 c.requires c.node_kind-kind.result c.node_kind-kind.ensures (omega (arith, c.in-2-to-65535.rest))
+returns-in-2-to-65535 c = λ vs. let a = c.args in kind_literal_lem a.cells.now vs a.v.0 c.requires c.node_kind-kind.result c.node_kind-kind.ensures (omega (arith, c.in-2-to-65535.in-2-to-65535-own.rest))

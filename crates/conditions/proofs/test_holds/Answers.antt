@@ -67,4 +67,4 @@ returns-in_default c =
     let a = c.args in
     let cs = a.cells.now in
     let vs = a.values.now in
-    (λ i. c.has_number-in_default.ensures i && lt_z (read_back c.number-in_default.result c.number-in_default.type_inv c.number-in_default.ensures i) (read_back c.limit-in_default.result c.limit-in_default.type_inv c.limit-in_default.ensures i)) ∙ sym (value_test cs vs a.v.0 c.requires.0 (λ y. lt_z y (limit_at vs a.e))) ∙ entry_by_lem cs vs a.e a.v.0 codes.form_below (sym c.form_code.ensures ∙ (let h : 12 ≤ c.form_code.result = past c.form_code.result 6 6 (omega (arith, c.requires, c.form_code.ensures)) c.in_default.rest in omega (arith, c.requires, c.form_code.ensures)))
+    (λ i. c.has_number-in_default.ensures i && lt_z (read_back c.number-in_default.result c.number-in_default.type_inv c.number-in_default.ensures i) (read_back c.limit-in_default.result c.limit-in_default.type_inv c.limit-in_default.ensures i)) ∙ sym (value_test cs vs a.v.0 c.requires.0 (λ y. lt_z y (limit_at vs a.e))) ∙ entry_by_lem cs vs a.e a.v.0 codes.form_below (sym c.form_code.ensures ∙ (let h : 12 ≤ c.form_code.result = past c.form_code.result 6 6 (omega (arith, c.requires, c.form_code.ensures)) c.in_default.in_default-own.rest in omega (arith, c.requires, c.form_code.ensures)))

@@ -62,4 +62,4 @@ unfolding end_in
 returns-in_default c =
     let a = c.args in
     let cs = a.cells.now in
-    c.lesseq_holds.ensures ∙ set_lesseq cs a.values.now a.e a.v.0 c.requires.0 (c.ends_of-first.ensures ∙ ap (λ (x : End). words_of (ends_of (node_count cs) (triples_at cs) x a.v.0) 16) (ap (end_in cs) c.end_at.ensures ∙ end_in_lem cs c.wide.result ∙ ap (end_at cs) (c.wide.ensures ∙ c.form_first.ensures))) (c.ends_of-second.ensures ∙ ap (λ (i : ℕ). words_of (ends_of (node_count cs) (triples_at cs) (along (predicate i)) a.v.0) 16) c.form_link.ensures) (sym c.form_code.ensures ∙ (let k = c.form_code.result in let ne : k ≡ 17 → ⊥ = λ h. c.requires.3 (sym c.form_code.ensures ∙ h) in let q : k ≡ 19 = omega (arith, c.form_code.ensures, c.requires.1, c.requires.2, c.in_default.rest) in q))
+    c.lesseq_holds.ensures ∙ set_lesseq cs a.values.now a.e a.v.0 c.requires.0 (c.ends_of-first.ensures ∙ ap (λ (x : End). words_of (ends_of (node_count cs) (triples_at cs) x a.v.0) 16) (ap (end_in cs) c.end_at.ensures ∙ end_in_lem cs c.wide.result ∙ ap (end_at cs) (c.wide.ensures ∙ c.form_first.ensures))) (c.ends_of-second.ensures ∙ ap (λ (i : ℕ). words_of (ends_of (node_count cs) (triples_at cs) (along (predicate i)) a.v.0) 16) c.form_link.ensures) (sym c.form_code.ensures ∙ (let k = c.form_code.result in let ne : k ≡ 17 → ⊥ = λ h. c.requires.3 (sym c.form_code.ensures ∙ h) in let q : k ≡ 19 = omega (arith, c.form_code.ensures, c.requires.1, c.requires.2, c.in_default.in_default-own.rest) in q))

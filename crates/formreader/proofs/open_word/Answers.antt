@@ -32,4 +32,4 @@ pub returns-in-2-to-4 : goal.returns-in-2-to-4
 returns-in-2-to-4 c =
     let s = c.args in
     let p = c.requires in
-    (λ a h b e i. word_fronted s.book.now a (s.left - 1) s.code s.n.paths b s.at s.cells.now s.values.now c.if-code-lt2.false c.if-code-lt5.true, ((p.4, p.5, p.6, p.0), (refl, refl)))
+    (λ a h b e i. word_fronted s.book.now a (s.left - 1) s.code s.n.paths b s.at s.cells.now s.values.now c.in-2-to-4.if-code-lt2-own.false c.in-2-to-4.if-code-lt5-own.true, ((p.4, p.5, p.6, p.0), (refl, refl)))

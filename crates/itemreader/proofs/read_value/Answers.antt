@@ -40,4 +40,4 @@ returns-in-Value c =
     let end = c.item_end-end in
     let z = sym c.byte.ensures ∙ c.if-byte-ne32.false in
     let x = c.x-1.given in
-    (λ a R b. rw (eq-eqb _ 32 z, value-is s.book.now a (s.at + 1) end.result end.ensures x.0.0 (sym c.number_at.ensures ∙ x.1)) (ap (λ (v : ℤ). Value.Is v end.result) (to_z-of_z (record { sfits = c.known_told-1.given.0.1 }))), (item-within s.book.now s.at end.result 31 z end.ensures).1)
+    (λ a R b. rw (eq-eqb _ 32 z, value-is s.book.now a (s.at + 1) end.result end.ensures x.0.0 (sym c.number_at.ensures ∙ x.1)) (ap (λ (v : ℤ). Value.Is v end.result) (to_z-of_z (record { sfits = c.in-Value.known_told-1-own.given.0.1 }))), (item-within s.book.now s.at end.result 31 z end.ensures).1)

@@ -121,6 +121,6 @@ returns-in_default c =
     let s = c.args in
     let p = c.requires in
     let o = c.onelang_form in
-    let n = c.in_default.rest in
+    let n = c.in_default.in_default-own.rest in
     let e = last_leaf s.code p.8 p.9 n.0.0.0.0.0.0.0.0.0.0.0.0.0.1 n.0.0.0.0.0.0.0.0.0.0.0.0.1 n.0.0.0.0.0.0.0.0.0.0.0.1 n.0.0.0.0.0.0.0.0.0.0.1 n.0.0.0.0.0.0.0.0.0.1 n.0.0.0.0.0.0.0.0.1 n.0.0.0.0.0.0.0.1 n.0.0.0.0.0.0.1 n.0.0.0.0.0.1 n.0.0.0.0.1 n.0.0.0.1 n.0.0.1 n.0.1 n.1 in
     (λ a h b q i. form_is_lem (body_is s.book.now a s.left s.code 19 b s.at e) (o.ensures.0 a h b q s.values.now), (o.ensures.1.0, (o.ensures.1.1, refl)))

@@ -31,7 +31,7 @@ returns-in-Is c =
     let j = c.x-1.given in
     let r = c.read_value in
     let o = c.close_form in
-    let z = to_z-of_z (record { sfits = c.known_told-in-Is-1.given.0.1 }) in
+    let z = to_z-of_z (record { sfits = c.in-Is.known_told-in-Is-1-own.given.0.1 }) in
     let next : ℕ = j.0.1.0 in (
       λ a R b f sh.
           value-stored (form_values + s.n.forms) j.0.0 (to_z w64 (of_z w64 j.0.0)) z

@@ -114,4 +114,4 @@ returns-in-Is-read_value c =
     let e₃ = value_got (arg_at S a R value b₂ v.0.1.0) r₃.result x.0.0 x.0.1.0 (r₃.ensures.0 a R b₂) x.1 in
     let q = body_is S a number_l s.at ∙ all₃ S a true (new nodes) literal_type value (line_family.build number_l) b s.at w u.0.1.0 e v.0.0 v.0.1.0 e₂ x.0.0 x.0.1.0 e₃ in
     let t = numeric v.0.0 x.0.0 in
-    done_same a s.counts (line_body S a number_l s.at) (line_end S a true (node w t) x.0.1.0) _ s.names.now _ s.cells.now _ s.values.now _ q (o.ensures a t h (refl, refl, refl, to_z-of_z (record { sfits = c.known_told-in-Is-read_value-1.given.0.1 })))
+    done_same a s.counts (line_body S a number_l s.at) (line_end S a true (node w t) x.0.1.0) _ s.names.now _ s.cells.now _ s.values.now _ q (o.ensures a t h (refl, refl, refl, to_z-of_z (record { sfits = c.in-Is-read_value.known_told-in-Is-read_value-1-own.given.0.1 })))

@@ -23,40 +23,40 @@ returns-in-24 c = case_is (step_by_lem c.args.cells.now c.args.plan.now c.args.k
 
 pub returns-in-0 : goal.returns-in-0
 unfolding step_of step_ok
-returns-in-0 c = case_in (step_by_lem c.args.cells.now c.args.plan.now c.args.k c.step_first-a.result c.step_second-b.result) c.step_code.result (step_by c.args.cells.now c.args.plan.now c.args.k c.step_first-a.result c.step_second-b.result c.step_code.result c.step_first-a.ensures c.step_second-b.ensures c.step_code.ensures) 0 2 zero-le c.if-this-lt2.true (refl, (refl, tt))
+returns-in-0 c = case_in (step_by_lem c.args.cells.now c.args.plan.now c.args.k c.step_first-a.result c.step_second-b.result) c.step_code.result (step_by c.args.cells.now c.args.plan.now c.args.k c.step_first-a.result c.step_second-b.result c.step_code.result c.step_first-a.ensures c.step_second-b.ensures c.step_code.ensures) 0 2 zero-le c.in-0.if-this-lt2-own.true (refl, (refl, tt))
 
 pub returns-in-2 : goal.returns-in-2
 unfolding step_of step_ok
-returns-in-2 c = case_in (step_by_lem c.args.cells.now c.args.plan.now c.args.k c.step_first-a.result c.step_second-b.result) c.step_code.result (step_by c.args.cells.now c.args.plan.now c.args.k c.step_first-a.result c.step_second-b.result c.step_code.result c.step_first-a.ensures c.step_second-b.ensures c.step_code.ensures) 2 2 c.if-this-lt2.false c.if-this-lt4.true (read_twice (node_count c.args.cells.now) c.node_there-in-2.ensures c.step_node-in-2.ensures c.step_first-a.ensures, (read_twice (node_count c.args.cells.now) c.node_there-in-2.ensures c.step_node-in-2.ensures c.step_first-a.ensures, tt))
+returns-in-2 c = case_in (step_by_lem c.args.cells.now c.args.plan.now c.args.k c.step_first-a.result c.step_second-b.result) c.step_code.result (step_by c.args.cells.now c.args.plan.now c.args.k c.step_first-a.result c.step_second-b.result c.step_code.result c.step_first-a.ensures c.step_second-b.ensures c.step_code.ensures) 2 2 c.in-2.if-this-lt2-own.false c.in-2.if-this-lt4-own.true (read_twice (node_count c.args.cells.now) c.node_there-in-2.ensures c.step_node-in-2.ensures c.step_first-a.ensures, (read_twice (node_count c.args.cells.now) c.node_there-in-2.ensures c.step_node-in-2.ensures c.step_first-a.ensures, tt))
 
 pub returns-in-4 : goal.returns-in-4
 unfolding step_of step_ok
-returns-in-4 c = case_in (step_by_lem c.args.cells.now c.args.plan.now c.args.k c.step_first-a.result c.step_second-b.result) c.step_code.result (step_by c.args.cells.now c.args.plan.now c.args.k c.step_first-a.result c.step_second-b.result c.step_code.result c.step_first-a.ensures c.step_second-b.ensures c.step_code.ensures) 4 2 c.if-this-lt4.false c.if-this-lt6.true (c.test_ok.ensures, (c.test_ok.ensures, tt))
+returns-in-4 c = case_in (step_by_lem c.args.cells.now c.args.plan.now c.args.k c.step_first-a.result c.step_second-b.result) c.step_code.result (step_by c.args.cells.now c.args.plan.now c.args.k c.step_first-a.result c.step_second-b.result c.step_code.result c.step_first-a.ensures c.step_second-b.ensures c.step_code.ensures) 4 2 c.in-4.if-this-lt4-own.false c.in-4.if-this-lt6-own.true (c.test_ok.ensures, (c.test_ok.ensures, tt))
 
 pub returns-in-6 : goal.returns-in-6
 unfolding step_of step_ok
-returns-in-6 c = case_in (step_by_lem c.args.cells.now c.args.plan.now c.args.k c.step_first-a.result c.step_second-b.result) c.step_code.result (step_by c.args.cells.now c.args.plan.now c.args.k c.step_first-a.result c.step_second-b.result c.step_code.result c.step_first-a.ensures c.step_second-b.ensures c.step_code.ensures) 6 2 c.if-this-lt6.false c.if-this-lt8.true (refl, (refl, tt))
+returns-in-6 c = case_in (step_by_lem c.args.cells.now c.args.plan.now c.args.k c.step_first-a.result c.step_second-b.result) c.step_code.result (step_by c.args.cells.now c.args.plan.now c.args.k c.step_first-a.result c.step_second-b.result c.step_code.result c.step_first-a.ensures c.step_second-b.ensures c.step_code.ensures) 6 2 c.in-6.if-this-lt6-own.false c.in-6.if-this-lt8-own.true (refl, (refl, tt))
 
 pub returns-in-10-to-13 : goal.returns-in-10-to-13
 unfolding step_of step_ok
-returns-in-10-to-13 c = case_in (step_by_lem c.args.cells.now c.args.plan.now c.args.k c.step_first-a.result c.step_second-b.result) c.step_code.result (step_by c.args.cells.now c.args.plan.now c.args.k c.step_first-a.result c.step_second-b.result c.step_code.result c.step_first-a.ensures c.step_second-b.ensures c.step_code.ensures) 10 4 (next 9 c.step_code.result (next 8 c.step_code.result c.if-this-lt8.false c.in_default-1.rest.0.0.1) c.in_default-1.rest.0.1) c.if-this-lt14.true (ap₂ ◌&&◌ c.end_ok.ensures (read_twice (link_count c.args.cells.now) c.link_there.ensures c.step_second_link.ensures c.step_second-b.ensures), (ap₂ ◌&&◌ c.end_ok.ensures (read_twice (link_count c.args.cells.now) c.link_there.ensures c.step_second_link.ensures c.step_second-b.ensures), (ap₂ ◌&&◌ c.end_ok.ensures (read_twice (link_count c.args.cells.now) c.link_there.ensures c.step_second_link.ensures c.step_second-b.ensures), (ap₂ ◌&&◌ c.end_ok.ensures (read_twice (link_count c.args.cells.now) c.link_there.ensures c.step_second_link.ensures c.step_second-b.ensures), tt))))
+returns-in-10-to-13 c = case_in (step_by_lem c.args.cells.now c.args.plan.now c.args.k c.step_first-a.result c.step_second-b.result) c.step_code.result (step_by c.args.cells.now c.args.plan.now c.args.k c.step_first-a.result c.step_second-b.result c.step_code.result c.step_first-a.ensures c.step_second-b.ensures c.step_code.ensures) 10 4 (next 9 c.step_code.result (next 8 c.step_code.result c.in-10-to-13.if-this-lt8-own.false c.in-10-to-13.in_default-own.rest.0.0.1) c.in-10-to-13.in_default-own.rest.0.1) c.in-10-to-13.if-this-lt14-own.true (ap₂ ◌&&◌ c.end_ok.ensures (read_twice (link_count c.args.cells.now) c.link_there.ensures c.step_second_link.ensures c.step_second-b.ensures), (ap₂ ◌&&◌ c.end_ok.ensures (read_twice (link_count c.args.cells.now) c.link_there.ensures c.step_second_link.ensures c.step_second-b.ensures), (ap₂ ◌&&◌ c.end_ok.ensures (read_twice (link_count c.args.cells.now) c.link_there.ensures c.step_second_link.ensures c.step_second-b.ensures), (ap₂ ◌&&◌ c.end_ok.ensures (read_twice (link_count c.args.cells.now) c.link_there.ensures c.step_second_link.ensures c.step_second-b.ensures), tt))))
 
 pub returns-in-14 : goal.returns-in-14
 unfolding step_of step_ok
-returns-in-14 c = case_in (step_by_lem c.args.cells.now c.args.plan.now c.args.k c.step_first-a.result c.step_second-b.result) c.step_code.result (step_by c.args.cells.now c.args.plan.now c.args.k c.step_first-a.result c.step_second-b.result c.step_code.result c.step_first-a.ensures c.step_second-b.ensures c.step_code.ensures) 14 2 c.if-this-lt14.false c.if-this-lt16.true (c.closed_ok.ensures, (c.closed_ok.ensures, tt))
+returns-in-14 c = case_in (step_by_lem c.args.cells.now c.args.plan.now c.args.k c.step_first-a.result c.step_second-b.result) c.step_code.result (step_by c.args.cells.now c.args.plan.now c.args.k c.step_first-a.result c.step_second-b.result c.step_code.result c.step_first-a.ensures c.step_second-b.ensures c.step_code.ensures) 14 2 c.in-14.if-this-lt14-own.false c.in-14.if-this-lt16-own.true (c.closed_ok.ensures, (c.closed_ok.ensures, tt))
 
 pub returns-in-16-to-19 : goal.returns-in-16-to-19
 unfolding step_of step_ok
-returns-in-16-to-19 c = case_in (step_by_lem c.args.cells.now c.args.plan.now c.args.k c.step_first-a.result c.step_second-b.result) c.step_code.result (step_by c.args.cells.now c.args.plan.now c.args.k c.step_first-a.result c.step_second-b.result c.step_code.result c.step_first-a.ensures c.step_second-b.ensures c.step_code.ensures) 16 4 c.if-this-lt16.false c.if-this-lt20.true (ap₂ ◌&&◌ (ap (ltb _) c.path_count-in-16-to-19.ensures) (read_twice (link_count c.args.cells.now) c.link_there-in-16-to-19.ensures c.step_second_link-in-16-to-19.ensures c.step_second-b.ensures), (ap₂ ◌&&◌ (ap (ltb _) c.path_count-in-16-to-19.ensures) (read_twice (link_count c.args.cells.now) c.link_there-in-16-to-19.ensures c.step_second_link-in-16-to-19.ensures c.step_second-b.ensures), (ap₂ ◌&&◌ (ap (ltb _) c.path_count-in-16-to-19.ensures) (read_twice (link_count c.args.cells.now) c.link_there-in-16-to-19.ensures c.step_second_link-in-16-to-19.ensures c.step_second-b.ensures), (ap₂ ◌&&◌ (ap (ltb _) c.path_count-in-16-to-19.ensures) (read_twice (link_count c.args.cells.now) c.link_there-in-16-to-19.ensures c.step_second_link-in-16-to-19.ensures c.step_second-b.ensures), tt))))
+returns-in-16-to-19 c = case_in (step_by_lem c.args.cells.now c.args.plan.now c.args.k c.step_first-a.result c.step_second-b.result) c.step_code.result (step_by c.args.cells.now c.args.plan.now c.args.k c.step_first-a.result c.step_second-b.result c.step_code.result c.step_first-a.ensures c.step_second-b.ensures c.step_code.ensures) 16 4 c.in-16-to-19.if-this-lt16-own.false c.in-16-to-19.if-this-lt20-own.true (ap₂ ◌&&◌ (ap (ltb _) c.path_count-in-16-to-19.ensures) (read_twice (link_count c.args.cells.now) c.link_there-in-16-to-19.ensures c.step_second_link-in-16-to-19.ensures c.step_second-b.ensures), (ap₂ ◌&&◌ (ap (ltb _) c.path_count-in-16-to-19.ensures) (read_twice (link_count c.args.cells.now) c.link_there-in-16-to-19.ensures c.step_second_link-in-16-to-19.ensures c.step_second-b.ensures), (ap₂ ◌&&◌ (ap (ltb _) c.path_count-in-16-to-19.ensures) (read_twice (link_count c.args.cells.now) c.link_there-in-16-to-19.ensures c.step_second_link-in-16-to-19.ensures c.step_second-b.ensures), (ap₂ ◌&&◌ (ap (ltb _) c.path_count-in-16-to-19.ensures) (read_twice (link_count c.args.cells.now) c.link_there-in-16-to-19.ensures c.step_second_link-in-16-to-19.ensures c.step_second-b.ensures), tt))))
 
 pub returns-in-20 : goal.returns-in-20
 unfolding step_of step_ok
-returns-in-20 c = case_in (step_by_lem c.args.cells.now c.args.plan.now c.args.k c.step_first-a.result c.step_second-b.result) c.step_code.result (step_by c.args.cells.now c.args.plan.now c.args.k c.step_first-a.result c.step_second-b.result c.step_code.result c.step_first-a.ensures c.step_second-b.ensures c.step_code.ensures) 20 2 c.if-this-lt20.false c.if-this-lt22.true (ap (ltb _) c.path_count-in-20.ensures, (ap (ltb _) c.path_count-in-20.ensures, tt))
+returns-in-20 c = case_in (step_by_lem c.args.cells.now c.args.plan.now c.args.k c.step_first-a.result c.step_second-b.result) c.step_code.result (step_by c.args.cells.now c.args.plan.now c.args.k c.step_first-a.result c.step_second-b.result c.step_code.result c.step_first-a.ensures c.step_second-b.ensures c.step_code.ensures) 20 2 c.in-20.if-this-lt20-own.false c.in-20.if-this-lt22-own.true (ap (ltb _) c.path_count-in-20.ensures, (ap (ltb _) c.path_count-in-20.ensures, tt))
 
 pub returns-in-22 : goal.returns-in-22
 unfolding step_of step_ok
-returns-in-22 c = case_in (step_by_lem c.args.cells.now c.args.plan.now c.args.k c.step_first-a.result c.step_second-b.result) c.step_code.result (step_by c.args.cells.now c.args.plan.now c.args.k c.step_first-a.result c.step_second-b.result c.step_code.result c.step_first-a.ensures c.step_second-b.ensures c.step_code.ensures) 22 2 c.if-this-lt22.false c.if-this-lt24.true (read_twice (link_count c.args.cells.now) c.link_there-in-22.ensures c.step_link.ensures c.step_first-a.ensures, (read_twice (link_count c.args.cells.now) c.link_there-in-22.ensures c.step_link.ensures c.step_first-a.ensures, tt))
+returns-in-22 c = case_in (step_by_lem c.args.cells.now c.args.plan.now c.args.k c.step_first-a.result c.step_second-b.result) c.step_code.result (step_by c.args.cells.now c.args.plan.now c.args.k c.step_first-a.result c.step_second-b.result c.step_code.result c.step_first-a.ensures c.step_second-b.ensures c.step_code.ensures) 22 2 c.in-22.if-this-lt22-own.false c.in-22.if-this-lt24-own.true (read_twice (link_count c.args.cells.now) c.link_there-in-22.ensures c.step_link.ensures c.step_first-a.ensures, (read_twice (link_count c.args.cells.now) c.link_there-in-22.ensures c.step_link.ensures c.step_first-a.ensures, tt))
 
 pub returns-in-25-to-65535 : goal.returns-in-25-to-65535
 unfolding step_of step_ok
-returns-in-25-to-65535 c = case_past (step_by_lem c.args.cells.now c.args.plan.now c.args.k c.step_first-a.result c.step_second-b.result) c.step_code.result (step_by c.args.cells.now c.args.plan.now c.args.k c.step_first-a.result c.step_second-b.result c.step_code.result c.step_first-a.ensures c.step_second-b.ensures c.step_code.ensures) 25 (next 24 c.step_code.result c.if-this-lt24.false c.in_default-1.rest.1) (λ j l. step-unknown c.args.cells.now c.args.plan.now c.args.k c.step_first-a.result c.step_second-b.result j l)
+returns-in-25-to-65535 c = case_past (step_by_lem c.args.cells.now c.args.plan.now c.args.k c.step_first-a.result c.step_second-b.result) c.step_code.result (step_by c.args.cells.now c.args.plan.now c.args.k c.step_first-a.result c.step_second-b.result c.step_code.result c.step_first-a.ensures c.step_second-b.ensures c.step_code.ensures) 25 (next 24 c.step_code.result c.in-25-to-65535.if-this-lt24-own.false c.in-25-to-65535.in_default-own.rest.1) (λ j l. step-unknown c.args.cells.now c.args.plan.now c.args.k c.step_first-a.result c.step_second-b.result j l)

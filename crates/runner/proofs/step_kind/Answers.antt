@@ -155,4 +155,4 @@ unfolding step_of kind_of
 returns-in-24 c = arm (read c.before) c.in-24.is (by_node_lem (read c.before) (λ x. Selected (Typed x)))
 
 pub returns-in-25-to-65535 : goal.returns-in-25-to-65535
-returns-in-25-to-65535 c = arm_unknown (read c.before) (nots_past _ c.step_code.result 0 step_unknown zero-le c.in-25-to-65535.rest)
+returns-in-25-to-65535 c = arm_unknown (read c.before) (nots_past _ c.step_code.result 0 step_unknown zero-le c.in-25-to-65535.in-25-to-65535-own.rest)

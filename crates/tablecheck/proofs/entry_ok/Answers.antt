@@ -56,20 +56,20 @@ returns-in-20 c = case_is (entry_by c.args.cells.now c.args.e c.form_first-a.res
 
 pub returns-in-3 : goal.returns-in-3
 unfolding entry_of entry_ok
-returns-in-3 c = case_in (entry_by c.args.cells.now c.args.e c.form_first-a.result c.form_second-b.result) c.form_code.result (entry_by_lem c.args.cells.now c.args.e c.form_first-a.result c.form_second-b.result c.form_code.result c.form_first-a.ensures c.form_second-b.ensures c.form_code.ensures) codes.form_and 2 (next codes.form_shape c.form_code.result (next codes.form_is c.form_code.result (next codes.form_true c.form_code.result zero-le c.in_default-1.rest.0.0.0.0.0.0.0.0.0.0.1) c.in_default-1.rest.0.0.0.0.0.0.0.0.0.1) c.in_default-1.rest.0.0.0.0.0.0.0.0.1) c.if-this-lt5.true (ap₂ ◌&&◌ c.below-in-3.ensures c.below-in-3-2.ensures, (ap₂ ◌&&◌ c.below-in-3.ensures c.below-in-3-2.ensures, tt))
+returns-in-3 c = case_in (entry_by c.args.cells.now c.args.e c.form_first-a.result c.form_second-b.result) c.form_code.result (entry_by_lem c.args.cells.now c.args.e c.form_first-a.result c.form_second-b.result c.form_code.result c.form_first-a.ensures c.form_second-b.ensures c.form_code.ensures) codes.form_and 2 (next codes.form_shape c.form_code.result (next codes.form_is c.form_code.result (next codes.form_true c.form_code.result zero-le c.in-3.in_default-own.rest.0.0.0.0.0.0.0.0.0.0.1) c.in-3.in_default-own.rest.0.0.0.0.0.0.0.0.0.1) c.in-3.in_default-own.rest.0.0.0.0.0.0.0.0.1) c.in-3.if-this-lt5-own.true (ap₂ ◌&&◌ c.below-in-3.ensures c.below-in-3-2.ensures, (ap₂ ◌&&◌ c.below-in-3.ensures c.below-in-3-2.ensures, tt))
 
 pub returns-in-9-to-12 : goal.returns-in-9-to-12
 unfolding entry_of entry_ok
-returns-in-9-to-12 c = case_in (entry_by c.args.cells.now c.args.e c.form_first-a.result c.form_second-b.result) c.form_code.result (entry_by_lem c.args.cells.now c.args.e c.form_first-a.result c.form_second-b.result c.form_code.result c.form_first-a.ensures c.form_second-b.ensures c.form_code.ensures) codes.form_from 4 (next codes.form_lang c.form_code.result (next codes.form_datatype c.form_code.result (next codes.form_kind c.form_code.result (next codes.form_not c.form_code.result c.if-this-lt5.false c.in_default-1.rest.0.0.0.0.0.0.0.1) c.in_default-1.rest.0.0.0.0.0.0.1) c.in_default-1.rest.0.0.0.0.0.1) c.in_default-1.rest.0.0.0.0.1) c.if-this-lt13.true (refl, (refl, (refl, (refl, tt))))
+returns-in-9-to-12 c = case_in (entry_by c.args.cells.now c.args.e c.form_first-a.result c.form_second-b.result) c.form_code.result (entry_by_lem c.args.cells.now c.args.e c.form_first-a.result c.form_second-b.result c.form_code.result c.form_first-a.ensures c.form_second-b.ensures c.form_code.ensures) codes.form_from 4 (next codes.form_lang c.form_code.result (next codes.form_datatype c.form_code.result (next codes.form_kind c.form_code.result (next codes.form_not c.form_code.result c.in-9-to-12.if-this-lt5-own.false c.in-9-to-12.in_default-own.rest.0.0.0.0.0.0.0.1) c.in-9-to-12.in_default-own.rest.0.0.0.0.0.0.1) c.in-9-to-12.in_default-own.rest.0.0.0.0.0.1) c.in-9-to-12.in_default-own.rest.0.0.0.0.1) c.in-9-to-12.if-this-lt13-own.true (refl, (refl, (refl, (refl, tt))))
 
 pub returns-in-15 : goal.returns-in-15
 unfolding entry_of entry_ok
-returns-in-15 c = case_in (entry_by c.args.cells.now c.args.e c.form_first-a.result c.form_second-b.result) c.form_code.result (entry_by_lem c.args.cells.now c.args.e c.form_first-a.result c.form_second-b.result c.form_code.result c.form_first-a.ensures c.form_second-b.ensures c.form_code.ensures) codes.form_equal 2 (next codes.form_all c.form_code.result (next codes.form_count c.form_code.result c.if-this-lt13.false c.in_default-1.rest.0.0.0.1) c.in_default-1.rest.0.0.1) c.if-this-lt17.true (ap₂ ◌&&◌ (c.end_ok.ensures ∙ ap (end_number_ok _) c.wide.ensures) (read_twice (link_count c.args.cells.now) c.link_there.ensures c.form_link.ensures c.form_second-b.ensures), (ap₂ ◌&&◌ (c.end_ok.ensures ∙ ap (end_number_ok _) c.wide.ensures) (read_twice (link_count c.args.cells.now) c.link_there.ensures c.form_link.ensures c.form_second-b.ensures), tt))
+returns-in-15 c = case_in (entry_by c.args.cells.now c.args.e c.form_first-a.result c.form_second-b.result) c.form_code.result (entry_by_lem c.args.cells.now c.args.e c.form_first-a.result c.form_second-b.result c.form_code.result c.form_first-a.ensures c.form_second-b.ensures c.form_code.ensures) codes.form_equal 2 (next codes.form_all c.form_code.result (next codes.form_count c.form_code.result c.in-15.if-this-lt13-own.false c.in-15.in_default-own.rest.0.0.0.1) c.in-15.in_default-own.rest.0.0.1) c.in-15.if-this-lt17-own.true (ap₂ ◌&&◌ (c.end_ok.ensures ∙ ap (end_number_ok _) c.wide.ensures) (read_twice (link_count c.args.cells.now) c.link_there.ensures c.form_link.ensures c.form_second-b.ensures), (ap₂ ◌&&◌ (c.end_ok.ensures ∙ ap (end_number_ok _) c.wide.ensures) (read_twice (link_count c.args.cells.now) c.link_there.ensures c.form_link.ensures c.form_second-b.ensures), tt))
 
 pub returns-in-18 : goal.returns-in-18
 unfolding entry_of entry_ok
-returns-in-18 c = case_in (entry_by c.args.cells.now c.args.e c.form_first-a.result c.form_second-b.result) c.form_code.result (entry_by_lem c.args.cells.now c.args.e c.form_first-a.result c.form_second-b.result c.form_code.result c.form_first-a.ensures c.form_second-b.ensures c.form_code.ensures) codes.form_less 2 (next codes.form_closed c.form_code.result c.if-this-lt17.false c.in_default-1.rest.0.1) c.if-this-lt20.true (ap₂ ◌&&◌ (c.below-in-18.ensures ∙ ap (ltb _) c.path_count-in-18.ensures) (read_twice (link_count c.args.cells.now) c.link_there-in-18.ensures c.form_link-in-18.ensures c.form_second-b.ensures), (ap₂ ◌&&◌ (c.below-in-18.ensures ∙ ap (ltb _) c.path_count-in-18.ensures) (read_twice (link_count c.args.cells.now) c.link_there-in-18.ensures c.form_link-in-18.ensures c.form_second-b.ensures), tt))
+returns-in-18 c = case_in (entry_by c.args.cells.now c.args.e c.form_first-a.result c.form_second-b.result) c.form_code.result (entry_by_lem c.args.cells.now c.args.e c.form_first-a.result c.form_second-b.result c.form_code.result c.form_first-a.ensures c.form_second-b.ensures c.form_code.ensures) codes.form_less 2 (next codes.form_closed c.form_code.result c.in-18.if-this-lt17-own.false c.in-18.in_default-own.rest.0.1) c.in-18.if-this-lt20-own.true (ap₂ ◌&&◌ (c.below-in-18.ensures ∙ ap (ltb _) c.path_count-in-18.ensures) (read_twice (link_count c.args.cells.now) c.link_there-in-18.ensures c.form_link-in-18.ensures c.form_second-b.ensures), (ap₂ ◌&&◌ (c.below-in-18.ensures ∙ ap (ltb _) c.path_count-in-18.ensures) (read_twice (link_count c.args.cells.now) c.link_there-in-18.ensures c.form_link-in-18.ensures c.form_second-b.ensures), tt))
 
 pub returns-in-21-to-65535 : goal.returns-in-21-to-65535
 unfolding entry_of entry_ok
-returns-in-21-to-65535 c = case_past (entry_by c.args.cells.now c.args.e c.form_first-a.result c.form_second-b.result) c.form_code.result (entry_by_lem c.args.cells.now c.args.e c.form_first-a.result c.form_second-b.result c.form_code.result c.form_first-a.ensures c.form_second-b.ensures c.form_code.ensures) (suc codes.form_onelang) (next codes.form_onelang c.form_code.result c.if-this-lt20.false c.in_default-1.rest.1) (λ j l. entry-unknown c.args.cells.now c.args.e c.form_first-a.result c.form_second-b.result j l)
+returns-in-21-to-65535 c = case_past (entry_by c.args.cells.now c.args.e c.form_first-a.result c.form_second-b.result) c.form_code.result (entry_by_lem c.args.cells.now c.args.e c.form_first-a.result c.form_second-b.result c.form_code.result c.form_first-a.ensures c.form_second-b.ensures c.form_code.ensures) (suc codes.form_onelang) (next codes.form_onelang c.form_code.result c.in-21-to-65535.if-this-lt20-own.false c.in-21-to-65535.in_default-own.rest.1) (λ j l. entry-unknown c.args.cells.now c.args.e c.form_first-a.result c.form_second-b.result j l)

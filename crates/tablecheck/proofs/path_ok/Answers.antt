@@ -42,11 +42,11 @@ returns-in-0 c =
 pub returns-in-2 : goal.returns-in-2
 unfolding path_entry_of path_entry_ok
 returns-in-2 c =
-    case_in (by c.before.before) c.path_code.result (read c.before.before) codes.path_seq 2 (next codes.path_inv c.path_code.result (next codes.path_link c.path_code.result zero-le c.in_default-1.rest.0.1) c.in_default-1.rest.1) c.if-this-lt4.true (refl, (refl, tt))
+    case_in (by c.before.before) c.path_code.result (read c.before.before) codes.path_seq 2 (next codes.path_inv c.path_code.result (next codes.path_link c.path_code.result zero-le c.in-2.in_default-own.rest.0.1) c.in-2.in_default-own.rest.1) c.in-2.if-this-lt4-own.true (refl, (refl, tt))
 
 pub returns-in-6-to-65535 : goal.returns-in-6-to-65535
 returns-in-6-to-65535 c =
-    case_past (by c.before.before.before) c.path_code.result (read c.before.before.before) codes.path_unknown c.if-this-lt6.false (λ j l. path_unknown_lem c.args.cells.now c.args.e c.path_first-a.result c.path_second-b.result j l)
+    case_past (by c.before.before.before) c.path_code.result (read c.before.before.before) codes.path_unknown c.in-6-to-65535.if-this-lt6-own.false (λ j l. path_unknown_lem c.args.cells.now c.args.e c.path_first-a.result c.path_second-b.result j l)
 
 pub returns-in-1 : goal.returns-in-1
 unfolding path_entry_of path_entry_ok

@@ -53,18 +53,18 @@ lang_holds-requires c = (asked_of c.requires, (sym c.form_code.ensures ∙ c.in-
 
 pub test_holds-requires : goal.test_holds-requires
 test_holds-requires c =
-    let k : codes.form_kind ≤ c.form_code.result = past c.form_code.result 0 6 zero-le c.in_default-1.rest.0.0.0.0 in
-    (c.requires.node, omega (arith, c.form_code.ensures), omega (arith, c.if-this-lt13.true, c.form_code.ensures))
+    let k : codes.form_kind ≤ c.form_code.result = past c.form_code.result 0 6 zero-le c.in-6-to-12.in_default-own.rest.0.0.0.0 in
+    (c.requires.node, omega (arith, c.form_code.ensures), omega (arith, c.in-6-to-12.if-this-lt13-own.true, c.form_code.ensures))
 
 pub sets_hold-requires : goal.sets_hold-requires
 sets_hold-requires c =
     let k = c.form_code.result in
     let q = c.form_code.ensures in
-    let n13 : k ≡ codes.form_count → ⊥ = c.in_default-1.rest.0.0.0.1 in
-    let n14 : k ≡ codes.form_all → ⊥ = c.in_default-1.rest.0.0.1 in
-    let n17 : k ≡ codes.form_closed → ⊥ = c.in_default-1.rest.0.1 in
-    let n20 : k ≡ codes.form_onelang → ⊥ = c.in_default-1.rest.1 in
-    (asked_of c.requires, omega (arith, c.if-this-lt13.false, q), omega (arith, code_le c.requires.ready, q), λ h. n17 (q ∙ h))
+    let n13 : k ≡ codes.form_count → ⊥ = c.in_default.in_default-own.rest.0.0.0.1 in
+    let n14 : k ≡ codes.form_all → ⊥ = c.in_default.in_default-own.rest.0.0.1 in
+    let n17 : k ≡ codes.form_closed → ⊥ = c.in_default.in_default-own.rest.0.1 in
+    let n20 : k ≡ codes.form_onelang → ⊥ = c.in_default.in_default-own.rest.1 in
+    (asked_of c.requires, omega (arith, c.in_default.if-this-lt13-own.false, q), omega (arith, code_le c.requires.ready, q), λ h. n17 (q ∙ h))
 
 pub returns-in-0 : goal.returns-in-0
 returns-in-0 c = holds-top c.requires (sym c.form_code.ensures ∙ c.in-0.is)
