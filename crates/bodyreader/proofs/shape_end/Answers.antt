@@ -15,11 +15,10 @@ returns-in_default c =
     let s = c.args in
     let S = s.book.now in
     let o = c.line_end-done in
-    let k = c.enum_told-in_default-1.given in
     λ a φ cs vs vs' h f.
     let l = shape (slice (s.at + 1) s.end S) φ in
-    done_past a s.counts (line_end S a true l s.last) _ k.0.0 s.names.now cs s.cells.now vs vs'
-    (ended-no c.with_shape.result (line_end S a true l s.last) o.result k.0.0 (o.ensures a l) k.1) k.1 f.cells-past f.values-past
+    done_past a s.counts (line_end S a true l s.last) _ c.in_default.field-0 s.names.now cs s.cells.now vs vs'
+    (ended-no c.with_shape.result (line_end S a true l s.last) o.result c.in_default.field-0 (o.ensures a l) c.in_default.is) c.in_default.is f.cells-past f.values-past
 
 pub put_new-requires : goal.put_new-requires
 put_new-requires c =
@@ -31,14 +30,13 @@ returns c =
     let s = c.args in
     let S = s.book.now in
     let o = c.line_end-done in
-    let k = c.enum_told-1.given in
     λ a φ cs vs vs' h f.
     let w = slice (s.at + 1) s.end S in
     let l = shape w φ in
-    let y = ended-yes S a true l s.last c.with_shape.result o.result k.0.0 k.0.1.0 (o.ensures a l) k.1 in
-    done_yes a s.counts (line_end S a true l s.last) l k.0.0 _ s.names.now _ cs _ vs vs'
+    let y = ended-yes S a true l s.last c.with_shape.result o.result c.in-Next.field-0 c.in-Next.field-1 (o.ensures a l) c.in-Next.is in
+    done_yes a s.counts (line_end S a true l s.last) l c.in-Next.field-0 _ s.names.now _ cs _ vs vs'
     y.0
-    (y.1 ∙ ap (λ (m : Counts). LineAnswer.Next k.0.0 m) (c.with_shape.ensures ∙ shape-counted s.names.now s.counts a h w φ s.n f.ended))
+    (y.1 ∙ ap (λ (m : Counts). LineAnswer.Next c.in-Next.field-0 m) (c.with_shape.ensures ∙ shape-counted s.names.now s.counts a h w φ s.n f.ended))
     (c.put_new.ensures ∙ sym (shape-names s.names.now s.counts a h w φ))
     (shape-roots s.names.now s.counts a h w φ s.n cs s.cells.now vs vs' f)
     (shape-values s.names.now s.counts a h w φ s.n cs s.cells.now vs vs' f)

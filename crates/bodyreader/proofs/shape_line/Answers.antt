@@ -30,11 +30,9 @@ pub returns-in_default : goal.returns-in_default
 returns-in_default c =
     let s = c.args in
     let S = s.book.now in
-    let r = c.read_new-new in
-    let k = c.enum_told-1.given in
     let m = c.refusal.result in
     λ a h. done_no a s.counts (line_body S a shape_l s.at) _ m s.names.now s.cells.now s.values.now
-    (body_is S a shape_l s.at ∙ stop₁ S a (line_room S a shape_l) (new shapes) (form ∷ []) (line_family.build shape_l) (begun_above a) s.at m (item-stop S a (new shapes) length (begun_above a) s.at r.result k.0.0 m (r.ensures.0 a h) k.1 c.refusal.ensures)) refl
+    (body_is S a shape_l s.at ∙ stop₁ S a (line_room S a shape_l) (new shapes) (form ∷ []) (line_family.build shape_l) (begun_above a) s.at m (item-stop S a (new shapes) length (begun_above a) s.at c.read_new-new.result c.in_default.field-0 m (c.read_new-new.ensures.reads a h) c.in_default.is c.refusal.ensures)) refl
 
 pub read_form-requires : goal.read_form-requires
 read_form-requires c =
@@ -45,49 +43,37 @@ read_form-requires c =
 pub shape_end-requires : goal.shape_end-requires
 shape_end-requires c =
     let s = c.args in
-    let r = c.read_new-new in
-    let u = c.new-1.given in
-    let o = c.read_form in
-    let v = c.m-1.given in
     let q = c.requires in
     let (a, h) = q.6 in
-    let f = new_facts s.book.now a shapes (begun_above a) s.at r.result u.0.0 u.0.1.0 (r.ensures.0 a h) u.1 in
+    let f = new_facts s.book.now a shapes (begun_above a) s.at c.read_new-new.result c.in-Is.field-0 c.in-Is.end (c.read_new-new.ensures.reads a h) c.in-Is.is in
     let m = shape-room s.counts.shapes (let x = f.room in let y = h.names_counted shapes in omega arith) in
-    let i = within-is _ _ _ o.result v.0.0 v.0.1.0 o.ensures.1.0 v.1 in
+    let i = within-is _ _ _ c.read_form.result c.in-Is-read_form.m c.in-Is-read_form.last c.read_form.ensures.forms_within c.in-Is-read_form.is in
     let j = i.0 in
     let k = i.1 in
-    (f.from, f.within, f.short, i.4, m, omega arith, omega arith, q.1, omega (arith, o.auto.0), q.4)
+    (f.from, f.within, f.short, i.4, m, omega arith, omega arith, q.1, omega (arith, c.read_form.auto.cells), q.4)
 
 pub returns-in-No : goal.returns-in-No
 returns-in-No c =
     let s = c.args in
     let S = s.book.now in
-    let r = c.read_new-new in
-    let u = c.new-1.given in
-    let o = c.read_form in
-    let k = c.k-1.given in
     λ a h.
-    let w = slice (s.at + 1) u.0.1.0 S in
+    let w = slice (s.at + 1) c.in-Is.end S in
     let b = begun_above a in
-    let e = new_got S a shapes b s.at r.result u.0.0 u.0.1.0 (r.ensures.0 a h) u.1 in
-    done_past a s.counts (line_body S a shape_l s.at) _ k.0.0 s.names.now s.cells.now _ s.values.now _
-    (body_is S a shape_l s.at ∙ stop₂ S a (line_room S a shape_l) (new shapes) form [] (line_family.build shape_l) b s.at w u.0.1.0 e k.0.0 (form_refused k.0.0 (read (goal.at.returns-in-No c).After-read_form a h w) k.1)) refl o.ensures.1.1.0 o.ensures.1.1.1
+    let e = new_got S a shapes b s.at c.read_new-new.result c.in-Is.field-0 c.in-Is.end (c.read_new-new.ensures.reads a h) c.in-Is.is in
+    done_past a s.counts (line_body S a shape_l s.at) _ c.in-No.k s.names.now s.cells.now _ s.values.now _
+    (body_is S a shape_l s.at ∙ stop₂ S a (line_room S a shape_l) (new shapes) form [] (line_family.build shape_l) b s.at w c.in-Is.end e c.in-No.k (form_refused c.in-No.k (read (goal.at.returns-in-No c).After-read_form a h w) c.in-No.is)) refl c.read_form.ensures.cells_unchanged c.read_form.ensures.values_unchanged
 
 pub returns-in-Is-read_form : goal.returns-in-Is-read_form
 unfolding line_room
 returns-in-Is-read_form c =
     let s = c.args in
     let S = s.book.now in
-    let r = c.read_new-new in
-    let u = c.new-1.given in
-    let o = c.read_form in
-    let v = c.m-1.given in
     let d = c.shape_end in
     λ a h.
-    let w = slice (s.at + 1) u.0.1.0 S in
+    let w = slice (s.at + 1) c.in-Is.end S in
     let b = begun_above a in
-    let e = new_got S a shapes b s.at r.result u.0.0 u.0.1.0 (r.ensures.0 a h) u.1 in
-    let g = form_got v.0.0 v.0.1.0 (read (goal.at.returns-in-Is-read_form c).After-read_form a h w) v.1 in
-    let q = body_is S a shape_l s.at ∙ all₂ S a true (new shapes) form (line_family.build shape_l) b s.at w u.0.1.0 e g.tree v.0.1.0 g.is in
-    done_same a s.counts (line_body S a shape_l s.at) (line_end S a true (shape w g.tree) v.0.1.0) _ s.names.now _ s.cells.now _ s.values.now _ q
-    (d.ensures a g.tree s.cells.now s.values.now o.new.1.0 h (form_held s.names.now s.counts a h g.tree v.0.0 s.cells.now o.new.0 s.values.now o.new.1.0 g.ended g.cells g.values o.ensures.1.1.0 o.ensures.1.1.1))
+    let e = new_got S a shapes b s.at c.read_new-new.result c.in-Is.field-0 c.in-Is.end (c.read_new-new.ensures.reads a h) c.in-Is.is in
+    let g = form_got c.in-Is-read_form.m c.in-Is-read_form.last (read (goal.at.returns-in-Is-read_form c).After-read_form a h w) c.in-Is-read_form.is in
+    let q = body_is S a shape_l s.at ∙ all₂ S a true (new shapes) form (line_family.build shape_l) b s.at w c.in-Is.end e g.tree c.in-Is-read_form.last g.is in
+    done_same a s.counts (line_body S a shape_l s.at) (line_end S a true (shape w g.tree) c.in-Is-read_form.last) _ s.names.now _ s.cells.now _ s.values.now _ q
+    (d.ensures a g.tree s.cells.now s.values.now c.read_form.new.values h (form_held s.names.now s.counts a h g.tree c.in-Is-read_form.m s.cells.now c.read_form.new.cells s.values.now c.read_form.new.values g.ended g.cells g.values c.read_form.ensures.cells_unchanged c.read_form.ensures.values_unchanged))

@@ -19,4 +19,4 @@ shape_of-plan c = length-set c.fill_rules-m.new.plan _ _ ∙ c.fill_rules-m.auto
 
 pub returns : goal.returns
 unfolding steps_of
-returns c = let cs : List ℕ = c.args.cells.now in let ps : List ℕ = c.args.plan.now in (c.fill_rules-m.ensures.0, plan-laid cs (drop plan_count ps) c.fill_rules-m.new.plan c.narrow.result (c.fill_rules-m.ensures.1 (drop plan_count ps) (forms-laid cs ps c.clear_plan.new.plan c.fill_forms-n.new.plan c.requires.plan (omega (arith, start_four cs (form_count cs), c.requires.forms)) c.clear_plan.ensures c.fill_forms-n.ensures.stored)) (c.narrow.ensures ∙ c.fill_rules-m.ensures.0))
+returns c = let cs : List ℕ = c.args.cells.now in let ps : List ℕ = c.args.plan.now in record { value = c.fill_rules-m.ensures.0; new_plan = plan-laid cs (drop plan_count ps) c.fill_rules-m.new.plan c.narrow.result (c.fill_rules-m.ensures.1 (drop plan_count ps) (forms-laid cs ps c.clear_plan.new.plan c.fill_forms-n.new.plan c.requires.plan (omega (arith, start_four cs (form_count cs), c.requires.forms)) c.clear_plan.ensures c.fill_forms-n.ensures.stored)) (c.narrow.ensures ∙ c.fill_rules-m.ensures.0) }

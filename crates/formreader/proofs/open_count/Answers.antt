@@ -35,35 +35,21 @@ open_path-requires c =
 pub returns-in-No : goal.returns-in-No
 returns-in-No c =
     let s = c.args in
-    let k = c.k-1.given in
-    let r = c.read_low in
-    (λ a h b e vs. form_no k.0.0 (low_refused s.book.now a (s.left - 1) b s.at k.0.0 (item_refused same (arg_at s.book.now a (readers_at s.book.now a (s.left - 1)) low b s.at) r.result k.0.0 (r.ensures.0 a (readers_at s.book.now a (s.left - 1)) b) k.1)) refl, (tt, refl))
+    record { open_read = λ a h b e vs. form_no c.in-No.k (low_refused s.book.now a (s.left - 1) b s.at c.in-No.k (item_refused same (arg_at s.book.now a (readers_at s.book.now a (s.left - 1)) low b s.at) c.read_low.result c.in-No.k (c.read_low.ensures.reads a (readers_at s.book.now a (s.left - 1)) b) c.in-No.is)) refl; opened = tt; cells_unchanged = refl }
 
 pub returns-in-No-read_high : goal.returns-in-No-read_high
 returns-in-No-read_high c =
     let s = c.args in
-    let k = c.k-in-No-read_high-1.given in
-    let j = c.low-1.given in
-    let r = c.read_low in
-    let u = c.read_high in
-    let lo : ℕ = j.0.0 in
-    let mid : ℕ = j.0.1.0 in
-    (λ a h b e vs. form_no k.0.0 (high_refused s.book.now a (s.left - 1) b s.at lo mid (number_got (arg_at s.book.now a (readers_at s.book.now a (s.left - 1)) low b s.at) r.result lo mid (r.ensures.0 a (readers_at s.book.now a (s.left - 1)) b) j.1) k.0.0 (item_refused upper_number (arg_at s.book.now a (readers_at s.book.now a (s.left - 1)) high b mid) u.result k.0.0 (u.ensures.0 a (readers_at s.book.now a (s.left - 1)) b) k.1)) refl, (tt, refl))
+    let lo : ℕ = c.in-Is.low in
+    let mid : ℕ = c.in-Is.mid in
+    record { open_read = λ a h b e vs. form_no c.in-No-read_high.k (high_refused s.book.now a (s.left - 1) b s.at lo mid (number_got (arg_at s.book.now a (readers_at s.book.now a (s.left - 1)) low b s.at) c.read_low.result lo mid (c.read_low.ensures.reads a (readers_at s.book.now a (s.left - 1)) b) c.in-Is.is) c.in-No-read_high.k (item_refused upper_number (arg_at s.book.now a (readers_at s.book.now a (s.left - 1)) high b mid) c.read_high.result c.in-No-read_high.k (c.read_high.ensures.reads a (readers_at s.book.now a (s.left - 1)) b) c.in-No-read_high.is)) refl; opened = tt; cells_unchanged = refl }
 
 pub returns-in-Is-read_high : goal.returns-in-Is-read_high
 returns-in-Is-read_high c =
     let s = c.args in
-    let j = c.low-1.given in
-    let i = c.high-1.given in
-    let r = c.read_low in
-    let u = c.read_high in
-    let o = c.open_path in
-    let lo : ℕ = j.0.0 in
-    let mid : ℕ = j.0.1.0 in
-    let next : ℕ = i.0.1.0 in (
-      λ a h b e vs.
-          let y = item_got upper_number (arg_at s.book.now a (readers_at s.book.now a (s.left - 1)) high b mid) u.result i.0.0 next (u.ensures.0 a (readers_at s.book.now a (s.left - 1)) b) i.1 in
-          rw (count-rest s.book.now a (s.left - 1) b s.at lo mid (number_got (arg_at s.book.now a (readers_at s.book.now a (s.left - 1)) low b s.at) r.result lo mid (r.ensures.0 a (readers_at s.book.now a (s.left - 1)) b) j.1) y.0 next y.1)
-          (o.ensures.0 a h b e (times lo y.0) refl refl (sym y.2) vs),
-      (o.ensures.1.0, o.ensures.1.1),
-    )
+    let lo : ℕ = c.in-Is.low in
+    let mid : ℕ = c.in-Is.mid in
+    let next : ℕ = c.in-Is-read_high.next in record { open_read = λ a h b e vs.
+          let y = item_got upper_number (arg_at s.book.now a (readers_at s.book.now a (s.left - 1)) high b mid) c.read_high.result c.in-Is-read_high.high next (c.read_high.ensures.reads a (readers_at s.book.now a (s.left - 1)) b) c.in-Is-read_high.is in
+          rw (count-rest s.book.now a (s.left - 1) b s.at lo mid (number_got (arg_at s.book.now a (readers_at s.book.now a (s.left - 1)) low b s.at) c.read_low.result lo mid (c.read_low.ensures.reads a (readers_at s.book.now a (s.left - 1)) b) c.in-Is.is) y.0 next y.1)
+          (c.open_path.ensures.open_read a h b e (times lo y.0) refl refl (sym y.2) vs); opened = c.open_path.ensures.opened; cells_unchanged = c.open_path.ensures.cells_unchanged }

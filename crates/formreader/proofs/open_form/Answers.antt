@@ -14,7 +14,7 @@ use Rattle.formreader.proofs.open_form.Goals as goal
 pub returns-then-byte-ne32 : goal.returns-then-byte-ne32
 returns-then-byte-ne32 c =
     let s = c.args in
-    (λ a h b f p i. form_no 2 (form_unspaced s.book.now a b s.at (s.n.forms + s.up) f s.left (λ e. c.if-byte-ne32.true (c.byte.ensures ∙ e))) refl, (tt, (refl, refl)))
+    record { open_read = λ a h b f p i. form_no 2 (form_unspaced s.book.now a b s.at (s.n.forms + s.up) f s.left (λ e. c.if-byte-ne32.true (c.byte.ensures ∙ e))) refl; opened = tt; cells_unchanged = refl; values_unchanged = refl }
 
 pub form_head-requires : goal.form_head-requires
 form_head-requires c =
@@ -40,22 +40,15 @@ open_word-requires c =
 pub returns-in-Bare : goal.returns-in-Bare
 returns-in-Bare c =
     let s = c.args in
-    let hd = c.form_head in
-    let o = c.read_true in
-    (λ a h b f p i. form_is_lem (form_bare s.book.now a b s.at (s.n.forms + s.up) f (sym c.byte.ensures ∙ c.if-byte-ne32.false) s.left hd.result hd.ensures.0 c.in-Bare.is) (o.ensures.0 a s.values.now), (o.ensures.1.0, (o.ensures.1.1, refl)))
+    record { open_read = λ a h b f p i. form_is_lem (form_bare s.book.now a b s.at (s.n.forms + s.up) f (sym c.byte.ensures ∙ c.if-byte-ne32.false) s.left c.form_head.result c.form_head.ensures.value c.in-Bare.is) (c.read_true.ensures.form_read a s.values.now); opened = c.read_true.ensures.forms_within; cells_unchanged = c.read_true.ensures.cells_unchanged; values_unchanged = refl }
 
 pub returns-in-No : goal.returns-in-No
 returns-in-No c =
     let s = c.args in
-    let hd = c.form_head in
-    let k = c.k-1.given in
-    (λ a h b f p i. form_no k.0.0 (form_head_refused s.book.now a b s.at (s.n.forms + s.up) f (sym c.byte.ensures ∙ c.if-byte-ne32.false) s.left hd.result hd.ensures.0 k.0.0 k.1) refl, (tt, (refl, refl)))
+    record { open_read = λ a h b f p i. form_no c.in-No.k (form_head_refused s.book.now a b s.at (s.n.forms + s.up) f (sym c.byte.ensures ∙ c.if-byte-ne32.false) s.left c.form_head.result c.form_head.ensures.value c.in-No.k c.in-No.is) refl; opened = tt; cells_unchanged = refl; values_unchanged = refl }
 
 pub returns-in-Word : goal.returns-in-Word
 returns-in-Word c =
     let s = c.args in
-    let hd = c.form_head in
-    let w = c.code-1.given in
-    let l = (headed-word _ _ _ _ hd.result _ _ hd.ensures.1 w.1).1 in
-    let o = c.open_word in
-    (λ a h b f p i. rw (form_word_lem s.book.now a b s.at (s.n.forms + s.up) f (sym c.byte.ensures ∙ c.if-byte-ne32.false) s.left hd.result hd.ensures.0 w.0.0 w.0.1.0 l w.1) (o.ensures.0 a h (form_begun b) p i), (o.ensures.1.0, (o.ensures.1.1.0, o.ensures.1.1.1)))
+    let l = (headed-word _ _ _ _ c.form_head.result _ _ c.form_head.ensures.headed c.in-Word.is).1 in
+    record { open_read = λ a h b f p i. rw (form_word_lem s.book.now a b s.at (s.n.forms + s.up) f (sym c.byte.ensures ∙ c.if-byte-ne32.false) s.left c.form_head.result c.form_head.ensures.value c.in-Word.code c.in-Word.end l c.in-Word.is) (c.open_word.ensures.open_read a h (form_begun b) p i); opened = c.open_word.ensures.opened; cells_unchanged = c.open_word.ensures.cells_unchanged; values_unchanged = c.open_word.ensures.values_unchanged }

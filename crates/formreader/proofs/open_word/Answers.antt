@@ -19,17 +19,15 @@ read_leaf-requires c =
 pub returns-in-12 : goal.returns-in-12
 returns-in-12 c =
     let s = c.args in
-    let o = c.open_count in
-    (λ a h b e i. rw (body_is s.book.now a (s.left - 1) s.code 12 b s.at c.in-12.is) (o.ensures.0 a h b e s.values.now), (o.ensures.1.0, (o.ensures.1.1, refl)))
+    record { open_read = λ a h b e i. rw (body_is s.book.now a (s.left - 1) s.code 12 b s.at c.in-12.is) (c.open_count.ensures.open_read a h b e s.values.now); opened = c.open_count.ensures.opened; cells_unchanged = c.open_count.ensures.cells_unchanged; values_unchanged = refl }
 
 pub returns-in-13 : goal.returns-in-13
 returns-in-13 c =
     let s = c.args in
-    let o = c.open_path in
-    (λ a h b e i. rw (all_rest s.book.now a (s.left - 1) s.code b s.at c.in-13.is) (o.ensures.0 a h b e every refl refl refl s.values.now), (o.ensures.1.0, (o.ensures.1.1, refl)))
+    record { open_read = λ a h b e i. rw (all_rest s.book.now a (s.left - 1) s.code b s.at c.in-13.is) (c.open_path.ensures.open_read a h b e every refl refl refl s.values.now); opened = c.open_path.ensures.opened; cells_unchanged = c.open_path.ensures.cells_unchanged; values_unchanged = refl }
 
 pub returns-in-2-to-4 : goal.returns-in-2-to-4
 returns-in-2-to-4 c =
     let s = c.args in
     let p = c.requires in
-    (λ a h b e i. word_fronted s.book.now a (s.left - 1) s.code s.n.paths b s.at s.cells.now s.values.now c.in-2-to-4.if-code-lt2-own.false c.in-2-to-4.if-code-lt5-own.true, ((p.4, p.5, p.6, p.0), (refl, refl)))
+    record { open_read = λ a h b e i. word_fronted s.book.now a (s.left - 1) s.code s.n.paths b s.at s.cells.now s.values.now c.in-2-to-4.if-code-lt2-own.false c.in-2-to-4.if-code-lt5-own.true; opened = (p.4, p.5, p.6, p.0); cells_unchanged = refl; values_unchanged = refl }

@@ -23,17 +23,14 @@ returns-in_default c =
 pub returns-then-left-eq0 : goal.returns-then-left-eq0
 returns-then-left-eq0 c =
     let s = c.args in
-    let k = c.k-1.given in
-    λ ws n t l. sym (head_deep s.book.now ws s.at c.item_end-end.result (sym c.byte.ensures ∙ c.if-byte-ne40.false) c.item_end-end.ensures k.0.0 (sym (c.keyword.ensures ws n t l) ∙ k.1) s.left s.full c.if-left-eq0.true)
+    λ ws n t l. sym (head_deep s.book.now ws s.at c.item_end-end.result (sym c.byte.ensures ∙ c.if-byte-ne40.false) c.item_end-end.ensures c.in-At.k (sym (c.keyword.ensures ws n t l) ∙ c.in-At.is) s.left s.full c.if-left-eq0.true)
 
 pub returns-then-full : goal.returns-then-full
 returns-then-full c =
     let s = c.args in
-    let k = c.k-1.given in
-    λ ws n t l. sym (head-full s.book.now ws s.at c.item_end-end.result (sym c.byte.ensures ∙ c.if-byte-ne40.false) c.item_end-end.ensures k.0.0 (sym (c.keyword.ensures ws n t l) ∙ k.1) s.left s.full c.if-left-eq0.false c.if-full.true)
+    λ ws n t l. sym (head-full s.book.now ws s.at c.item_end-end.result (sym c.byte.ensures ∙ c.if-byte-ne40.false) c.item_end-end.ensures c.in-At.k (sym (c.keyword.ensures ws n t l) ∙ c.in-At.is) s.left s.full c.if-left-eq0.false c.if-full.true)
 
 pub returns : goal.returns
 returns c =
     let s = c.args in
-    let k = c.k-1.given in
-    λ ws n t l. sym (head-word s.book.now ws s.at c.item_end-end.result (sym c.byte.ensures ∙ c.if-byte-ne40.false) c.item_end-end.ensures k.0.0 (sym (c.keyword.ensures ws n t l) ∙ k.1) s.left s.full c.if-left-eq0.false c.if-full.false)
+    λ ws n t l. sym (head-word s.book.now ws s.at c.item_end-end.result (sym c.byte.ensures ∙ c.if-byte-ne40.false) c.item_end-end.ensures c.in-At.k (sym (c.keyword.ensures ws n t l) ∙ c.in-At.is) s.left s.full c.if-left-eq0.false c.if-full.false)

@@ -12,4 +12,4 @@ unfolding words_of all_names pool_of padded is_name name_byte allb
 returns c =
     let s = c.args in
     let e = c.head_at.ensures (words_of line_family) refl refl refl in
-    (e, rw e (head-within s.book.now (words_of line_family) s.left s.full s.at c.requires))
+    record { value = e; headed = rw e (head-within s.book.now (words_of line_family) s.left s.full s.at c.requires) }

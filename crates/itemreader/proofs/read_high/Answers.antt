@@ -10,7 +10,7 @@ use Rattle.itemreader.proofs.read_high.Goals as goal
 
 pub returns-then-byte-ne32 : goal.returns-then-byte-ne32
 unfolding arg_at
-returns-then-byte-ne32 c = (λ a R b. rw (ne_eqb _ 32 (λ e. c.if-byte-ne32.true (c.byte.ensures ∙ e))), tt)
+returns-then-byte-ne32 c = record { reads = λ a R b. rw (ne_eqb _ 32 (λ e. c.if-byte-ne32.true (c.byte.ensures ∙ e))); below = tt }
 
 pub is_word-requires : goal.is_word-requires
 is_word-requires c =
@@ -22,17 +22,11 @@ unfolding arg_at upper_number
 returns-then-is_word c =
     let s = c.args in
     let end = c.item_end-end in
-    let z = sym c.byte.ensures ∙ c.if-byte-ne32.false in (
-      λ a R b. rw (eq-eqb _ 32 z, high-star s.book.now a (s.at + 1) end.result end.ensures (sym c.is_word.ensures ∙ c.if-is_word.true)),
-      (omega arith, (item-within s.book.now s.at end.result 31 z end.ensures).1),
-    )
+    let z = sym c.byte.ensures ∙ c.if-byte-ne32.false in record { reads = λ a R b. rw (eq-eqb _ 32 z, high-star s.book.now a (s.at + 1) end.result end.ensures (sym c.is_word.ensures ∙ c.if-is_word.true)); below = (omega arith, (item-within s.book.now s.at end.result 31 z end.ensures).1) }
 
 pub returns : goal.returns
 unfolding arg_at
 returns c =
     let s = c.args in
     let end = c.item_end-end in
-    let z = sym c.byte.ensures ∙ c.if-byte-ne32.false in (
-      λ a R b. high_arg s.book.now a R b s.at z end.result end.ensures (sym c.is_word.ensures ∙ c.if-is_word.false) c.read_low.result (c.read_low.ensures.reads a R b),
-      below_more (max_count + 1) 65536 _ c.read_low.result (omega arith) c.read_low.ensures.below,
-    )
+    let z = sym c.byte.ensures ∙ c.if-byte-ne32.false in record { reads = λ a R b. high_arg s.book.now a R b s.at z end.result end.ensures (sym c.is_word.ensures ∙ c.if-is_word.false) c.read_low.result (c.read_low.ensures.reads a R b); below = below_more (max_count + 1) 65536 _ c.read_low.result (omega arith) c.read_low.ensures.below }

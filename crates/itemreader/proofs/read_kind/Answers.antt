@@ -13,7 +13,7 @@ use Rattle.itemreader.proofs.read_kind.Goals as goal
 
 pub returns-then-byte-ne32 : goal.returns-then-byte-ne32
 unfolding arg_at
-returns-then-byte-ne32 c = (λ a R b. rw (ne_eqb _ 32 (λ e. c.if-byte-ne32.true (c.byte.ensures ∙ e))), tt)
+returns-then-byte-ne32 c = record { reads = λ a R b. rw (ne_eqb _ 32 (λ e. c.if-byte-ne32.true (c.byte.ensures ∙ e))); below = tt }
 
 pub keyword-requires : goal.keyword-requires
 keyword-requires c =
@@ -27,11 +27,7 @@ returns-in-At c =
     let s = c.args in
     let end = c.item_end-end in
     let z = sym c.byte.ensures ∙ c.if-byte-ne32.false in
-    let k = c.k-1.given in
-    let e = sym (c.keyword.ensures kinds refl refl refl) ∙ k.1 in (
-      λ a R b. rw (eq-eqb _ 32 z) (sym (kind-known s.book.now a (s.at + 1) end.result end.ensures k.0.0 e)),
-      (kind-below (slice (s.at + 1) end.result s.book.now) k.0.0 e, (item-within s.book.now s.at end.result 31 z end.ensures).1),
-    )
+    let e = sym (c.keyword.ensures kinds refl refl refl) ∙ c.in-At.is in record { reads = λ a R b. rw (eq-eqb _ 32 z) (sym (kind-known s.book.now a (s.at + 1) end.result end.ensures c.in-At.k e)); below = (kind-below (slice (s.at + 1) end.result s.book.now) c.in-At.k e, (item-within s.book.now s.at end.result 31 z end.ensures).1) }
 
 pub returns-in-Nothing : goal.returns-in-Nothing
 unfolding arg_at all_names pool_of padded is_name name_byte allb write_kind
@@ -39,4 +35,4 @@ returns-in-Nothing c =
     let s = c.args in
     let end = c.item_end-end in
     let z = sym c.byte.ensures ∙ c.if-byte-ne32.false in
-    (λ a R b. rw (eq-eqb _ 32 z, kind-unknown s.book.now a (s.at + 1) end.result end.ensures (sym (c.keyword.ensures kinds refl refl refl) ∙ c.in-Nothing.is)), tt)
+    record { reads = λ a R b. rw (eq-eqb _ 32 z, kind-unknown s.book.now a (s.at + 1) end.result end.ensures (sym (c.keyword.ensures kinds refl refl refl) ∙ c.in-Nothing.is)); below = tt }

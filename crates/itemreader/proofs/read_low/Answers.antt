@@ -8,7 +8,7 @@ use Rattle.itemreader.proofs.read_low.Goals as goal
 
 pub returns-then-byte-ne32 : goal.returns-then-byte-ne32
 unfolding arg_at
-returns-then-byte-ne32 c = (λ a R b. rw (ne_eqb _ 32 (λ e. c.if-byte-ne32.true (c.byte.ensures ∙ e))), tt)
+returns-then-byte-ne32 c = record { reads = λ a R b. rw (ne_eqb _ 32 (λ e. c.if-byte-ne32.true (c.byte.ensures ∙ e))); below = tt }
 
 pub bound_at-requires : goal.bound_at-requires
 bound_at-requires c =
@@ -21,7 +21,7 @@ returns-in-Not c =
     let s = c.args in
     let end = c.item_end-end in
     let z = sym c.byte.ensures ∙ c.if-byte-ne32.false in
-    (λ a R b. rw (eq-eqb _ 32 z, low-not s.book.now a (s.at + 1) end.result end.ensures (sym c.bound_at.ensures ∙ c.in-Not.is)), tt)
+    record { reads = λ a R b. rw (eq-eqb _ 32 z, low-not s.book.now a (s.at + 1) end.result end.ensures (sym c.bound_at.ensures ∙ c.in-Not.is)); below = tt }
 
 pub returns-in-Over : goal.returns-in-Over
 unfolding arg_at
@@ -29,7 +29,7 @@ returns-in-Over c =
     let s = c.args in
     let end = c.item_end-end in
     let z = sym c.byte.ensures ∙ c.if-byte-ne32.false in
-    (λ a R b. rw (eq-eqb _ 32 z, low-over s.book.now a (s.at + 1) end.result end.ensures (sym c.bound_at.ensures ∙ c.in-Over.is)), tt)
+    record { reads = λ a R b. rw (eq-eqb _ 32 z, low-over s.book.now a (s.at + 1) end.result end.ensures (sym c.bound_at.ensures ∙ c.in-Over.is)); below = tt }
 
 pub returns-in-Value : goal.returns-in-Value
 unfolding arg_at
@@ -37,8 +37,4 @@ returns-in-Value c =
     let s = c.args in
     let end = c.item_end-end in
     let z = sym c.byte.ensures ∙ c.if-byte-ne32.false in
-    let n = c.n-1.given in
-    let e = sym c.bound_at.ensures ∙ n.1 in (
-      λ a R b. rw (eq-eqb _ 32 z, low-is s.book.now a (s.at + 1) end.result end.ensures n.0.0 e),
-      (bound-below (slice (s.at + 1) end.result s.book.now) n.0.0 e, (item-within s.book.now s.at end.result 31 z end.ensures).1),
-    )
+    let e = sym c.bound_at.ensures ∙ c.in-Value.is in record { reads = λ a R b. rw (eq-eqb _ 32 z, low-is s.book.now a (s.at + 1) end.result end.ensures c.in-Value.n e); below = (bound-below (slice (s.at + 1) end.result s.book.now) c.in-Value.n e, (item-within s.book.now s.at end.result 31 z end.ensures).1) }

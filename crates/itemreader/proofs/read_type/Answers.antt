@@ -10,29 +10,18 @@ use Rattle.itemreader.proofs.read_type.Goals as goal
 pub returns-in_default : goal.returns-in_default
 returns-in_default c =
     let s = c.args in
-    let k = c.enum_told-1.given in
-    (λ a h R b. k.1 ∙ rw (type_refused s.book.now a R b s.at k.0.0 (item_refused same (arg_at s.book.now a R (used types) b s.at) c.read_used-used.result k.0.0 (c.read_used-used.ensures.reads a h R b) k.1)), rw k.1 tt)
+    record { reads = λ a h R b. c.in_default.is ∙ rw (type_refused s.book.now a R b s.at c.in_default.field-0 (item_refused same (arg_at s.book.now a R (used types) b s.at) c.read_used-used.result c.in_default.field-0 (c.read_used-used.ensures.reads a h R b) c.in_default.is)); below = rw c.in_default.is tt }
 
 pub returns-then-t-eq0 : goal.returns-then-t-eq0
 returns-then-t-eq0 c =
     let s = c.args in
-    let u = c.used-1.given in
-    let v = u.0.0 in
-    let r = c.read_used-used in (
-      λ a h R b.
-          let g = number_got (arg_at s.book.now a R (used types) b s.at) r.result v u.0.1.0 (r.ensures.0 a h R b) u.1 in
-          rw (type_got s.book.now a R b s.at v u.0.1.0 g, eq-eqb v 0 c.if-t-eq0.true),
-      tt,
-    )
+    record { reads = λ a h R b.
+          let g = number_got (arg_at s.book.now a R (used types) b s.at) c.read_used-used.result c.in-Is.t c.in-Is.next (c.read_used-used.ensures.reads a h R b) c.in-Is.is in
+          rw (type_got s.book.now a R b s.at c.in-Is.t c.in-Is.next g, eq-eqb c.in-Is.t 0 c.if-t-eq0.true); below = tt }
 
 pub returns : goal.returns
 returns c =
     let s = c.args in
-    let u = c.used-1.given in
-    let v = u.0.0 in
-    let r = c.read_used-used in (
-      λ a h R b.
-          let g = number_got (arg_at s.book.now a R (used types) b s.at) r.result v u.0.1.0 (r.ensures.0 a h R b) u.1 in
-          rw (type_got s.book.now a R b s.at v u.0.1.0 g, ne_eqb v 0 c.if-t-eq0.false),
-      below-is _ _ r.result _ _ r.ensures.1 u.1,
-    )
+    record { reads = λ a h R b.
+          let g = number_got (arg_at s.book.now a R (used types) b s.at) c.read_used-used.result c.in-Is.t c.in-Is.next (c.read_used-used.ensures.reads a h R b) c.in-Is.is in
+          rw (type_got s.book.now a R b s.at c.in-Is.t c.in-Is.next g, ne_eqb c.in-Is.t 0 c.if-t-eq0.false); below = below-is _ _ c.read_used-used.result _ _ c.read_used-used.ensures.below c.in-Is.is }

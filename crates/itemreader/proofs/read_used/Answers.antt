@@ -11,7 +11,7 @@ use Rattle.itemreader.proofs.read_used.Goals as goal
 
 pub returns-then-byte-ne32 : goal.returns-then-byte-ne32
 unfolding arg_at
-returns-then-byte-ne32 c = (λ a h R b. rw (ne_eqb _ 32 (λ e. c.if-byte-ne32.true (c.byte.ensures ∙ e))), tt)
+returns-then-byte-ne32 c = record { reads = λ a h R b. rw (ne_eqb _ 32 (λ e. c.if-byte-ne32.true (c.byte.ensures ∙ e))); below = tt }
 
 pub is_well_named-requires : goal.is_well_named-requires
 is_well_named-requires c =
@@ -23,7 +23,7 @@ unfolding arg_at
 returns-then-not-is_well_named c =
     let s = c.args in
     let z = sym c.byte.ensures ∙ c.if-byte-ne32.false in
-    (λ a h R b. rw (eq-eqb _ 32 z, used_ill s.book.now a (s.at + 1) c.item_end-end.result c.item_end-end.ensures (pool_of s.pool) (sym c.is_well_named.ensures ∙ not-true _ c.if-not-is_well_named.true-raw)), tt)
+    record { reads = λ a h R b. rw (eq-eqb _ 32 z, used_ill s.book.now a (s.at + 1) c.item_end-end.result c.item_end-end.ensures (pool_of s.pool) (sym c.is_well_named.ensures ∙ not-true _ c.if-not-is_well_named.true-raw)); below = tt }
 
 pub look_up-requires : goal.look_up-requires
 look_up-requires c =
@@ -40,14 +40,10 @@ returns-in-At c =
     let z = sym c.byte.ensures ∙ c.if-byte-ne32.false in
     let w = slice (s.at + 1) end.result s.book.now in
     let n = sym c.is_well_named.ensures ∙ not-false _ c.if-not-is_well_named.false-raw in
-    let k = c.k-1.given in
-    let f = sym c.look_up.ensures ∙ k.1 in (
-      λ a h R b. rw (eq-eqb _ 32 z, used_known s.book.now a (s.at + 1) end.result end.ensures (pool_of s.pool) n k.0.0 (sym (h.finds (pool_of s.pool) w n) ∙ f)),
-      (
-        found_below s.names.now (pool_base (pool_of s.pool)) (count_of s.counts (pool_of s.pool)) w k.0.0 f,
+    let f = sym c.look_up.ensures ∙ c.in-At.is in record { reads = λ a h R b. rw (eq-eqb _ 32 z, used_known s.book.now a (s.at + 1) end.result end.ensures (pool_of s.pool) n c.in-At.k (sym (h.finds (pool_of s.pool) w n) ∙ f)); below = (
+        found_below s.names.now (pool_base (pool_of s.pool)) (count_of s.counts (pool_of s.pool)) w c.in-At.k f,
         (item-within s.book.now s.at end.result 31 z end.ensures).1,
-      ),
-    )
+      ) }
 
 pub returns-in-Nothing : goal.returns-in-Nothing
 unfolding arg_at
@@ -57,4 +53,4 @@ returns-in-Nothing c =
     let z = sym c.byte.ensures ∙ c.if-byte-ne32.false in
     let w = slice (s.at + 1) end.result s.book.now in
     let n = sym c.is_well_named.ensures ∙ not-false _ c.if-not-is_well_named.false-raw in
-    (λ a h R b. rw (eq-eqb _ 32 z, used_unknown s.book.now a (s.at + 1) end.result end.ensures (pool_of s.pool) n (sym (h.finds (pool_of s.pool) w n) ∙ (sym c.look_up.ensures ∙ c.in-Nothing.is))), tt)
+    record { reads = λ a h R b. rw (eq-eqb _ 32 z, used_unknown s.book.now a (s.at + 1) end.result end.ensures (pool_of s.pool) n (sym (h.finds (pool_of s.pool) w n) ∙ (sym c.look_up.ensures ∙ c.in-Nothing.is))); below = tt }

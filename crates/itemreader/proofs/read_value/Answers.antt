@@ -10,7 +10,7 @@ use Rattle.itemreader.proofs.read_value.Goals as goal
 
 pub returns-then-byte-ne32 : goal.returns-then-byte-ne32
 unfolding arg_at
-returns-then-byte-ne32 c = (λ a R b. rw (ne_eqb _ 32 (λ e. c.if-byte-ne32.true (c.byte.ensures ∙ e))), tt)
+returns-then-byte-ne32 c = record { value = λ a R b. rw (ne_eqb _ 32 (λ e. c.if-byte-ne32.true (c.byte.ensures ∙ e))); inside = tt }
 
 pub number_at-requires : goal.number_at-requires
 number_at-requires c =
@@ -23,7 +23,7 @@ returns-in-Not c =
     let s = c.args in
     let end = c.item_end-end in
     let z = sym c.byte.ensures ∙ c.if-byte-ne32.false in
-    (λ a R b. rw (eq-eqb _ 32 z, value_not s.book.now a (s.at + 1) end.result end.ensures (sym c.number_at.ensures ∙ c.in-Not.is)), tt)
+    record { value = λ a R b. rw (eq-eqb _ 32 z, value_not s.book.now a (s.at + 1) end.result end.ensures (sym c.number_at.ensures ∙ c.in-Not.is)); inside = tt }
 
 pub returns-in-Range : goal.returns-in-Range
 unfolding arg_at
@@ -31,7 +31,7 @@ returns-in-Range c =
     let s = c.args in
     let end = c.item_end-end in
     let z = sym c.byte.ensures ∙ c.if-byte-ne32.false in
-    (λ a R b. rw (eq-eqb _ 32 z, value_range s.book.now a (s.at + 1) end.result end.ensures (sym c.number_at.ensures ∙ c.in-Range.is)), tt)
+    record { value = λ a R b. rw (eq-eqb _ 32 z, value_range s.book.now a (s.at + 1) end.result end.ensures (sym c.number_at.ensures ∙ c.in-Range.is)); inside = tt }
 
 pub returns-in-Value : goal.returns-in-Value
 unfolding arg_at
@@ -39,5 +39,4 @@ returns-in-Value c =
     let s = c.args in
     let end = c.item_end-end in
     let z = sym c.byte.ensures ∙ c.if-byte-ne32.false in
-    let x = c.x-1.given in
-    (λ a R b. rw (eq-eqb _ 32 z, value-is s.book.now a (s.at + 1) end.result end.ensures x.0.0 (sym c.number_at.ensures ∙ x.1)) (ap (λ (v : ℤ). Value.Is v end.result) (to_z-of_z (record { sfits = c.in-Value.known_told-1-own.given.0.1 }))), (item-within s.book.now s.at end.result 31 z end.ensures).1)
+    record { value = λ a R b. rw (eq-eqb _ 32 z, value-is s.book.now a (s.at + 1) end.result end.ensures c.in-Value.x (sym c.number_at.ensures ∙ c.in-Value.is)) (ap (λ (v : ℤ). Value.Is v end.result) (to_z-of_z (record { sfits = c.in-Value.known_told-1-own.given.0.1 }))); inside = (item-within s.book.now s.at end.result 31 z end.ensures).1 }

@@ -36,24 +36,15 @@ item_form-requires c =
 pub returns-in-No : goal.returns-in-No
 returns-in-No c =
     let s = c.args in
-    let k = c.k-1.given in
-    let r = c.read_end in
-    (λ a h b q f sh vs. form_no k.0.0 (rest_refused s.book.now a (readers_at s.book.now a s.left) true end (used links ∷ []) (λ xs. f xs.0 xs.1.0) b s.at k.0.0 (done_refused k.0.0 (r.ensures.0 a h b q) k.1)) refl, (tt, r.ensures.1.1))
+    record { form_read = λ a h b q f sh vs. form_no c.in-No.k (rest_refused s.book.now a (readers_at s.book.now a s.left) true end (used links ∷ []) (λ xs. f xs.0 xs.1.0) b s.at c.in-No.k (done_refused c.in-No.k (c.read_end.ensures.end_read a h b q) c.in-No.is)) refl; forms_within = tt; cells_unchanged = c.read_end.ensures.cells_unchanged }
 
 pub returns-in-Is : goal.returns-in-Is
 returns-in-Is c =
     let s = c.args in
-    let j = c.m-1.given in
-    let r = c.read_end in
-    let u = c.read_used-item in
-    let o = c.item_form in
-    let m : ℕ = j.0.0 in
-    let next : ℕ = j.0.1.0 in
-    let mid : List ℕ = r.new.0 in (
-      λ a h b q f sh vs.
-          let g = end_got m next (r.ensures.0 a h b q) j.1 in
+    let m : ℕ = c.in-Is.m in
+    let next : ℕ = c.in-Is.next in
+    let mid : List ℕ = c.read_end.new.cells in record { form_read = λ a h b q f sh vs.
+          let g = end_got m next (c.read_end.ensures.end_read a h b q) c.in-Is.is in
           let b' = after end g.tree b in
           form_is_lem (rest_got s.book.now a (readers_at s.book.now a s.left) true end (used links ∷ []) (λ xs. f xs.0 xs.1.0) b s.at g.tree next g.is)
-          (o.ensures.0 a (readers_at s.book.now a s.left) b' (used links) same next (u.ensures.0 a h (readers_at s.book.now a s.left) b') (begun_of s.n) s.cells.now vs vs (λ p. f g.tree p) (λ p. end_closes s.n m p s.cells.now mid vs f s.code sh g.tree c.end_number.result g.count g.cells c.end_number.ensures)),
-      (o.ensures.1.0, o.ensures.1.1 ∙ r.ensures.1.1),
-    )
+          (c.item_form.ensures.item_form a (readers_at s.book.now a s.left) b' (used links) same next (c.read_used-item.ensures.reads a h (readers_at s.book.now a s.left) b') (begun_of s.n) s.cells.now vs vs (λ p. f g.tree p) (λ p. end_closes s.n m p s.cells.now mid vs f s.code sh g.tree c.end_number.result g.count g.cells c.end_number.ensures)); forms_within = c.item_form.ensures.forms_within; cells_unchanged = c.item_form.ensures.cells_unchanged ∙ c.read_end.ensures.cells_unchanged }

@@ -20,19 +20,13 @@ overflow_cast-x c =
 pub returns-in-No : goal.returns-in-No
 returns-in-No c =
     let s = c.args in
-    let j = c.item-1.given in
-    (λ a R b k g at e m cs vs vs' f cl. form_no j.0.0 (rest_refused s.book.now a R true k [] (λ xs. f xs.0) b at j.0.0 (item_refused g (arg_at s.book.now a R k b at) s.item j.0.0 e j.1)) refl, (tt, refl))
+    record { item_form = λ a R b k g at e m cs vs vs' f cl. form_no c.in-No.k (rest_refused s.book.now a R true k [] (λ xs. f xs.0) b at c.in-No.k (item_refused g (arg_at s.book.now a R k b at) s.item c.in-No.k e c.in-No.is)) refl; forms_within = tt; cells_unchanged = refl }
 
 pub returns-in-Is : goal.returns-in-Is
 returns-in-Is c =
     let s = c.args in
     let p = c.requires in
-    let j = c.item-in-Is-1.given in
-    let o = c.close_form in
-    let next : ℕ = j.0.1.0 in (
-      λ a R b k g at e m cs vs vs' f cl.
-          let y = item_got g (arg_at s.book.now a R k b at) s.item j.0.0 next e j.1 in
+    let next : ℕ = c.in-Is.next in record { item_form = λ a R b k g at e m cs vs vs' f cl.
+          let y = item_got g (arg_at s.book.now a R k b at) s.item c.in-Is.k next e c.in-Is.is in
           form_is_lem (rest-one s.book.now a R k f b at y.0 next y.1)
-          (closed_form_lem s.book.now next s.n a (put_item s.lone s.n.forms s.code s.first s.cells.now (g y.0)) s.cells.now (cl y.0) o.ensures.0 (o.ensures.1.0 ∙ ap (λ (q : List ℕ). cond (eqb (get_or s.book.now next 0) 41) q s.cells.now) (put_item_lem s.lone s.n.forms s.code s.first s.cells.now c.pick_cell.result c.pick_cell-in-Is.result j.0.0 (g y.0) c.pick_cell.ensures c.pick_cell-in-Is.ensures y.2))),
-      (rw o.ensures.0 (closed-within s.book.now next s.n s.n.forms s.up (omega arith) p.0 p.1 p.2), o.ensures.1.1),
-    )
+          (closed_form_lem s.book.now next s.n a (put_item s.lone s.n.forms s.code s.first s.cells.now (g y.0)) s.cells.now (cl y.0) c.close_form.ensures.value (c.close_form.ensures.new_cells ∙ ap (λ (q : List ℕ). cond (eqb (get_or s.book.now next 0) 41) q s.cells.now) (put_item_lem s.lone s.n.forms s.code s.first s.cells.now c.pick_cell.result c.pick_cell-in-Is.result c.in-Is.k (g y.0) c.pick_cell.ensures c.pick_cell-in-Is.ensures y.2))); forms_within = rw c.close_form.ensures.value (closed-within s.book.now next s.n s.n.forms s.up (omega arith) p.0 p.1 p.2); cells_unchanged = c.close_form.ensures.cells_unchanged }

@@ -20,13 +20,13 @@ pub returns-then-not-is_word : goal.returns-then-not-is_word
 returns-then-not-is_word c =
     let s = c.args in
     let i = c.item_end-end in
-    (λ a vs. form_no 2 (true_not s.book.now a (leb max_forms (s.n.forms + s.up)) s.at i.result i.ensures (sym c.is_word.ensures ∙ not-true _ c.if-not-is_word.true-raw)) refl, (tt, refl))
+    record { form_read = λ a vs. form_no 2 (true_not s.book.now a (leb max_forms (s.n.forms + s.up)) s.at i.result i.ensures (sym c.is_word.ensures ∙ not-true _ c.if-not-is_word.true-raw)) refl; forms_within = tt; cells_unchanged = refl }
 
 pub returns-then-forms-up-ge-MAX_FORMS : goal.returns-then-forms-up-ge-MAX_FORMS
 returns-then-forms-up-ge-MAX_FORMS c =
     let s = c.args in
     let i = c.item_end-end in
-    (λ a vs. form_no 7 (true_full s.book.now a (leb max_forms (s.n.forms + s.up)) s.at i.result i.ensures (sym c.is_word.ensures ∙ not-false _ c.if-not-is_word.false-raw) (le-leb max_forms (s.n.forms + s.up) c.if-forms-up-ge-MAX_FORMS.true)) refl, (tt, refl))
+    record { form_read = λ a vs. form_no 7 (true_full s.book.now a (leb max_forms (s.n.forms + s.up)) s.at i.result i.ensures (sym c.is_word.ensures ∙ not-false _ c.if-not-is_word.false-raw) (le-leb max_forms (s.n.forms + s.up) c.if-forms-up-ge-MAX_FORMS.true)) refl; forms_within = tt; cells_unchanged = refl }
 
 pub returns : goal.returns
 returns c =
@@ -34,7 +34,4 @@ returns c =
     let p = c.requires in
     let i = c.item_end-end in
     let o = c.put_form.ensures in
-    let f = c.if-forms-up-ge-MAX_FORMS.false in (
-      λ a vs. true_read s.n s.cells.now vs i.result (true_got s.book.now a (leb max_forms (s.n.forms + s.up)) s.at i.result i.ensures (sym c.is_word.ensures ∙ not-false _ c.if-not-is_word.false-raw) (lt-leb max_forms (s.n.forms + s.up) f)) o,
-      ((omega arith, omega arith, p.3, p.4, omega (arith, item_end-within s.book.now s.at p.0, i.ensures)), ap (drop cell_count) o ∙ form_drop s.n.forms 0 0 0 0 0 s.cells.now (omega arith)),
-    )
+    let f = c.if-forms-up-ge-MAX_FORMS.false in record { form_read = λ a vs. true_read s.n s.cells.now vs i.result (true_got s.book.now a (leb max_forms (s.n.forms + s.up)) s.at i.result i.ensures (sym c.is_word.ensures ∙ not-false _ c.if-not-is_word.false-raw) (lt-leb max_forms (s.n.forms + s.up) f)) o; forms_within = (omega arith, omega arith, p.3, p.4, omega (arith, item_end-within s.book.now s.at p.0, i.ensures)); cells_unchanged = ap (drop cell_count) o ∙ form_drop s.n.forms 0 0 0 0 0 s.cells.now (omega arith) }

@@ -9,13 +9,10 @@ pub item_form-requires : goal.item_form-requires
 item_form-requires c =
     let s = c.args in
     let p = c.requires in
-    let u = c.read_used-item in
     let l = count_limit s.counts (pool_of s.pool) p.6 in
-    (p.3, p.4, p.5, p.2, below_more _ 65536 _ u.result (omega arith) u.ensures.1)
+    (p.3, p.4, p.5, p.2, below_more _ 65536 _ c.read_used-item.result (omega arith) c.read_used-item.ensures.below)
 
 pub returns : goal.returns
 returns c =
     let s = c.args in
-    let u = c.read_used-item in
-    let o = c.item_form in
-    (λ a h R b f sh vs. o.ensures.0 a R b (used (pool_of s.pool)) same s.at (u.ensures.0 a h R b) (begun_of s.n) s.cells.now vs vs f (λ k. sh s.n k s.cells.now vs), (o.ensures.1.0, o.ensures.1.1))
+    record { form_read = λ a h R b f sh vs. c.item_form.ensures.item_form a R b (used (pool_of s.pool)) same s.at (c.read_used-item.ensures.reads a h R b) (begun_of s.n) s.cells.now vs vs f (λ k. sh s.n k s.cells.now vs); forms_within = c.item_form.ensures.forms_within; cells_unchanged = c.item_form.ensures.cells_unchanged }

@@ -18,13 +18,11 @@ pub returns-in_default : goal.returns-in_default
 returns-in_default c =
     let s = c.args in
     let S = s.book.now in
-    let r₁ = c.read_subject-subject in
-    let k = c.enum_told-1.given in
     let m = c.refusal.result in
     λ a vs h kinds.
     let R = readers_at S a max_within in
     let b = begun_above a in
-    done_no a s.counts (line_body S a fact_l s.at) _ m s.names.now s.cells.now vs (body_is S a fact_l s.at ∙ stop₁ S a (line_room S a fact_l) subject (used links ∷ used nodes ∷ []) (line_family.build fact_l) b s.at m (item-stop S a subject same b s.at r₁.result k.0.0 m (r₁.ensures.0 a h kinds) k.1 c.refusal.ensures)) refl
+    done_no a s.counts (line_body S a fact_l s.at) _ m s.names.now s.cells.now vs (body_is S a fact_l s.at ∙ stop₁ S a (line_room S a fact_l) subject (used links ∷ used nodes ∷ []) (line_family.build fact_l) b s.at m (item-stop S a subject same b s.at c.read_subject-subject.result c.in_default.field-0 m (c.read_subject-subject.ensures.reads a h kinds) c.in_default.is c.refusal.ensures)) refl
 
 pub read_used-predicate-requires : goal.read_used-predicate-requires
 read_used-predicate-requires c =
@@ -35,17 +33,13 @@ pub returns-in_default-predicate : goal.returns-in_default-predicate
 returns-in_default-predicate c =
     let s = c.args in
     let S = s.book.now in
-    let r₁ = c.read_subject-subject in
-    let u₁ = c.subject-1.given in
-    let r₂ = c.read_used-predicate in
-    let k = c.enum_told-in_default-predicate-1.given in
     let m = c.refusal-in_default-predicate.result in
     λ a vs h kinds.
     let R = readers_at S a max_within in
     let b = begun_above a in
-    let e₁ = number_got (arg_at S a R subject b s.at) r₁.result u₁.0.0 u₁.0.1.0 (r₁.ensures.0 a h kinds R b) u₁.1 in
-    let b₁ = after subject u₁.0.0 b in
-    done_no a s.counts (line_body S a fact_l s.at) _ m s.names.now s.cells.now vs (body_is S a fact_l s.at ∙ stop₂ S a (line_room S a fact_l) subject (used links) (used nodes ∷ []) (line_family.build fact_l) b s.at u₁.0.0 u₁.0.1.0 e₁ m (item-stop S a (used links) same b₁ u₁.0.1.0 r₂.result k.0.0 m (r₂.ensures.0 a h) k.1 c.refusal-in_default-predicate.ensures)) refl
+    let e₁ = number_got (arg_at S a R subject b s.at) c.read_subject-subject.result c.in-Is.s c.in-Is.i (c.read_subject-subject.ensures.reads a h kinds R b) c.in-Is.is in
+    let b₁ = after subject c.in-Is.s b in
+    done_no a s.counts (line_body S a fact_l s.at) _ m s.names.now s.cells.now vs (body_is S a fact_l s.at ∙ stop₂ S a (line_room S a fact_l) subject (used links) (used nodes ∷ []) (line_family.build fact_l) b s.at c.in-Is.s c.in-Is.i e₁ m (item-stop S a (used links) same b₁ c.in-Is.i c.read_used-predicate.result c.in_default-predicate.field-0 m (c.read_used-predicate.ensures.reads a h) c.in_default-predicate.is c.refusal-in_default-predicate.ensures)) refl
 
 pub read_used-object-requires : goal.read_used-object-requires
 read_used-object-requires c =
@@ -56,21 +50,15 @@ pub returns-in_default-object : goal.returns-in_default-object
 returns-in_default-object c =
     let s = c.args in
     let S = s.book.now in
-    let r₁ = c.read_subject-subject in
-    let u₁ = c.subject-1.given in
-    let r₂ = c.read_used-predicate in
-    let u₂ = c.predicate-1.given in
-    let r₃ = c.read_used-object in
-    let k = c.enum_told-in_default-object-1.given in
     let m = c.refusal-in_default-object.result in
     λ a vs h kinds.
     let R = readers_at S a max_within in
     let b = begun_above a in
-    let e₁ = number_got (arg_at S a R subject b s.at) r₁.result u₁.0.0 u₁.0.1.0 (r₁.ensures.0 a h kinds R b) u₁.1 in
-    let b₁ = after subject u₁.0.0 b in
-    let e₂ = number_got (arg_at S a R (used links) b₁ u₁.0.1.0) r₂.result u₂.0.0 u₂.0.1.0 (r₂.ensures.0 a h R b₁) u₂.1 in
-    let b₂ = after (used links) u₂.0.0 b₁ in
-    done_no a s.counts (line_body S a fact_l s.at) _ m s.names.now s.cells.now vs (body_is S a fact_l s.at ∙ stop₃ S a (line_room S a fact_l) subject (used links) (used nodes) [] (line_family.build fact_l) b s.at u₁.0.0 u₁.0.1.0 e₁ u₂.0.0 u₂.0.1.0 e₂ m (item-stop S a (used nodes) same b₂ u₂.0.1.0 r₃.result k.0.0 m (r₃.ensures.0 a h) k.1 c.refusal-in_default-object.ensures)) refl
+    let e₁ = number_got (arg_at S a R subject b s.at) c.read_subject-subject.result c.in-Is.s c.in-Is.i (c.read_subject-subject.ensures.reads a h kinds R b) c.in-Is.is in
+    let b₁ = after subject c.in-Is.s b in
+    let e₂ = number_got (arg_at S a R (used links) b₁ c.in-Is.i) c.read_used-predicate.result c.in-Is-predicate.p c.in-Is-predicate.j (c.read_used-predicate.ensures.reads a h R b₁) c.in-Is-predicate.is in
+    let b₂ = after (used links) c.in-Is-predicate.p b₁ in
+    done_no a s.counts (line_body S a fact_l s.at) _ m s.names.now s.cells.now vs (body_is S a fact_l s.at ∙ stop₃ S a (line_room S a fact_l) subject (used links) (used nodes) [] (line_family.build fact_l) b s.at c.in-Is.s c.in-Is.i e₁ c.in-Is-predicate.p c.in-Is-predicate.j e₂ m (item-stop S a (used nodes) same b₂ c.in-Is-predicate.j c.read_used-object.result c.in_default-object.field-0 m (c.read_used-object.ensures.reads a h) c.in_default-object.is c.refusal-in_default-object.ensures)) refl
 
 pub line_end-done-requires : goal.line_end-done-requires
 line_end-done-requires c = (below-is _ _ c.read_used-object.result _ _ c.read_used-object.ensures.below c.in-Is-object.is).1
@@ -79,27 +67,20 @@ pub returns-in_default-done : goal.returns-in_default-done
 returns-in_default-done c =
     let s = c.args in
     let S = s.book.now in
-    let r₁ = c.read_subject-subject in
-    let u₁ = c.subject-1.given in
-    let r₂ = c.read_used-predicate in
-    let u₂ = c.predicate-1.given in
-    let r₃ = c.read_used-object in
-    let u₃ = c.object-1.given in
     let o = c.line_end-done in
     let f = c.with_fact in
-    let k = c.enum_told-in_default-done-1.given in
     λ a vs h kinds.
     let R = readers_at S a max_within in
     let b = begun_above a in
-    let e₁ = number_got (arg_at S a R subject b s.at) r₁.result u₁.0.0 u₁.0.1.0 (r₁.ensures.0 a h kinds R b) u₁.1 in
-    let b₁ = after subject u₁.0.0 b in
-    let e₂ = number_got (arg_at S a R (used links) b₁ u₁.0.1.0) r₂.result u₂.0.0 u₂.0.1.0 (r₂.ensures.0 a h R b₁) u₂.1 in
-    let b₂ = after (used links) u₂.0.0 b₁ in
-    let e₃ = number_got (arg_at S a R (used nodes) b₂ u₂.0.1.0) r₃.result u₃.0.0 u₃.0.1.0 (r₃.ensures.0 a h R b₂) u₃.1 in
-    let l = fact (record { subject = u₁.0.0; predicate = u₂.0.0; object = u₃.0.0 }) in
-    let e = body_is S a fact_l s.at ∙ all₃ S a (line_room S a fact_l) subject (used links) (used nodes) (line_family.build fact_l) b s.at u₁.0.0 u₁.0.1.0 e₁ u₂.0.0 u₂.0.1.0 e₂ u₃.0.0 u₃.0.1.0 e₃ in
-    let q = o.ensures a l ∙ ap (λ (x : Bool). ended_with f.result (line_end S a x l u₃.0.1.0)) (fact_room S a s.counts.facts h.facts_counted) in
-    done_no a s.counts (line_body S a fact_l s.at) _ k.0.0 s.names.now s.cells.now vs (e ∙ ended-no f.result (line_end S a (line_room S a fact_l) l u₃.0.1.0) o.result k.0.0 q k.1) k.1
+    let e₁ = number_got (arg_at S a R subject b s.at) c.read_subject-subject.result c.in-Is.s c.in-Is.i (c.read_subject-subject.ensures.reads a h kinds R b) c.in-Is.is in
+    let b₁ = after subject c.in-Is.s b in
+    let e₂ = number_got (arg_at S a R (used links) b₁ c.in-Is.i) c.read_used-predicate.result c.in-Is-predicate.p c.in-Is-predicate.j (c.read_used-predicate.ensures.reads a h R b₁) c.in-Is-predicate.is in
+    let b₂ = after (used links) c.in-Is-predicate.p b₁ in
+    let e₃ = number_got (arg_at S a R (used nodes) b₂ c.in-Is-predicate.j) c.read_used-object.result c.in-Is-object.o c.in-Is-object.k (c.read_used-object.ensures.reads a h R b₂) c.in-Is-object.is in
+    let l = fact (record { subject = c.in-Is.s; predicate = c.in-Is-predicate.p; object = c.in-Is-object.o }) in
+    let e = body_is S a fact_l s.at ∙ all₃ S a (line_room S a fact_l) subject (used links) (used nodes) (line_family.build fact_l) b s.at c.in-Is.s c.in-Is.i e₁ c.in-Is-predicate.p c.in-Is-predicate.j e₂ c.in-Is-object.o c.in-Is-object.k e₃ in
+    let q = o.ensures a l ∙ ap (λ (x : Bool). ended_with f.result (line_end S a x l c.in-Is-object.k)) (fact_room S a s.counts.facts h.facts_counted) in
+    done_no a s.counts (line_body S a fact_l s.at) _ c.in_default-done.field-0 s.names.now s.cells.now vs (e ∙ ended-no f.result (line_end S a (line_room S a fact_l) l c.in-Is-object.k) o.result c.in_default-done.field-0 q c.in_default-done.is) c.in_default-done.is
 
 pub overflow_add-n : goal.overflow_add-n
 overflow_add-n c = let n = c.requires.4.fact_limit in omega arith
@@ -140,30 +121,23 @@ unfolding line_names line_values
 returns c =
     let s = c.args in
     let S = s.book.now in
-    let r₁ = c.read_subject-subject in
-    let u₁ = c.subject-1.given in
-    let r₂ = c.read_used-predicate in
-    let u₂ = c.predicate-1.given in
-    let r₃ = c.read_used-object in
-    let u₃ = c.object-1.given in
     let o = c.line_end-done in
     let f = c.with_fact in
-    let k = c.enum_told-in-Next-1.given in
     λ a vs h kinds.
     let R = readers_at S a max_within in
     let b = begun_above a in
-    let e₁ = number_got (arg_at S a R subject b s.at) r₁.result u₁.0.0 u₁.0.1.0 (r₁.ensures.0 a h kinds R b) u₁.1 in
-    let b₁ = after subject u₁.0.0 b in
-    let e₂ = number_got (arg_at S a R (used links) b₁ u₁.0.1.0) r₂.result u₂.0.0 u₂.0.1.0 (r₂.ensures.0 a h R b₁) u₂.1 in
-    let b₂ = after (used links) u₂.0.0 b₁ in
-    let e₃ = number_got (arg_at S a R (used nodes) b₂ u₂.0.1.0) r₃.result u₃.0.0 u₃.0.1.0 (r₃.ensures.0 a h R b₂) u₃.1 in
-    let l = fact (record { subject = u₁.0.0; predicate = u₂.0.0; object = u₃.0.0 }) in
-    let e = body_is S a fact_l s.at ∙ all₃ S a (line_room S a fact_l) subject (used links) (used nodes) (line_family.build fact_l) b s.at u₁.0.0 u₁.0.1.0 e₁ u₂.0.0 u₂.0.1.0 e₂ u₃.0.0 u₃.0.1.0 e₃ in
-    let q = o.ensures a l ∙ ap (λ (x : Bool). ended_with f.result (line_end S a x l u₃.0.1.0)) (fact_room S a s.counts.facts h.facts_counted) in
-    let y = ended-yes S a (line_room S a fact_l) l u₃.0.1.0 f.result o.result k.0.0 k.0.1.0 q k.1 in
-    done_yes a s.counts (line_body S a fact_l s.at) l k.0.0 _ s.names.now s.names.now s.cells.now _ vs vs
+    let e₁ = number_got (arg_at S a R subject b s.at) c.read_subject-subject.result c.in-Is.s c.in-Is.i (c.read_subject-subject.ensures.reads a h kinds R b) c.in-Is.is in
+    let b₁ = after subject c.in-Is.s b in
+    let e₂ = number_got (arg_at S a R (used links) b₁ c.in-Is.i) c.read_used-predicate.result c.in-Is-predicate.p c.in-Is-predicate.j (c.read_used-predicate.ensures.reads a h R b₁) c.in-Is-predicate.is in
+    let b₂ = after (used links) c.in-Is-predicate.p b₁ in
+    let e₃ = number_got (arg_at S a R (used nodes) b₂ c.in-Is-predicate.j) c.read_used-object.result c.in-Is-object.o c.in-Is-object.k (c.read_used-object.ensures.reads a h R b₂) c.in-Is-object.is in
+    let l = fact (record { subject = c.in-Is.s; predicate = c.in-Is-predicate.p; object = c.in-Is-object.o }) in
+    let e = body_is S a fact_l s.at ∙ all₃ S a (line_room S a fact_l) subject (used links) (used nodes) (line_family.build fact_l) b s.at c.in-Is.s c.in-Is.i e₁ c.in-Is-predicate.p c.in-Is-predicate.j e₂ c.in-Is-object.o c.in-Is-object.k e₃ in
+    let q = o.ensures a l ∙ ap (λ (x : Bool). ended_with f.result (line_end S a x l c.in-Is-object.k)) (fact_room S a s.counts.facts h.facts_counted) in
+    let y = ended-yes S a (line_room S a fact_l) l c.in-Is-object.k f.result o.result c.in-Next.field-0 c.in-Next.field-1 q c.in-Next.is in
+    done_yes a s.counts (line_body S a fact_l s.at) l c.in-Next.field-0 _ s.names.now s.names.now s.cells.now _ vs vs
     (e ∙ y.0)
-    (y.1 ∙ ap (λ (n : Counts). LineAnswer.Next k.0.0 n) (f.ensures (record { subject = u₁.0.0; predicate = u₂.0.0; object = u₃.0.0 })))
+    (y.1 ∙ ap (λ (n : Counts). LineAnswer.Next c.in-Next.field-0 n) (f.ensures (record { subject = c.in-Is.s; predicate = c.in-Is-predicate.p; object = c.in-Is-object.o })))
     refl
-    (c.put_row.ensures ∙ fact_cells a s.counts.facts u₁.0.0 u₂.0.0 u₃.0.0 s.cells.now h.facts_counted)
+    (c.put_row.ensures ∙ fact_cells a s.counts.facts c.in-Is.s c.in-Is-predicate.p c.in-Is-object.o s.cells.now h.facts_counted)
     refl

@@ -19,11 +19,9 @@ pub returns-in_default : goal.returns-in_default
 returns-in_default c =
     let s = c.args in
     let p = pool_of s.pool in
-    let r = c.read_new-new in
-    let k = c.enum_told-1.given in
     λ a cs vs h. done_no a s.counts (line_body s.book.now a (name_line_code p) s.at) _ c.refusal.result s.names.now cs vs
     (lone_stop s.book.now a p c.requires.4 s.at c.refusal.result
-    (item-stop s.book.now a (new p) length (begun_above a) s.at r.result k.0.0 c.refusal.result (r.ensures.0 a h) k.1 c.refusal.ensures))
+    (item-stop s.book.now a (new p) length (begun_above a) s.at c.read_new-new.result c.in_default.field-0 c.refusal.result (c.read_new-new.ensures.reads a h) c.in_default.is c.refusal.ensures))
     refl
 
 pub line_end-done-requires : goal.line_end-done-requires
@@ -33,26 +31,21 @@ pub returns-in_default-done : goal.returns-in_default-done
 returns-in_default-done c =
     let s = c.args in
     let p = pool_of s.pool in
-    let r = c.read_new-new in
-    let u = c.new-1.given in
     let o = c.line_end-done in
-    let k = c.enum_told-in_default-done-1.given in
     λ a cs vs h.
-    let w = slice (s.at + 1) u.0.1.0 s.book.now in
-    let e = lone_got s.book.now a p c.requires.4 s.at w u.0.1.0 (new_got s.book.now a p (begun_above a) s.at r.result u.0.0 u.0.1.0 (r.ensures.0 a h) u.1) in
-    done_no a s.counts (line_body s.book.now a (name_line_code p) s.at) _ k.0.0 s.names.now cs vs
-    (e ∙ ended-no c.with_name.result (line_end s.book.now a true (name_line p w) u.0.1.0) o.result k.0.0 (o.ensures a (name_line p w)) k.1)
-    k.1
+    let w = slice (s.at + 1) c.in-Is.end s.book.now in
+    let e = lone_got s.book.now a p c.requires.4 s.at w c.in-Is.end (new_got s.book.now a p (begun_above a) s.at c.read_new-new.result c.in-Is.field-0 c.in-Is.end (c.read_new-new.ensures.reads a h) c.in-Is.is) in
+    done_no a s.counts (line_body s.book.now a (name_line_code p) s.at) _ c.in_default-done.field-0 s.names.now cs vs
+    (e ∙ ended-no c.with_name.result (line_end s.book.now a true (name_line p w) c.in-Is.end) o.result c.in_default-done.field-0 (o.ensures a (name_line p w)) c.in_default-done.is)
+    c.in_default-done.is
 
 pub put_new-requires : goal.put_new-requires
 put_new-requires c =
     let s = c.args in
     let p = pool_of s.pool in
-    let r = c.read_new-new in
-    let u = c.new-1.given in
     let q = c.requires in
     let (a, h) = q.3 in
-    let f = new_facts s.book.now a p (begun_above a) s.at r.result u.0.0 u.0.1.0 (r.ensures.0 a h) u.1 in
+    let f = new_facts s.book.now a p (begun_above a) s.at c.read_new-new.result c.in-Is.field-0 c.in-Is.end (c.read_new-new.ensures.reads a h) c.in-Is.is in
     let l = new_place p (count_of s.counts p) (let m = f.room in let n = h.names_counted p in omega arith) in
     (f.from, f.within, f.short, l, q.1, q.2)
 
@@ -60,18 +53,15 @@ pub returns : goal.returns
 returns c =
     let s = c.args in
     let p = pool_of s.pool in
-    let r = c.read_new-new in
-    let u = c.new-1.given in
     let o = c.line_end-done in
-    let k = c.enum_told-in-Next-1.given in
     let lone = c.requires.4 in
     λ a cs vs h.
-    let w = slice (s.at + 1) u.0.1.0 s.book.now in
-    let e = lone_got s.book.now a p lone s.at w u.0.1.0 (new_got s.book.now a p (begun_above a) s.at r.result u.0.0 u.0.1.0 (r.ensures.0 a h) u.1) in
-    let y = ended-yes s.book.now a true (name_line p w) u.0.1.0 c.with_name.result o.result k.0.0 k.0.1.0 (o.ensures a (name_line p w)) k.1 in
-    done_yes a s.counts (line_body s.book.now a (name_line_code p) s.at) (name_line p w) k.0.0 _ s.names.now _ cs cs vs vs
+    let w = slice (s.at + 1) c.in-Is.end s.book.now in
+    let e = lone_got s.book.now a p lone s.at w c.in-Is.end (new_got s.book.now a p (begun_above a) s.at c.read_new-new.result c.in-Is.field-0 c.in-Is.end (c.read_new-new.ensures.reads a h) c.in-Is.is) in
+    let y = ended-yes s.book.now a true (name_line p w) c.in-Is.end c.with_name.result o.result c.in-Next.field-0 c.in-Next.field-1 (o.ensures a (name_line p w)) c.in-Next.is in
+    done_yes a s.counts (line_body s.book.now a (name_line_code p) s.at) (name_line p w) c.in-Next.field-0 _ s.names.now _ cs cs vs vs
     (e ∙ y.0)
-    (y.1 ∙ ap (λ (n : Counts). LineAnswer.Next k.0.0 n) (c.with_name.ensures ∙ lone_counted p lone w s.counts))
+    (y.1 ∙ ap (λ (n : Counts). LineAnswer.Next c.in-Next.field-0 n) (c.with_name.ensures ∙ lone_counted p lone w s.counts))
     (c.put_new.ensures ∙ lone_names a w p lone (count_of s.counts p) (h.names_counted p) s.names.now)
     (lone_cells a w p lone cs)
     (lone_values a w p lone vs)

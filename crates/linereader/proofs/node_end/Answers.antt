@@ -17,11 +17,10 @@ returns-in_default c =
     let s = c.args in
     let S = s.book.now in
     let o = c.line_end-done in
-    let k = c.enum_told-in_default-1.given in
     λ a t h row.
     let l = node (slice (s.at + 1) s.end S) t in
-    done_no a s.counts (line_end S a true l s.last) _ k.0.0 s.names.now s.cells.now s.values.now
-    (ended-no c.with_name.result (line_end S a true l s.last) o.result k.0.0 (o.ensures a l) k.1) k.1
+    done_no a s.counts (line_end S a true l s.last) _ c.in_default.field-0 s.names.now s.cells.now s.values.now
+    (ended-no c.with_name.result (line_end S a true l s.last) o.result c.in_default.field-0 (o.ensures a l) c.in_default.is) c.in_default.is
 
 pub put_new-requires : goal.put_new-requires
 put_new-requires c =
@@ -33,16 +32,15 @@ returns c =
     let s = c.args in
     let S = s.book.now in
     let o = c.line_end-done in
-    let k = c.enum_told-1.given in
     λ a t h row.
     let w = slice (s.at + 1) s.end S in
     let l = node w t in
     let n = s.counts.nodes in
     let e = h.names_counted nodes in
-    let y = ended-yes S a true l s.last c.with_name.result o.result k.0.0 k.0.1.0 (o.ensures a l) k.1 in
-    done_yes a s.counts (line_end S a true l s.last) l k.0.0 _ s.names.now _ s.cells.now _ s.values.now _
+    let y = ended-yes S a true l s.last c.with_name.result o.result c.in-Next.field-0 c.in-Next.field-1 (o.ensures a l) c.in-Next.is in
+    done_yes a s.counts (line_end S a true l s.last) l c.in-Next.field-0 _ s.names.now _ s.cells.now _ s.values.now _
     y.0
-    (y.1 ∙ ap (λ (m : Counts). LineAnswer.Next k.0.0 m) (c.with_name.ensures ∙ node-counted w t s.counts))
+    (y.1 ∙ ap (λ (m : Counts). LineAnswer.Next c.in-Next.field-0 m) (c.with_name.ensures ∙ node-counted w t s.counts))
     (c.put_new.ensures ∙ node-names a w t s.x s.value n e s.names.now)
     (c.put_row.ensures ∙ node-cells a w t s.x s.value n e s.cells.now row)
     (ap (λ (z : ℤ). set s.values.now n z) (to_z-of_z c.ranges.value) ∙ node-values a w t s.x s.value n e s.values.now row)

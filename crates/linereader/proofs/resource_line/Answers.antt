@@ -15,20 +15,16 @@ pub returns-in_default : goal.returns-in_default
 returns-in_default c =
     let s = c.args in
     let S = s.book.now in
-    let r = c.read_new-new in
-    let k = c.enum_told-1.given in
     let m = c.refusal.result in
     λ a h. done_no a s.counts (line_body S a (resource_code s.kind) s.at) _ m s.names.now s.cells.now s.values.now
-    (resource_stop S a s.kind s.at m (item-stop S a (new nodes) length (begun_above a) s.at r.result k.0.0 m (r.ensures.0 a h) k.1 c.refusal.ensures)) refl
+    (resource_stop S a s.kind s.at m (item-stop S a (new nodes) length (begun_above a) s.at c.read_new-new.result c.in_default.field-0 m (c.read_new-new.ensures.reads a h) c.in_default.is c.refusal.ensures)) refl
 
 pub node_end-requires : goal.node_end-requires
 node_end-requires c =
     let s = c.args in
-    let r = c.read_new-new in
-    let u = c.new-1.given in
     let q = c.requires in
     let (a, h) = q.6 in
-    let f = new_facts s.book.now a nodes (begun_above a) s.at r.result u.0.0 u.0.1.0 (r.ensures.0 a h) u.1 in
+    let f = new_facts s.book.now a nodes (begun_above a) s.at c.read_new-new.result c.in-Is.field-0 c.in-Is.end (c.read_new-new.ensures.reads a h) c.in-Is.is in
     let m = node-room s.counts.nodes (let x = f.room in let y = h.names_counted nodes in omega arith) in
     (f.from, f.within, f.short, f.within, m, q.2, q.3, q.4, q.5)
 
@@ -36,10 +32,8 @@ pub returns : goal.returns
 returns c =
     let s = c.args in
     let S = s.book.now in
-    let r = c.read_new-new in
-    let u = c.new-1.given in
     let o = c.node_end in
     λ a h.
-    let w = slice (s.at + 1) u.0.1.0 S in
-    let e = resource_got S a s.kind s.at w u.0.1.0 (new_got S a nodes (begun_above a) s.at r.result u.0.0 u.0.1.0 (r.ensures.0 a h) u.1) in
-    done_same a s.counts (line_body S a (resource_code s.kind) s.at) (line_end S a true (node w (resource_term s.kind)) u.0.1.0) _ s.names.now _ s.cells.now _ s.values.now _ e (o.ensures a (resource_term s.kind) h (resource_row s.kind c.requires.1))
+    let w = slice (s.at + 1) c.in-Is.end S in
+    let e = resource_got S a s.kind s.at w c.in-Is.end (new_got S a nodes (begun_above a) s.at c.read_new-new.result c.in-Is.field-0 c.in-Is.end (c.read_new-new.ensures.reads a h) c.in-Is.is) in
+    done_same a s.counts (line_body S a (resource_code s.kind) s.at) (line_end S a true (node w (resource_term s.kind)) c.in-Is.end) _ s.names.now _ s.cells.now _ s.values.now _ e (o.ensures a (resource_term s.kind) h (resource_row s.kind c.requires.1))

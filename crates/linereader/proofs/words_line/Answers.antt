@@ -20,11 +20,9 @@ pub returns-in_default : goal.returns-in_default
 returns-in_default c =
     let s = c.args in
     let S = s.book.now in
-    let r = c.read_new-new in
-    let k = c.enum_told-1.given in
     let m = c.refusal.result in
     λ a h. done_no a s.counts (line_body S a words_l s.at) _ m s.names.now s.cells.now s.values.now
-    (body_is S a words_l s.at ∙ stop₁ S a (line_room S a words_l) (new nodes) ((used langs) ∷ []) (line_family.build words_l) (begun_above a) s.at m (item-stop S a (new nodes) length (begun_above a) s.at r.result k.0.0 m (r.ensures.0 a h) k.1 c.refusal.ensures)) refl
+    (body_is S a words_l s.at ∙ stop₁ S a (line_room S a words_l) (new nodes) ((used langs) ∷ []) (line_family.build words_l) (begun_above a) s.at m (item-stop S a (new nodes) length (begun_above a) s.at c.read_new-new.result c.in_default.field-0 m (c.read_new-new.ensures.reads a h) c.in_default.is c.refusal.ensures)) refl
 
 pub read_used-lang-requires : goal.read_used-lang-requires
 read_used-lang-requires c =
@@ -35,17 +33,13 @@ pub returns-in_default-lang : goal.returns-in_default-lang
 returns-in_default-lang c =
     let s = c.args in
     let S = s.book.now in
-    let r = c.read_new-new in
-    let u = c.new-1.given in
-    let r₂ = c.read_used-lang in
-    let k = c.enum_told-in_default-lang-1.given in
     let m = c.refusal-in_default-lang.result in
     λ a h.
-    let w = slice (s.at + 1) u.0.1.0 S in
+    let w = slice (s.at + 1) c.in-Is.end S in
     let b = begun_above a in
-    let e = new_got S a nodes (begun_above a) s.at r.result u.0.0 u.0.1.0 (r.ensures.0 a h) u.1 in
+    let e = new_got S a nodes (begun_above a) s.at c.read_new-new.result c.in-Is.field-0 c.in-Is.end (c.read_new-new.ensures.reads a h) c.in-Is.is in
     done_no a s.counts (line_body S a words_l s.at) _ m s.names.now s.cells.now s.values.now
-    (body_is S a words_l s.at ∙ stop₂ S a (line_room S a words_l) (new nodes) (used langs) ([]) (line_family.build words_l) b s.at w u.0.1.0 e m (item-stop S a (used langs) same (after (new nodes) w b) u.0.1.0 r₂.result k.0.0 m (r₂.ensures.0 a h) k.1 c.refusal-in_default-lang.ensures)) refl
+    (body_is S a words_l s.at ∙ stop₂ S a (line_room S a words_l) (new nodes) (used langs) ([]) (line_family.build words_l) b s.at w c.in-Is.end e m (item-stop S a (used langs) same (after (new nodes) w b) c.in-Is.end c.read_used-lang.result c.in_default-lang.field-0 m (c.read_used-lang.ensures.reads a h) c.in_default-lang.is c.refusal-in_default-lang.ensures)) refl
 
 pub overflow_cast-x : goal.overflow_cast-x
 overflow_cast-x c =
@@ -56,12 +50,10 @@ overflow_cast-x c =
 pub node_end-requires : goal.node_end-requires
 node_end-requires c =
     let s = c.args in
-    let r = c.read_new-new in
-    let u = c.new-1.given in
     let l = (below-is _ _ c.read_used-lang.result _ _ c.read_used-lang.ensures.below c.in-Is-lang.is).1 in
     let q = c.requires in
     let (a, h) = q.5 in
-    let f = new_facts s.book.now a nodes (begun_above a) s.at r.result u.0.0 u.0.1.0 (r.ensures.0 a h) u.1 in
+    let f = new_facts s.book.now a nodes (begun_above a) s.at c.read_new-new.result c.in-Is.field-0 c.in-Is.end (c.read_new-new.ensures.reads a h) c.in-Is.is in
     let m = node-room s.counts.nodes (let x = f.room in let y = h.names_counted nodes in omega arith) in
     (f.from, f.within, f.short, l, m, q.1, q.2, q.3, q.4)
 
@@ -70,17 +62,13 @@ unfolding line_room node_row
 returns c =
     let s = c.args in
     let S = s.book.now in
-    let r = c.read_new-new in
-    let u = c.new-1.given in
-    let r₂ = c.read_used-lang in
-    let v = c.lang-1.given in
     let o = c.node_end in
     λ a h.
-    let w = slice (s.at + 1) u.0.1.0 S in
+    let w = slice (s.at + 1) c.in-Is.end S in
     let R = readers_at S a max_within in
     let b = begun_above a in
     let b₁ = after (new nodes) w b in
-    let e = new_got S a nodes (begun_above a) s.at r.result u.0.0 u.0.1.0 (r.ensures.0 a h) u.1 in
-    let e₂ = number_got (arg_at S a R (used langs) b₁ u.0.1.0) r₂.result v.0.0 v.0.1.0 (r₂.ensures.0 a h R b₁) v.1 in
-    let q = body_is S a words_l s.at ∙ all₂ S a true (new nodes) (used langs) (line_family.build words_l) b s.at w u.0.1.0 e v.0.0 v.0.1.0 e₂ in
-    done_same a s.counts (line_body S a words_l s.at) (line_end S a true (node w (tagged v.0.0)) v.0.1.0) _ s.names.now _ s.cells.now _ s.values.now _ q (o.ensures a (tagged v.0.0) h (refl, refl, refl, refl))
+    let e = new_got S a nodes (begun_above a) s.at c.read_new-new.result c.in-Is.field-0 c.in-Is.end (c.read_new-new.ensures.reads a h) c.in-Is.is in
+    let e₂ = number_got (arg_at S a R (used langs) b₁ c.in-Is.end) c.read_used-lang.result c.in-Is-lang.l c.in-Is-lang.last (c.read_used-lang.ensures.reads a h R b₁) c.in-Is-lang.is in
+    let q = body_is S a words_l s.at ∙ all₂ S a true (new nodes) (used langs) (line_family.build words_l) b s.at w c.in-Is.end e c.in-Is-lang.l c.in-Is-lang.last e₂ in
+    done_same a s.counts (line_body S a words_l s.at) (line_end S a true (node w (tagged c.in-Is-lang.l)) c.in-Is-lang.last) _ s.names.now _ s.cells.now _ s.values.now _ q (o.ensures a (tagged c.in-Is-lang.l) h (refl, refl, refl, refl))

@@ -42,9 +42,8 @@ loop-r-smaller c = let a = c.args in let q = c.requires in let l = c.loop-r in s
 
 pub loop-r-preserved : goal.loop-r-preserved
 loop-r-preserved c =
-    let a = c.args in let q = c.requires in let l = c.loop-r in let w = c.list_rule-n in
-    let e = row-tail l.lists (list_in a.cells.now a.plan.now a.work.now l.r) l.r (length l.lists - max_nodes * l.r) refl w.ensures.1.0 in
-    (omega (arith, c.loop-r-test.true), listed_more (list_in a.cells.now a.plan.now a.work.now) a.lists.now a.lengths.now l.r l.lists l.lengths l.invariant.1 _ w.result e (omega (arith, w.ensures.0, w.ensures.1.1, l.invariant.1.lists-kept, q.3, c.loop-r-test.true, few-rules a.cells.now a.plan.now q.0 q.1, c.rule_count-count.ensures)) w.ensures.0)
+    let a = c.args in let q = c.requires in let l = c.loop-r in let e = row-tail l.lists (list_in a.cells.now a.plan.now a.work.now l.r) l.r (length l.lists - max_nodes * l.r) refl c.list_rule-n.ensures.new_row in
+    (omega (arith, c.loop-r-test.true), listed_more (list_in a.cells.now a.plan.now a.work.now) a.lists.now a.lengths.now l.r l.lists l.lengths l.invariant.1 _ c.list_rule-n.result e (omega (arith, c.list_rule-n.ensures.value, c.list_rule-n.ensures.upper_bound, l.invariant.1.lists-kept, q.3, c.loop-r-test.true, few-rules a.cells.now a.plan.now q.0 q.1, c.rule_count-count.ensures)) c.list_rule-n.ensures.value)
 
 pub shape_of-lists : goal.shape_of-lists
 shape_of-lists c = c.loop-r.invariant.1.lists-kept
@@ -54,4 +53,4 @@ shape_of-lengths c = c.loop-r.invariant.1.lengths-kept
 
 pub returns : goal.returns
 returns c = let a = c.args in let q = c.requires in let l = c.loop-r in let e : l.r ≡ rule_count a.cells.now = omega (arith, l.invariant.0, c.loop-r-test.false, c.rule_count-count.ensures) in
-    (l.invariant.1.rows ∙ ap (λ n. with_rows (list_in a.cells.now a.plan.now a.work.now) n a.lists.now) e, l.invariant.1.sizes ∙ ap (λ n. with_lengths (list_in a.cells.now a.plan.now a.work.now) n a.lengths.now) e)
+    record { new_lists = l.invariant.1.rows ∙ ap (λ n. with_rows (list_in a.cells.now a.plan.now a.work.now) n a.lists.now) e; new_lengths = l.invariant.1.sizes ∙ ap (λ n. with_lengths (list_in a.cells.now a.plan.now a.work.now) n a.lengths.now) e }

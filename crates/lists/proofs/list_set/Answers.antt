@@ -21,4 +21,4 @@ loop-at-preserved c =
     listing_more (has a.words.now) a.n a.row.now l.at l.count l.row l.invariant c.loop-at-test.true c.requires.1 c.next_member-at-in-loop-at.result c.next_member-at-in-loop-at.ensures
 
 pub returns : goal.returns
-returns c = let a = c.args in let l = c.loop-at in listing_end (has a.words.now) a.n a.row.now l.at l.count l.row l.invariant c.loop-at-test.false
+returns c = let both = let a = c.args in let l = c.loop-at in listing_end (has a.words.now) a.n a.row.now l.at l.count l.row l.invariant c.loop-at-test.false in record { value = both.0; new_row = both.1 }

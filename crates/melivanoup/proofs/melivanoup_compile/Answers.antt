@@ -5,12 +5,10 @@ use Rattle.melivanoup.proofs.melivanoup_compile.Goals as goal
 
 pub returns-in-Steps : goal.returns-in-Steps
 returns-in-Steps c =
-    let x = c.compile in
-    let q = ap answer_of (sym c.in-Steps.is) ∙ x.ensures.0 in
-    (ap refusal_number q, (ap (value_or 0) q, x.ensures.1))
+    let q = ap answer_of (sym c.in-Steps.is) ∙ c.compile.ensures.result_value in
+    record { value = ap refusal_number q; new_steps = ap (value_or 0) q; new_plan = c.compile.ensures.new_plan }
 
 pub returns-in-Refused : goal.returns-in-Refused
 returns-in-Refused c =
-    let x = c.compile in
-    let q = ap answer_of (sym c.in-Refused.is) ∙ x.ensures.0 in
-    (c.number.ensures ∙ ap refusal_number q, (ap (value_or 0) q, x.ensures.1))
+    let q = ap answer_of (sym c.in-Refused.is) ∙ c.compile.ensures.result_value in
+    record { value = c.number.ensures ∙ ap refusal_number q; new_steps = ap (value_or 0) q; new_plan = c.compile.ensures.new_plan }

@@ -5,12 +5,10 @@ use Rattle.melivanoup.proofs.melivanoup_list.Goals as goal
 
 pub returns-in-Nodes : goal.returns-in-Nodes
 returns-in-Nodes c =
-    let x = c.list in
-    let q = ap answer_of (sym c.in-Nodes.is) ∙ x.ensures.0 in
-    (ap refusal_number q, (ap (value_or 0) q, x.ensures.1))
+    let q = ap answer_of (sym c.in-Nodes.is) ∙ c.list.ensures.result_value in
+    record { value = ap refusal_number q; new_nodes = ap (value_or 0) q; new_row = c.list.ensures.new_row }
 
 pub returns-in-Refused : goal.returns-in-Refused
 returns-in-Refused c =
-    let x = c.list in
-    let q = ap answer_of (sym c.in-Refused.is) ∙ x.ensures.0 in
-    (c.number.ensures ∙ ap refusal_number q, (ap (value_or 0) q, x.ensures.1))
+    let q = ap answer_of (sym c.in-Refused.is) ∙ c.list.ensures.result_value in
+    record { value = c.number.ensures ∙ ap refusal_number q; new_nodes = ap (value_or 0) q; new_row = c.list.ensures.new_row }

@@ -14,16 +14,16 @@ pub returns-in-At : goal.returns-in-At
 returns-in-At c =
     let q = ap answer_of (sym c.in-At.is) ∙ c.nearest.ensures in
     let n = numbers _ _ q in
-    (ap refusal_number q, (n.0, (n.1, n.2)))
+    record { value = ap refusal_number q; new_found = n.0; new_hops = n.1; new_spare = n.2 }
 
 pub returns-in-NoSpare : goal.returns-in-NoSpare
 returns-in-NoSpare c =
     let q = ap answer_of (sym c.in-NoSpare.is) ∙ c.nearest.ensures in
     let n = numbers _ _ q in
-    (ap refusal_number q, (n.0, (n.1, n.2)))
+    record { value = ap refusal_number q; new_found = n.0; new_hops = n.1; new_spare = n.2 }
 
 pub returns-in-Refused : goal.returns-in-Refused
 returns-in-Refused c =
     let q = ap answer_of (sym c.in-Refused.is) ∙ c.nearest.ensures in
     let n = numbers _ _ q in
-    (c.number.ensures ∙ ap refusal_number q, (n.0, (n.1, n.2)))
+    record { value = c.number.ensures ∙ ap refusal_number q; new_found = n.0; new_hops = n.1; new_spare = n.2 }

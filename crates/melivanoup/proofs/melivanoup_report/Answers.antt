@@ -5,12 +5,10 @@ use Rattle.melivanoup.proofs.melivanoup_report.Goals as goal
 
 pub returns-in-Bytes : goal.returns-in-Bytes
 returns-in-Bytes c =
-    let x = c.report_part in
-    let q = ap answer_of (sym c.in-Bytes.is) ∙ x.ensures.0 in
-    (ap refusal_number q, (ap (value_or 0) q, x.ensures.1.0))
+    let q = ap answer_of (sym c.in-Bytes.is) ∙ c.report_part.ensures.result_value in
+    record { value = ap refusal_number q; new_bytes = ap (value_or 0) q; new_page = c.report_part.ensures.new_page }
 
 pub returns-in-Refused : goal.returns-in-Refused
 returns-in-Refused c =
-    let x = c.report_part in
-    let q = ap answer_of (sym c.in-Refused.is) ∙ x.ensures.0 in
-    (c.number.ensures ∙ ap refusal_number q, (ap (value_or 0) q, x.ensures.1.0))
+    let q = ap answer_of (sym c.in-Refused.is) ∙ c.report_part.ensures.result_value in
+    record { value = c.number.ensures ∙ ap refusal_number q; new_bytes = ap (value_or 0) q; new_page = c.report_part.ensures.new_page }

@@ -5,10 +5,8 @@ use Rattle.melivanoup.proofs.melivanoup_run.Goals as goal
 
 pub returns-in-Done : goal.returns-in-Done
 returns-in-Done c =
-    let x = c.run in
-    (ap refusal_number (ap answer_of (sym c.in-Done.is) ∙ x.ensures.0), x.ensures.1)
+    record { value = ap refusal_number (ap answer_of (sym c.in-Done.is) ∙ c.run.ensures.result_value); new_work = c.run.ensures.new_work }
 
 pub returns-in-Refused : goal.returns-in-Refused
 returns-in-Refused c =
-    let x = c.run in
-    (c.number.ensures ∙ ap refusal_number (ap answer_of (sym c.in-Refused.is) ∙ x.ensures.0), x.ensures.1)
+    record { value = c.number.ensures ∙ ap refusal_number (ap answer_of (sym c.in-Refused.is) ∙ c.run.ensures.result_value); new_work = c.run.ensures.new_work }

@@ -31,7 +31,7 @@ returns-then-node-n c =
     let a = c.args in
     let pre = c.requires in
     let t = c.loop-wanted in
-    (met a.rows.now a.n a.v pre.1 pre.3 pre.0 a.spares.words t.invariant.0 t.invariant.1 c.next_shared-node.ensures c.if-node-n.true, c.if-node-n.true)
+    record { node_value = met a.rows.now a.n a.v pre.1 pre.3 pre.0 a.spares.words t.invariant.0 t.invariant.1 c.next_shared-node.ensures c.if-node-n.true; node_lt_n = c.if-node-n.true }
 
 pub next-level-requires : goal.next-level-requires
 next-level-requires c = (c.requires.1, c.requires.2)

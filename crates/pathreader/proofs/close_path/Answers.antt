@@ -12,7 +12,7 @@ pub returns-then-byte-ne41 : goal.returns-then-byte-ne41
 unfolding closed
 returns-then-byte-ne41 c =
     let n = ne_eqb _ 41 (λ e. c.if-byte-ne41.true (c.byte.ensures ∙ e)) in
-    (rw n, (rw n refl, refl))
+    record { value = rw n; new_cells = rw n refl; cells_unchanged = refl }
 
 pub overflow_add-result-2 : goal.overflow_add-result-2
 overflow_add-result-2 c =
@@ -26,4 +26,4 @@ returns c =
     let s = c.args in
     let p = c.put_path.ensures in
     let y = eq-eqb _ 41 (sym c.byte.ensures ∙ c.if-byte-ne41.false) in
-    (rw y, (rw y p, ap (drop cell_count) p ∙ path_drop s.e s.code s.first s.second s.cells.now c.requires.0))
+    record { value = rw y; new_cells = rw y p; cells_unchanged = ap (drop cell_count) p ∙ path_drop s.e s.code s.first s.second s.cells.now c.requires.0 }

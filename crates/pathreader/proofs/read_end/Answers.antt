@@ -11,7 +11,7 @@ use Rattle.pathreader.proofs.read_end.Goals as goal
 pub returns-then-byte-ne32 : goal.returns-then-byte-ne32
 returns-then-byte-ne32 c =
     let s = c.args in
-    (λ a h b q. done_no 2 (end_unspaced s.book.now a (readers_at s.book.now a s.left) b s.at (λ e. c.if-byte-ne32.true (c.byte.ensures ∙ e))) refl, (tt, refl))
+    record { end_read = λ a h b q. done_no 2 (end_unspaced s.book.now a (readers_at s.book.now a s.left) b s.at (λ e. c.if-byte-ne32.true (c.byte.ensures ∙ e))) refl; grown = tt; cells_unchanged = refl }
 
 pub is_word-requires : goal.is_word-requires
 is_word-requires c =
@@ -23,17 +23,11 @@ returns-then-is_word c =
     let s = c.args in
     let stop = c.item_end-end in
     let z = sym c.byte.ensures ∙ c.if-byte-ne32.false in
-    let i = (item-within s.book.now s.at stop.result 31 z stop.ensures).1 in (
-      λ a h b q. done_is (end_self s.book.now a (readers_at s.book.now a s.left) b s.at z stop.result stop.ensures (sym c.is_word.ensures ∙ c.if-is_word.true)) (self_read s.n stop.result s.cells.now),
-      ((omega arith, omega arith, i), refl),
-    )
+    let i = (item-within s.book.now s.at stop.result 31 z stop.ensures).1 in record { end_read = λ a h b q. done_is (end_self s.book.now a (readers_at s.book.now a s.left) b s.at z stop.result stop.ensures (sym c.is_word.ensures ∙ c.if-is_word.true)) (self_read s.n stop.result s.cells.now); grown = (omega arith, omega arith, i); cells_unchanged = refl }
 
 pub returns : goal.returns
 returns c =
     let s = c.args in
     let stop = c.item_end-end in
     let z = sym c.byte.ensures ∙ c.if-byte-ne32.false in
-    let o = c.read_path in (
-      λ a h b q. done_is (end-along s.book.now a (readers_at s.book.now a s.left) b s.at z stop.result stop.ensures (sym c.is_word.ensures ∙ c.if-is_word.false)) (along_read (arg_at s.book.now a (readers_at s.book.now a s.left) path b s.at) s.n s.cells.now o.new.0 o.result (o.ensures.0 a h b (q ∙ sym (add-zero s.n)))),
-      (grown-less (s.n + 1) s.n 0 _ o.result (omega arith) o.ensures.1.0, o.ensures.1.1),
-    )
+    record { end_read = λ a h b q. done_is (end-along s.book.now a (readers_at s.book.now a s.left) b s.at z stop.result stop.ensures (sym c.is_word.ensures ∙ c.if-is_word.false)) (along_read (arg_at s.book.now a (readers_at s.book.now a s.left) path b s.at) s.n s.cells.now c.read_path.new.cells c.read_path.result (c.read_path.ensures.path_read a h b (q ∙ sym (add-zero s.n)))); grown = grown-less (s.n + 1) s.n 0 _ c.read_path.result (omega arith) c.read_path.ensures.grown; cells_unchanged = c.read_path.ensures.cells_unchanged }

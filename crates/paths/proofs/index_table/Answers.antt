@@ -21,9 +21,8 @@ pub index_facts-requires-2 : goal.index_facts-requires-2
 index_facts-requires-2 c =
     let pre = c.requires in
     let l = lent-subjects c.args.cells.now pre.2 pre.1 c.fact_count-len.ensures in
-    let m = c.index_facts in
-    let all : length m.new.0 ≡ index_count = m.auto.0 ∙ ap length pre.0 ∙ length-replicate {A = ℕ} index_count 0 in
-    (omega (arith, all, l.0), omega (arith, all), l.0, l.1, l.2, λ h k. m.ensures.above (subject_heads + h) (omega (arith, l.0)) ∙ ap (λ (w : List ℕ). get_or w (subject_heads + h) 0) pre.0 ∙ get_or-replicate index_count (subject_heads + h) 0 0 (omega arith))
+    let all : length c.index_facts.new.index ≡ index_count = c.index_facts.auto.index ∙ ap length pre.0 ∙ length-replicate {A = ℕ} index_count 0 in
+    (omega (arith, all, l.0), omega (arith, all), l.0, l.1, l.2, λ h k. c.index_facts.ensures.above (subject_heads + h) (omega (arith, l.0)) ∙ ap (λ (w : List ℕ). get_or w (subject_heads + h) 0) pre.0 ∙ get_or-replicate index_count (subject_heads + h) 0 0 (omega arith))
 
 pub returns : goal.returns
 returns c =

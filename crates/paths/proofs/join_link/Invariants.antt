@@ -8,7 +8,7 @@ use Rattle.paths.proofs.join_link.Given as goal
 
 abbrev pub invariant-loop-next : goal.invariant-loop-next
 invariant-loop-next l = (l.next ≤ l.len) × (length l.into ≡ length l.initial.into) × ((i : ℕ) → get_or l.into i 0 < 2 ^ 64)
-    × ((l : ℕ) → l.initial.next ≡ last_with (λ i. get_or l.p i 0) l l.len → ((i : ℕ) → l.next ≡ suc i → get_or l.p i 0 ≡ l) × (with_images (set_count l.sets) l.n (edges l.s l.p l.o l l.back l.next) (start_of l.sets l.from) l.into ≡ with_images (set_count l.sets) l.n (edges l.s l.p l.o l l.back l.len) (start_of l.sets l.from) l.initial.into))
+    × ((k₁ : ℕ) → l.initial.next ≡ last_with (λ i. get_or l.p i 0) k₁ l.len → ((i : ℕ) → l.next ≡ suc i → get_or l.p i 0 ≡ k₁) × (with_images (set_count l.sets) l.n (edges l.s l.p l.o k₁ l.back l.next) (start_of l.sets l.from) l.into ≡ with_images (set_count l.sets) l.n (edges l.s l.p l.o k₁ l.back l.len) (start_of l.sets l.from) l.initial.into))
 
 abbrev pub decreases-loop-next : goal.decreases-loop-next
 decreases-loop-next l = l.next

@@ -39,7 +39,7 @@ pub returns-then-none_below : goal.returns-then-none_below
 returns-then-none_below c =
     let a = c.args in
     let pre = c.requires in
-    (sym (counted (goal.at.returns-then-none_below c).Then-none_below), reached-all a.rows.now a.n a.v pre.1 pre.3 pre.0 c.loop-nodes.count (level-after (goal.at.returns-then-none_below c).After-next-level) (counted (goal.at.returns-then-none_below c).Then-none_below))
+    record { rounds_value = sym (counted (goal.at.returns-then-none_below c).Then-none_below); words_value = reached-all a.rows.now a.n a.v pre.1 pre.3 pre.0 c.loop-nodes.count (level-after (goal.at.returns-then-none_below c).After-next-level) (counted (goal.at.returns-then-none_below c).Then-none_below) }
 
 -- no number up to this one has settled
 still_growing : (c : Else-none_below) → let a = c.args in (j : ℕ) → j < c.loop-nodes.count + 1 → settled (leads a.rows.now) a.n a.v j ≡ false

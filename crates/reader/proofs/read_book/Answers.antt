@@ -32,28 +32,24 @@ read_lines-requires c =
 
 pub put_counts-requires : goal.put_counts-requires
 put_counts-requires c =
-    let k = c.counts-1.given in
-    let w = whole (goal.at.put_counts-requires c).After-read_lines k.0.0 k.1 in
+    let w = whole (goal.at.put_counts-requires c).After-read_lines c.in-Read.counts c.in-Read.is in
     (omega (arith, c.read_lines.auto, c.clear.auto, c.requires), w.limits, w.fits)
 
 pub refusal-requires : goal.refusal-requires
 refusal-requires c =
-    let k = c.k-1.given in
-    let w = turned (goal.at.refusal-requires c).After-read_lines k.0.0 k.0.1.0 k.1 in
+    let w = turned (goal.at.refusal-requires c).After-read_lines c.in-No.k c.in-No.line c.in-No.is in
     (w.least, w.greatest)
 
 pub returns-in-Read : goal.returns-in-Read
 returns-in-Read c =
-    let k = c.counts-1.given in
-    let w = whole (goal.at.returns-in-Read c).After-read_lines k.0.0 k.1 in
-    (w.answer, (w.names, (c.put_counts.ensures ∙ w.cells, w.values)))
+    let w = whole (goal.at.returns-in-Read c).After-read_lines c.in-Read.counts c.in-Read.is in
+    record { result_value = w.answer; new_names = w.names; new_cells = c.put_counts.ensures ∙ w.cells; new_values = w.values }
 
 pub returns-in-No : goal.returns-in-No
 returns-in-No c =
-    let k = c.k-1.given in
-    let w = turned (goal.at.returns-in-No c).After-read_lines k.0.0 k.0.1.0 k.1 in
+    let w = turned (goal.at.returns-in-No c).After-read_lines c.in-No.k c.in-No.line c.in-No.is in
     let r = c.refusal.ensures in
     let z = c.clear-in-No.ensures in
     let e = r.0 in
     let f = r.1 in
-    (rw (e, f) w.answer, (z.0 ∙ w.names, (z.1.0 ∙ w.cells, z.1.1 ∙ w.values)))
+    record { result_value = rw (e, f) w.answer; new_names = z.0 ∙ w.names; new_cells = z.1.0 ∙ w.cells; new_values = z.1.1 ∙ w.values }

@@ -14,7 +14,7 @@ returns-then-names-first-eq0 c =
     let l = c.loop-j in
     let a = c.args in
     let room : name_bytes * a.v.0 + max_name ≤ length a.names.now = omega arith in
-    (named-stop a.names.now a.v.0 room l.j c.loop-j-test.true c.if-names-first-eq0.true (l.invariant.1 a.v.0 refl room), l.invariant.0)
+    record { names_value = named-stop a.names.now a.v.0 room l.j c.loop-j-test.true c.if-names-first-eq0.true (l.invariant.1 a.v.0 refl room); upper_bound = l.invariant.0 }
 
 pub loop-j-preserved : goal.loop-j-preserved
 loop-j-preserved c =
@@ -27,4 +27,4 @@ returns c =
     let l = c.loop-j in
     let a = c.args in
     let room : name_bytes * a.v.0 + max_name ≤ length a.names.now = omega arith in
-    (named_end a.names.now a.v.0 room l.j (omega (arith, l.invariant.0, c.loop-j-test.false)) (l.invariant.1 a.v.0 refl room), l.invariant.0)
+    record { names_value = named_end a.names.now a.v.0 room l.j (omega (arith, l.invariant.0, c.loop-j-test.false)) (l.invariant.1 a.v.0 refl room); upper_bound = l.invariant.0 }

@@ -34,7 +34,7 @@ are_formed : (c : lts.Else2 calls reads.Pre reads.Post) → both_well_formed (ta
 are_formed c = sym c.before.both-well-formed.ensures ∙ not-false c.before.both-well-formed.result c.if2.false
 
 pub returns-then-not-lent_long : goal.returns-then-not-lent_long
-returns-then-not-lent_long c = short (run-answers c.args.names.now c.args.cells.now c.args.values.now c.args.plan.now c.args.work.now) (sym c.lent_long.ensures ∙ not-true c.lent_long.result c.if-not-lent_long.true-raw)
+returns-then-not-lent_long c = let both = short (run-answers c.args.names.now c.args.cells.now c.args.values.now c.args.plan.now c.args.work.now) (sym c.lent_long.ensures ∙ not-true c.lent_long.result c.if-not-lent_long.true-raw) in record { result_value = both.0; new_work = both.1 }
 
 pub slice_bounds-cs-end : goal.slice_bounds-cs-end
 slice_bounds-cs-end c = sym (length-take-le cell_count c.args.cells.now (room c.before).tables.cells)
@@ -43,7 +43,7 @@ pub slice_bounds-ps-end : goal.slice_bounds-ps-end
 slice_bounds-ps-end c = sym (length-take-le plan_count c.args.plan.now (room c.before.before).plan)
 
 pub returns-then-not-both_well_formed : goal.returns-then-not-both_well_formed
-returns-then-not-both_well_formed c = malformed (run-answers c.args.names.now c.args.cells.now c.args.values.now c.args.plan.now c.args.work.now) (is-long c.before.before.before.before) (sym c.both_well_formed.ensures ∙ not-true c.both_well_formed.result c.if-not-both_well_formed.true-raw)
+returns-then-not-both_well_formed c = let both = malformed (run-answers c.args.names.now c.args.cells.now c.args.values.now c.args.plan.now c.args.work.now) (is-long c.before.before.before.before) (sym c.both_well_formed.ensures ∙ not-true c.both_well_formed.result c.if-not-both_well_formed.true-raw) in record { result_value = both.0; new_work = both.1 }
 
 pub slice_bounds-run_steps-end : goal.slice_bounds-run_steps-end
 slice_bounds-run_steps-end c = sym (length-take-le name_count c.args.names.now (room c.before.before.before.before.before.before).tables.names)
@@ -55,4 +55,4 @@ pub run_steps-requires : goal.run_steps-requires
 run_steps-requires c = (le_of_eq (sym (length-take-le name_count c.args.names.now (room c.before.before.before.before.before.before.before).tables.names)), le_of_eq (sym (length-take-le cell_count c.args.cells.now (room c.before.before.before.before.before.before.before).tables.cells)), tables_formed (take cell_count c.args.cells.now) (take plan_count c.args.plan.now) (are_formed c.before.before.before), plan_formed (take cell_count c.args.cells.now) (take plan_count c.args.plan.now) (are_formed c.before.before.before), (room c.before.before.before.before.before.before.before).work)
 
 pub returns : goal.returns
-returns c = done (run-answers c.args.names.now c.args.cells.now c.args.values.now c.args.plan.now c.args.work.now) (is-long c.before.before.before.before.before.before.before.before.before.before) (are_formed c.before.before.before.before.before.before) refl refl c.run_steps.ensures
+returns c = let both = done (run-answers c.args.names.now c.args.cells.now c.args.values.now c.args.plan.now c.args.work.now) (is-long c.before.before.before.before.before.before.before.before.before.before) (are_formed c.before.before.before.before.before.before) refl refl c.run_steps.ensures in record { result_value = both.0; new_work = both.1 }

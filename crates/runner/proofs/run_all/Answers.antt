@@ -39,16 +39,15 @@ loop-k-preserved c =
     let pre = c.requires in
     let cs = a.cells.now in
     let t = c.loop-k in
-    let r = c.run_step in
     let kind = c.step_kind-kind in
     let p = plans.sound cs a.plan.now pre.1 in (
       omega (arith, c.loop-k-test.true),
-      r.auto.0 ∙ t.invariant.1,
-      r.auto.1.0 ∙ t.invariant.2,
-      r.auto.1.1.0 ∙ t.invariant.3,
-      r.ensures.0 ∙ steps-more (sub_of a.sub) cs a.values.now a.plan.now (sound cs pre.0.ok).nodes a.work.now t.k (p.step t.k (omega (arith, c.step_count-count.ensures, c.loop-k-test.true))) t.invariant.4,
-      subst (λ (x : Kept). RowsHeld cs x r.new.1.0) (sym (c.first_after-kept.ensures ∙ ap (λ (y : Kind). first_after y t.auto) kind.ensures)) r.ensures.1.0,
-      subst (λ (x : Kept). RowsHeld cs x r.new.1.1.0) (sym (c.second_after-links.ensures ∙ ap (λ (y : Kind). second_after y t.links) kind.ensures)) r.ensures.1.1,
+      c.run_step.auto.work ∙ t.invariant.1,
+      c.run_step.auto.first ∙ t.invariant.2,
+      c.run_step.auto.second ∙ t.invariant.3,
+      c.run_step.ensures.new_work ∙ steps-more (sub_of a.sub) cs a.values.now a.plan.now (sound cs pre.0.ok).nodes a.work.now t.k (p.step t.k (omega (arith, c.step_count-count.ensures, c.loop-k-test.true))) t.invariant.4,
+      subst (λ (x : Kept). RowsHeld cs x c.run_step.new.first) (sym (c.first_after-kept.ensures ∙ ap (λ (y : Kind). first_after y t.auto) kind.ensures)) c.run_step.ensures.rows_held,
+      subst (λ (x : Kept). RowsHeld cs x c.run_step.new.second) (sym (c.second_after-links.ensures ∙ ap (λ (y : Kind). second_after y t.links) kind.ensures)) c.run_step.ensures.rows_held_2,
     )
 
 pub shape_of-work : goal.shape_of-work

@@ -76,40 +76,40 @@ links_set-requires c = let r = right c.before.before.before c.in-Links.is in (c.
 
 pub returns-in-Whole : goal.returns-in-Whole
 unfolding kind_set first_after second_after
-returns-in-Whole c = (c.whole.ensures ∙ ap (λ (m : ℕ). words_of (λ v. ltb v m) 16) c.node_count-n.ensures ∙ words c.before.before.before c.in-Whole.is, (first_rows c.before.before.before c.in-Whole.is c.requires.3, second-rows c.before.before.before c.in-Whole.is c.requires.4))
+returns-in-Whole c = record { words_value = c.whole.ensures ∙ ap (λ (m : ℕ). words_of (λ v. ltb v m) 16) c.node_count-n.ensures ∙ words c.before.before.before c.in-Whole.is; rows_held = first_rows c.before.before.before c.in-Whole.is c.requires.3; rows_held_2 = second-rows c.before.before.before c.in-Whole.is c.requires.4 }
 
 pub returns-in-Empty : goal.returns-in-Empty
 unfolding kind_set first_after second_after
-returns-in-Empty c = (words c.before.before c.in-Empty.is, (first_rows c.before.before c.in-Empty.is c.requires.3, second-rows c.before.before c.in-Empty.is c.requires.4))
+returns-in-Empty c = record { words_value = words c.before.before c.in-Empty.is; rows_held = first_rows c.before.before c.in-Empty.is c.requires.3; rows_held_2 = second-rows c.before.before c.in-Empty.is c.requires.4 }
 
 pub returns-in-Node : goal.returns-in-Node
 unfolding kind_set first_after second_after
-returns-in-Node c = (c.plain_set.ensures ∙ words c.before.before.before.before c.in-Node.is, (first_rows c.before.before.before.before c.in-Node.is c.requires.3, second-rows c.before.before.before.before c.in-Node.is c.requires.4))
+returns-in-Node c = record { words_value = c.plain_set.ensures ∙ words c.before.before.before.before c.in-Node.is; rows_held = first_rows c.before.before.before.before c.in-Node.is c.requires.3; rows_held_2 = second-rows c.before.before.before.before c.in-Node.is c.requires.4 }
 
 pub returns-in-Both : goal.returns-in-Both
 unfolding kind_set first_after second_after
-returns-in-Both c = (c.both_set.ensures ∙ ap (nodes_of (λ v. has (drop (16 * c.in-Both.i) c.args.work.now) v && has (drop (16 * c.in-Both.j) c.args.work.now) v)) c.node_count-n.ensures ∙ words c.before.before.before.before c.in-Both.is, (first_rows c.before.before.before.before c.in-Both.is c.requires.3, second-rows c.before.before.before.before c.in-Both.is c.requires.4))
+returns-in-Both c = record { words_value = c.both_set.ensures ∙ ap (nodes_of (λ v. has (drop (16 * c.in-Both.i) c.args.work.now) v && has (drop (16 * c.in-Both.j) c.args.work.now) v)) c.node_count-n.ensures ∙ words c.before.before.before.before c.in-Both.is; rows_held = first_rows c.before.before.before.before c.in-Both.is c.requires.3; rows_held_2 = second-rows c.before.before.before.before c.in-Both.is c.requires.4 }
 
 pub returns-in-Either : goal.returns-in-Either
 unfolding kind_set first_after second_after
-returns-in-Either c = (c.either_set.ensures ∙ ap (nodes_of (λ v. has (drop (16 * c.in-Either.i) c.args.work.now) v || has (drop (16 * c.in-Either.j) c.args.work.now) v)) c.node_count-n.ensures ∙ words c.before.before.before.before c.in-Either.is, (first_rows c.before.before.before.before c.in-Either.is c.requires.3, second-rows c.before.before.before.before c.in-Either.is c.requires.4))
+returns-in-Either c = record { words_value = c.either_set.ensures ∙ ap (nodes_of (λ v. has (drop (16 * c.in-Either.i) c.args.work.now) v || has (drop (16 * c.in-Either.j) c.args.work.now) v)) c.node_count-n.ensures ∙ words c.before.before.before.before c.in-Either.is; rows_held = first_rows c.before.before.before.before c.in-Either.is c.requires.3; rows_held_2 = second-rows c.before.before.before.before c.in-Either.is c.requires.4 }
 
 pub returns-in-Path : goal.returns-in-Path
 unfolding kind_set first_after second_after
-returns-in-Path c = (c.path_set.ensures.words_value ∙ words c.before.before.before.before.before.before.before c.in-Path.is, (first_rows c.before.before.before.before.before.before.before c.in-Path.is c.path_set.ensures.rows_held, second-rows c.before.before.before.before.before.before.before c.in-Path.is c.requires.4))
+returns-in-Path c = record { words_value = c.path_set.ensures.words_value ∙ words c.before.before.before.before.before.before.before c.in-Path.is; rows_held = first_rows c.before.before.before.before.before.before.before c.in-Path.is c.path_set.ensures.rows_held; rows_held_2 = second-rows c.before.before.before.before.before.before.before c.in-Path.is c.requires.4 }
 
 pub returns-in-Ends : goal.returns-in-Ends
 unfolding kind_set first_after second_after
-returns-in-Ends c = (c.ends_set.ensures.words_value ∙ words c.before.before.before.before.before.before.before.before.before.before c.in-Ends.is, (first_rows c.before.before.before.before.before.before.before.before.before.before c.in-Ends.is c.ends_set.ensures.rows_held, second-rows c.before.before.before.before.before.before.before.before.before.before c.in-Ends.is c.ends_set.ensures.rows_held_2))
+returns-in-Ends c = record { words_value = c.ends_set.ensures.words_value ∙ words c.before.before.before.before.before.before.before.before.before.before c.in-Ends.is; rows_held = first_rows c.before.before.before.before.before.before.before.before.before.before c.in-Ends.is c.ends_set.ensures.rows_held; rows_held_2 = second-rows c.before.before.before.before.before.before.before.before.before.before c.in-Ends.is c.ends_set.ensures.rows_held_2 }
 
 pub returns-in-Lang : goal.returns-in-Lang
 unfolding kind_set first_after second_after
-returns-in-Lang c = (c.lang_set.ensures.words_value ∙ words c.before.before.before.before.before.before.before c.in-Lang.is, (first_rows c.before.before.before.before.before.before.before c.in-Lang.is c.lang_set.ensures.rows_held, second-rows c.before.before.before.before.before.before.before c.in-Lang.is c.requires.4))
+returns-in-Lang c = record { words_value = c.lang_set.ensures.words_value ∙ words c.before.before.before.before.before.before.before c.in-Lang.is; rows_held = first_rows c.before.before.before.before.before.before.before c.in-Lang.is c.lang_set.ensures.rows_held; rows_held_2 = second-rows c.before.before.before.before.before.before.before c.in-Lang.is c.requires.4 }
 
 pub returns-in-Selected : goal.returns-in-Selected
 unfolding kind_set first_after second_after
-returns-in-Selected c = (c.target_set.ensures ∙ words c.before.before.before.before c.in-Selected.is, (first_rows c.before.before.before.before c.in-Selected.is c.requires.3, second-rows c.before.before.before.before c.in-Selected.is c.requires.4))
+returns-in-Selected c = record { words_value = c.target_set.ensures ∙ words c.before.before.before.before c.in-Selected.is; rows_held = first_rows c.before.before.before.before c.in-Selected.is c.requires.3; rows_held_2 = second-rows c.before.before.before.before c.in-Selected.is c.requires.4 }
 
 pub returns-in-Links : goal.returns-in-Links
 unfolding kind_set first_after second_after
-returns-in-Links c = (c.links_set.ensures ∙ words c.before.before.before.before c.in-Links.is, (first_rows c.before.before.before.before c.in-Links.is c.requires.3, second-rows c.before.before.before.before c.in-Links.is c.requires.4))
+returns-in-Links c = record { words_value = c.links_set.ensures ∙ words c.before.before.before.before c.in-Links.is; rows_held = first_rows c.before.before.before.before c.in-Links.is c.requires.3; rows_held_2 = second-rows c.before.before.before.before c.in-Links.is c.requires.4 }

@@ -9,5 +9,4 @@ use Rattle.validate.proofs.print.Goals as goal
 pub slice_bounds-write_all-end : goal.slice_bounds-write_all-end
 slice_bounds-write_all-end c =
     let a = c.args in
-    let k = c.written-1.given in
-    sym (length-take-le k.0.0 a.page.now (subst (λ w. value_or 0 (answer_of w) ≤ length a.page.now) k.1 c.requires))
+    sym (length-take-le c.in-Bytes.n a.page.now (subst (λ w. value_or 0 (answer_of w) ≤ length a.page.now) c.in-Bytes.is c.requires))

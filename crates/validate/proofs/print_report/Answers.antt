@@ -11,7 +11,7 @@ pub loop-k-init : goal.loop-k-init
 loop-k-init c = (omega arith, refl)
 
 pub print-requires : goal.print-requires
-print-requires c = let r = c.report_part-written in omega (arith, r.ensures.1.1, r.auto.1.1.1.1.1.1.0)
+print-requires c = omega (arith, c.report_part-written.ensures.result_in_bounds, c.report_part-written.auto.page)
 
 pub overflow_step-k : goal.overflow_step-k
 overflow_step-k c = search (rules, c.loop-k-test.true, (c.type_inv.cells 9).fits, c.rule_count-parts.ensures)

@@ -25,10 +25,9 @@ run_tables-requires c =
     let s : List ℕ = a.book.now in
     let l : Lent = (lent a.names.now a.cells.now a.values.now a.plan.now a.work.now a.lists.now a.lengths.now) in
     let e : validate_long l ≡ true = (sym c.long_enough.ensures ∙ not-false c.long_enough.result c.if-not-long_enough.false-raw) in
-    let x = c.read in
-    let t = accepted s l e x.result c.in-Accepted.field-0 x.ensures.0 c.in-Accepted.is x.ensures.1.0 x.ensures.1.1.0 x.ensures.1.1.1 in
+    let t = accepted s l e c.read.result c.in-Accepted.field-0 c.read.ensures.result_value c.in-Accepted.is c.read.ensures.new_names c.read.ensures.new_cells c.read.ensures.new_values in
     let m = room l e in
-    (long_kept a.names.now x.new.1.0 a.cells.now x.new.1.1.0 a.values.now x.new.1.1.1.0 m.tables x.auto.1.0 x.auto.1.1.0 x.auto.1.1.1.0, well_formed_of t, m.plan, m.work, m.lists, m.lengths)
+    (long_kept a.names.now c.read.new.names a.cells.now c.read.new.cells a.values.now c.read.new.values m.tables c.read.auto.names c.read.auto.cells c.read.auto.values, well_formed_of t, m.plan, m.work, m.lists, m.lengths)
 
 pub returns-in-Refused : goal.returns-in-Refused
 returns-in-Refused c =
@@ -37,11 +36,9 @@ returns-in-Refused c =
     let l : Lent = (lent a.names.now a.cells.now a.values.now a.plan.now a.work.now a.lists.now a.lengths.now) in
     let e : validate_long l ≡ true = (sym c.long_enough.ensures ∙ not-false c.long_enough.result c.if-not-long_enough.false-raw) in
     let t : long_enough a.names.now a.cells.now a.values.now ≡ true = (room l e).tables in
-    let x = c.read in
-    let r = c.in-Refused.r in
-    let q : reading s ≡ refusal (code_of r) (line_of r) = was_refused s a.names.now a.cells.now a.values.now t x.result r x.ensures.0 c.in-Refused.is in
-    let o : Answer Book = refusal (code_of r) (line_of r) in
-    subst (Meets s l (refusal (code_of r) (line_of r))) (sym (lent_same (x.ensures.1.0 ∙ names-left s a.names.now a.cells.now a.values.now t o q) (x.ensures.1.1.0 ∙ cells_left_lem s a.names.now a.cells.now a.values.now t o q) (x.ensures.1.1.1 ∙ values-left s a.names.now a.cells.now a.values.now t o q) refl refl refl refl)) (turned_down s l e (code_of r) (line_of r) q)
+    let q : reading s ≡ refusal (code_of c.in-Refused.r) (line_of c.in-Refused.r) = was_refused s a.names.now a.cells.now a.values.now t c.read.result c.in-Refused.r c.read.ensures.result_value c.in-Refused.is in
+    let o : Answer Book = refusal (code_of c.in-Refused.r) (line_of c.in-Refused.r) in
+    subst (Meets s l (refusal (code_of c.in-Refused.r) (line_of c.in-Refused.r))) (sym (lent_same (c.read.ensures.new_names ∙ names-left s a.names.now a.cells.now a.values.now t o q) (c.read.ensures.new_cells ∙ cells_left_lem s a.names.now a.cells.now a.values.now t o q) (c.read.ensures.new_values ∙ values-left s a.names.now a.cells.now a.values.now t o q) refl refl refl refl)) (turned_down s l e (code_of c.in-Refused.r) (line_of c.in-Refused.r) q)
 
 pub returns-in-Accepted : goal.returns-in-Accepted
 returns-in-Accepted c =
@@ -49,14 +46,12 @@ returns-in-Accepted c =
     let s : List ℕ = a.book.now in
     let l : Lent = (lent a.names.now a.cells.now a.values.now a.plan.now a.work.now a.lists.now a.lengths.now) in
     let e : validate_long l ≡ true = (sym c.long_enough.ensures ∙ not-false c.long_enough.result c.if-not-long_enough.false-raw) in
-    let x = c.read in
-    let t = accepted s l e x.result c.in-Accepted.field-0 x.ensures.0 c.in-Accepted.is x.ensures.1.0 x.ensures.1.1.0 x.ensures.1.1.1 in
-    let y = c.run_tables in
+    let t = accepted s l e c.read.result c.in-Accepted.field-0 c.read.ensures.result_value c.in-Accepted.is c.read.ensures.new_names c.read.ensures.new_cells c.read.ensures.new_values in
     let E = cells_of_lem t in
     let F = values_of_lem t in
     let G = sub_of_lem t in
-    let n = y.ensures.0 ∙ ap (λ k. length (steps_of k)) E in
-    let m = lent_same t.names t.cells t.values (y.ensures.1.0 ∙ ap (λ k. plan_of k ++ drop plan_count a.plan.now) E) (y.ensures.1.1.0 ∙ (λ j. filled (G j) (E j) (F j) (plan_of (E j)) a.work.now)) (y.ensures.1.1.1.0 ∙ rows_of t a.lists.now) (y.ensures.1.1.1.1 ∙ lengths_of t a.lengths.now) in
+    let n = c.run_tables.ensures.value ∙ ap (λ k. length (steps_of k)) E in
+    let m = lent_same t.names t.cells t.values (c.run_tables.ensures.new_plan ∙ ap (λ k. plan_of k ++ drop plan_count a.plan.now) E) (c.run_tables.ensures.new_work ∙ (λ j. filled (G j) (E j) (F j) (plan_of (E j)) a.work.now)) (c.run_tables.ensures.new_lists ∙ rows_of t a.lists.now) (c.run_tables.ensures.new_lengths ∙ lengths_of t a.lengths.now) in
     let n₁ = sym n in
     let m₁ = sym m in
     subst (λ (z : Answer ℕ × Lent). Meets s l z.0 z.1) (λ j. (value (n₁ j), m₁ j)) (taken s l e t.book t.read)

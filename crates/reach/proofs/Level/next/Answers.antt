@@ -9,4 +9,4 @@ pub returns : goal.returns
 returns c =
     let before = c.args.self.reached.words in
     let found = c.image-found.ensures in
-    (c.union.ensures ∙ ap (union before) found, c.difference.ensures ∙ ap (λ (ws : List ℕ). difference ws before) found)
+    record { words_value = c.union.ensures ∙ ap (union before) found; words_value_2 = c.difference.ensures ∙ ap (λ (ws : List ℕ). difference ws before) found }
