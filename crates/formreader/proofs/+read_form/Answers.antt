@@ -1,4 +1,3 @@
-use borrow.Author.Rules.{rules}
 use Prim.Native.Nat.{ℕ, ◌+◌, ◌-◌, ◌<◌, ◌≤◌}
 use mathlib.Core.Path.{◌≡◌, subst, ◌∙◌}
 use native.Mathlib.Omega.{arith}
@@ -13,344 +12,230 @@ use Rattle.formreader.specs.declared.Front.{Front}
 use Rattle.formreader.specs.Frames.{begun_with, put_child}
 use Rattle.formreader.proofs.Frames.{whole_read, part_read, whole-within, part-within}
 use Rattle.formreader.proofs.Children.{front-code, begun_forms, begun_with_lem, begun_after, child_refused, one-rest, second_refused, two-rest, one_closes, two_closes}
-use borrow.Fn.Kinds.{In}
-use borrow.Fn.PlainCycle.{Measures, is, falls, and}
-use Rattle.formreader.proofs.read_form.Reads as read-form
-use Rattle.formreader.proofs.read_form.Kinds as read-form-kinds
-use Rattle.formreader.proofs.+read_form.Lts-read_form as read-form-lts
-use Rattle.formreader.proofs.close_child.Reads as close-child-reads
-use Rattle.formreader.proofs.open_form.Reads as open-form-reads
-use Rattle.leafreader.proofs.close_form.Reads as close-form-reads
+use borrow.Fn.PlainCycle.{is}
 use Rattle.formreader.proofs.+read_form.Goals as goal
 
-abbrev μ_read_form : Measures 5 read-form-kinds.ps ℕ
-μ_read_form κs a = a.1.1.1.1.1.1.1.0
+pub open_form-requires : goal.open_form-requires
+open_form-requires t c =
+    c.requires
 
-abbrev read_form_at : ℕ → In 5 read-form-kinds.ps
-read_form_at t = and 5 read-form-kinds.ps (is 5 read-form-kinds.ps μ_read_form t) read-form.Pre
-
-abbrev read_form_below : ℕ → In 5 read-form-kinds.ps
-read_form_below t =
-    and 5 read-form-kinds.ps (falls 5 read-form-kinds.ps ◌<◌ μ_read_form t) read-form.Pre
-
-abbrev read_form_calls : ℕ → read-form-lts.Claims
-read_form_calls t = (open-form-reads.Asked, open-form-reads.Learnt, read_form_below t, read-form.Post, close-child-reads.Asked, close-child-reads.Learnt, close-form-reads.Asked, close-form-reads.Learnt)
-
-read_form_open_form_requires : (t : ℕ) → read-form-lts.Need-open-form-requires (read_form_calls t) (read_form_at t) read-form.Post
-read_form_open_form_requires t c κs =
-    c.before.before.before.before.before.before.requires.1
-
-read_form_enum_known_form : (t : ℕ) → read-form-lts.Need-enum-known-form (read_form_calls t) (read_form_at t) read-form.Post
-read_form_enum_known_form t c =
-    search rules
-
-read_form_enum_known_p : (t : ℕ) → read-form-lts.Need-enum-known-p (read_form_calls t) (read_form_at t) read-form.Post
-read_form_enum_known_p t c =
-    search rules
-
-read_form_sub_d : (t : ℕ) → read-form-lts.Need-overflow-sub-d (read_form_calls t) (read_form_at t) read-form.Post
-read_form_sub_d t c =
-    let s = c.before.before.before.before.before.before.before.before.before.before.before.before.before.args in
-    let o = c.before.before.before.before.before.before.open-form in
-    let fr = c.before.p.given in
-    let front : Front = fr.0.0 in
-    let w = part-within s.left s.up (length s.book.now) s.n o.result o.ensures.1.0 front fr.1 in
+pub overflow_sub-d : goal.overflow_sub-d
+overflow_sub-d t c =
+    let s = c.args in
+    let front : Front = c.in-Part.p in
+    let w = part-within s.left s.up (length s.book.now) s.n c.open_form.result c.open_form.ensures.opened front c.in-Part.is in
     let l = w.0 in
     omega arith
 
-read_form_add_u : (t : ℕ) → read-form-lts.Need-overflow-add-u (read_form_calls t) (read_form_at t) read-form.Post
-read_form_add_u t c =
-    let s = c.before.before.before.before.before.before.before.before.before.before.before.before.before.args in
-    let o = c.before.before.before.before.before.before.open-form in
-    let fr = c.before.p.given in
-    let front : Front = fr.0.0 in
-    let w = part-within s.left s.up (length s.book.now) s.n o.result o.ensures.1.0 front fr.1 in
+pub overflow_add-u : goal.overflow_add-u
+overflow_add-u t c =
+    let s = c.args in
+    let front : Front = c.in-Part.p in
+    let w = part-within s.left s.up (length s.book.now) s.n c.open_form.result c.open_form.ensures.opened front c.in-Part.is in
     let l = w.1 in
     omega arith
 
-read_form_read_form_requires : (t : ℕ) → read-form-lts.Need-read-form-requires (read_form_calls t) (read_form_at t) read-form.Post
-read_form_read_form_requires t c κs =
-    let s = c.before.before.before.before.before.before.before.before.before.before.before.before.before.before.before.args in
-    let p = c.before.before.before.before.before.before.before.before.before.before.before.before.before.before.before.requires in
-    let o = c.before.before.before.before.before.before.before.before.open-form in
-    let fr = c.before.before.before.p.given in
-    let front : Front = fr.0.0 in
-    let w = part-within s.left s.up (length s.book.now) s.n o.result o.ensures.1.0 front fr.1 in
-    let m = p.0 in
+pub read_form-first-requires : goal.read_form-first-requires
+read_form-first-requires t c =
+    let s = c.args in
+    let front : Front = c.in-Part.p in
+    let w = part-within s.left s.up (length s.book.now) s.n c.open_form.result c.open_form.ensures.opened front c.in-Part.is in
+    let m = c.decreases in
     let l = w.0 in
     let u = w.1 in
-    (omega arith, (w.3, p.1.1, omega (arith, o.auto.0, p.1.2), omega (arith, o.auto.1.0, p.1.3), omega arith, w.2, p.1.6, p.1.7, p.1.8))
+    (omega arith, (w.3, c.requires.1, omega (arith, c.open_form.auto.cells, c.requires.2), omega (arith, c.open_form.auto.values, c.requires.3), omega arith, w.2, c.requires.6, c.requires.7, c.requires.8))
 
-read_form_enum_known-first : (t : ℕ) → read-form-lts.Need-enum-known-first (read_form_calls t) (read_form_at t) read-form.Post
-read_form_enum_known-first t c =
-    search rules
+pub shape_of-cells-in_default : goal.shape_of-cells-in_default
+shape_of-cells-in_default t c =
+    omega (arith, c.read_form-first.auto.cells, c.open_form.auto.cells)
 
-read_form_enum_told : (t : ℕ) → read-form-lts.Need-enum-told (read_form_calls t) (read_form_at t) read-form.Post
-read_form_enum_told t c =
-    search rules
+pub shape_of-values-in_default : goal.shape_of-values-in_default
+shape_of-values-in_default t c =
+    omega (arith, c.read_form-first.auto.values, c.open_form.auto.values)
 
-read_form_same-length : (t : ℕ) → read-form-lts.Need-same-length (read_form_calls t) (read_form_at t) read-form.Post
-read_form_same-length t c =
-    omega (arith, c.before.before.before.before.before.read-form.auto.0, c.before.before.before.before.before.before.before.before.before.before.before.before.before.before.open-form.auto.0)
-
-read_form_same-length_2 : (t : ℕ) → read-form-lts.Need-same-length-2 (read_form_calls t) (read_form_at t) read-form.Post
-read_form_same-length_2 t c =
-    omega (arith, c.before.before.before.before.before.read-form.auto.1.0, c.before.before.before.before.before.before.before.before.before.before.before.before.before.before.open-form.auto.1.0)
-
-read_form_returns : (t : ℕ) → read-form-lts.Need-returns (read_form_calls t) (read_form_at t) read-form.Post
-read_form_returns t c =
-    let s = c.before.before.before.before.before.before.before.before.before.before.before.before.before.before.before.before.before.before.before.before.before.args in
-    let o = c.before.before.before.before.before.before.before.before.before.before.before.before.before.before.open-form in
-    let fr = c.before.before.before.before.before.before.before.before.before.p.given in
-    let front : Front = fr.0.0 in
-    let r = c.before.before.before.before.before.read-form in
-    let k = c.enum_told.given in (
-      λ a h b bf bp bi.
-          let x = (part_read s.book.now a (readers_at s.book.now a (s.left - 1)) (form_begun b) (arg_at s.book.now a (readers_at s.book.now a s.left) form b s.at) (begun_of s.n) s.cells.now o.new.0 s.values.now o.new.1.0 o.result (o.ensures.0 a h b bf bp bi) front fr.1) in
+pub returns-in_default : goal.returns-in_default
+returns-in_default t c =
+    let s = c.args in
+    let front : Front = c.in-Part.p in
+    record { form_read = λ a h b bf bp bi.
+          let x = (part_read s.book.now a (readers_at s.book.now a (s.left - 1)) (form_begun b) (arg_at s.book.now a (readers_at s.book.now a s.left) form b s.at) (begun_of s.n) s.cells.now c.open_form.new.cells s.values.now c.open_form.new.values c.open_form.result (c.open_form.ensures.open_read a h b bf bp bi) front c.in-Part.is) in
           let b1 = begun_with x.frame (form_begun b) in
           let g = begun_with_lem s.n.paths x.frame front.next front (form_begun b) x.holds bp in
           let g0 : b1.forms ≡ s.n.forms + (s.up + 1) = begun_forms s.n.forms s.up b.forms bf g.0 in
-          let y = r.ensures.0 a h b1 g0 g.1 (g.2 ∙ bi) in
-          form_no k.0.0 (x.rest ∙ child_refused s.book.now a (readers_at s.book.now a (s.left - 1)) b1 front.next x.frame k.0.0 (form_refused k.0.0 y k.1)) k.1,
-      (rw k.1 tt, (r.ensures.1.1.0 ∙ o.ensures.1.1.0, r.ensures.1.1.1 ∙ o.ensures.1.1.1)),
-    )
+          let y = c.read_form-first.ensures.form_read a h b1 g0 g.1 (g.2 ∙ bi) in
+          form_no c.in_default.field-0 (x.rest ∙ child_refused s.book.now a (readers_at s.book.now a (s.left - 1)) b1 front.next x.frame c.in_default.field-0 (form_refused c.in_default.field-0 y c.in_default.is)) c.in_default.is; forms_within = rw c.in_default.is tt; cells_unchanged = c.read_form-first.ensures.cells_unchanged ∙ c.open_form.ensures.cells_unchanged; values_unchanged = c.read_form-first.ensures.values_unchanged ∙ c.open_form.ensures.values_unchanged }
 
-read_form_close_child_requires : (t : ℕ) → read-form-lts.Need-close-child-requires (read_form_calls t) (read_form_at t) read-form.Post
-read_form_close_child_requires t c κs =
-    let s = c.before.before.before.before.before.before.before.before.before.before.before.before.before.before.before.before.before.before.before.before.before.before.before.before.before.args in
-    let p = c.before.before.before.before.before.before.before.before.before.before.before.before.before.before.before.before.before.before.before.before.before.before.before.before.before.requires in
-    let o = c.before.before.before.before.before.before.before.before.before.before.before.before.before.before.before.before.before.before.open-form in
-    let fr = c.before.before.before.before.before.before.before.before.before.before.before.before.before.p.given in
-    let front : Front = fr.0.0 in
-    let r = c.before.before.before.before.before.before.before.before.before.read-form in
-    let f = c.before.before.before.before.first.given in
-    let l : Ended = f.0.0 in
-    let next : ℕ = f.0.1.0 in
-    let w1 = within-is s.n.forms (s.up + 1) (length s.book.now) r.result l next r.ensures.1.0 f.1 in
+pub close_child-requires : goal.close_child-requires
+close_child-requires t c =
+    let s = c.args in
+    let front : Front = c.in-Part.p in
+    let l : Ended = c.in-Is.l in
+    let next : ℕ = c.in-Is.next in
+    let w1 = within-is s.n.forms (s.up + 1) (length s.book.now) c.read_form-first.result l next c.read_form-first.ensures.forms_within c.in-Is.is in
     let u = w1.0 in
     let v = w1.1 in
-    (omega arith, omega arith, omega (arith, r.auto.0, o.auto.0, p.1.2))
+    (omega arith, omega arith, omega (arith, c.read_form-first.auto.cells, c.open_form.auto.cells, c.requires.2))
 
-read_form_same-length_3 : (t : ℕ) → read-form-lts.Need-same-length-3 (read_form_calls t) (read_form_at t) read-form.Post
-read_form_same-length_3 t c =
-    omega (arith, c.before.before.close-child.auto.0, c.before.before.before.before.before.before.before.before.before.before.before.before.read-form.auto.0, c.before.before.before.before.before.before.before.before.before.before.before.before.before.before.before.before.before.before.before.before.before.open-form.auto.0)
+pub shape_of-cells-then-p-gt-FORM_OR : goal.shape_of-cells-then-p-gt-FORM_OR
+shape_of-cells-then-p-gt-FORM_OR t c =
+    omega (arith, c.close_child.auto.cells, c.read_form-first.auto.cells, c.open_form.auto.cells)
 
-read_form_same-length_4 : (t : ℕ) → read-form-lts.Need-same-length-4 (read_form_calls t) (read_form_at t) read-form.Post
-read_form_same-length_4 t c =
-    omega (arith, c.before.before.before.before.before.before.before.before.before.before.before.before.read-form.auto.1.0, c.before.before.before.before.before.before.before.before.before.before.before.before.before.before.before.before.before.before.before.before.before.open-form.auto.1.0)
+pub shape_of-values-then-p-gt-FORM_OR : goal.shape_of-values-then-p-gt-FORM_OR
+shape_of-values-then-p-gt-FORM_OR t c =
+    omega (arith, c.read_form-first.auto.values, c.open_form.auto.values)
 
-read_form_returns_2 : (t : ℕ) → read-form-lts.Need-returns-2 (read_form_calls t) (read_form_at t) read-form.Post
-read_form_returns_2 t c =
-    let s = c.before.before.before.before.before.before.before.before.before.before.before.before.before.before.before.before.before.before.before.before.before.before.before.before.before.before.before.before.args in
-    let o = c.before.before.before.before.before.before.before.before.before.before.before.before.before.before.before.before.before.before.before.before.before.open-form in
-    let fr = c.before.before.before.before.before.before.before.before.before.before.before.before.before.before.before.before.p.given in
-    let front : Front = fr.0.0 in
-    let r = c.before.before.before.before.before.before.before.before.before.before.before.before.read-form in
-    let f = c.before.before.before.before.before.before.before.first.given in
-    let l : Ended = f.0.0 in
-    let next : ℕ = f.0.1.0 in
-    let w1 = within-is s.n.forms (s.up + 1) (length s.book.now) r.result l next r.ensures.1.0 f.1 in
-    let q = c.before.before.close-child in
-    let h1 : 4 < front.code = c.before.before.before.before.if1.true in
+pub returns-then-p-gt-FORM_OR : goal.returns-then-p-gt-FORM_OR
+returns-then-p-gt-FORM_OR t c =
+    let s = c.args in
+    let front : Front = c.in-Part.p in
+    let l : Ended = c.in-Is.l in
+    let next : ℕ = c.in-Is.next in
+    let w1 = within-is s.n.forms (s.up + 1) (length s.book.now) c.read_form-first.result l next c.read_form-first.ensures.forms_within c.in-Is.is in
+    let h1 : 4 < front.code = c.if-p-gt-FORM_OR.true in
     let u = w1.0 in
-    let v = w1.1 in (
-      λ a h b bf bp bi.
-          let x = (part_read s.book.now a (readers_at s.book.now a (s.left - 1)) (form_begun b) (arg_at s.book.now a (readers_at s.book.now a s.left) form b s.at) (begun_of s.n) s.cells.now o.new.0 s.values.now o.new.1.0 o.result (o.ensures.0 a h b bf bp bi) front fr.1) in
+    let v = w1.1 in record { form_read = λ a h b bf bp bi.
+          let x = (part_read s.book.now a (readers_at s.book.now a (s.left - 1)) (form_begun b) (arg_at s.book.now a (readers_at s.book.now a s.left) form b s.at) (begun_of s.n) s.cells.now c.open_form.new.cells s.values.now c.open_form.new.values c.open_form.result (c.open_form.ensures.open_read a h b bf bp bi) front c.in-Part.is) in
           let b1 = begun_with x.frame (form_begun b) in
           let g = begun_with_lem s.n.paths x.frame front.next front (form_begun b) x.holds bp in
           let g0 : b1.forms ≡ s.n.forms + (s.up + 1) = begun_forms s.n.forms s.up b.forms bf g.0 in
-          let y = r.ensures.0 a h b1 g0 g.1 (g.2 ∙ bi) in
-          let z = form_got l next y f.1 in
+          let y = c.read_form-first.ensures.form_read a h b1 g0 g.1 (g.2 ∙ bi) in
+          let z = form_got l next y c.in-Is.is in
           form_is_lem (x.rest ∙ one-rest s.book.now a (readers_at s.book.now a (s.left - 1)) b1 front.next z.tree next z.is x.frame (subst (λ (j : ℕ). 4 < j) (front-code s.n.paths x.frame front.next front x.holds) h1))
-          (closed_form_lem s.book.now next l a (put_child front l.forms r.new.0) r.new.0 (one_closes s.n s.cells.now s.values.now z.tree x.frame front.next front x.holds o.new.0 o.new.1.0 x.cells x.values l r.new.0 r.new.1.0 z.ended z.cells z.values h1) q.ensures.0 q.ensures.1.0),
-      (rw q.ensures.0 (closed-within s.book.now next l s.n.forms s.up (omega arith) (omega arith) w1.2 w1.3), (q.ensures.1.1 ∙ (r.ensures.1.1.0 ∙ o.ensures.1.1.0), r.ensures.1.1.1 ∙ o.ensures.1.1.1)),
-    )
+          (closed_form_lem s.book.now next l a (put_child front l.forms c.read_form-first.new.cells) c.read_form-first.new.cells (one_closes s.n s.cells.now s.values.now z.tree x.frame front.next front x.holds c.open_form.new.cells c.open_form.new.values x.cells x.values l c.read_form-first.new.cells c.read_form-first.new.values z.ended z.cells z.values h1) c.close_child.ensures.value c.close_child.ensures.new_cells); forms_within = rw c.close_child.ensures.value (closed-within s.book.now next l s.n.forms s.up (omega arith) (omega arith) w1.2 w1.3); cells_unchanged = c.close_child.ensures.cells_unchanged ∙ (c.read_form-first.ensures.cells_unchanged ∙ c.open_form.ensures.cells_unchanged); values_unchanged = c.read_form-first.ensures.values_unchanged ∙ c.open_form.ensures.values_unchanged }
 
-read_form_read_form_requires_2 : (t : ℕ) → read-form-lts.Need-read-form-requires-2 (read_form_calls t) (read_form_at t) read-form.Post
-read_form_read_form_requires_2 t c κs =
-    let s = c.before.before.before.before.before.before.before.before.before.before.before.before.before.before.before.before.before.before.before.before.before.before.before.before.before.before.args in
-    let p = c.before.before.before.before.before.before.before.before.before.before.before.before.before.before.before.before.before.before.before.before.before.before.before.before.before.before.requires in
-    let o = c.before.before.before.before.before.before.before.before.before.before.before.before.before.before.before.before.before.before.before.open-form in
-    let fr = c.before.before.before.before.before.before.before.before.before.before.before.before.before.before.p.given in
-    let front : Front = fr.0.0 in
-    let w = part-within s.left s.up (length s.book.now) s.n o.result o.ensures.1.0 front fr.1 in
-    let r = c.before.before.before.before.before.before.before.before.before.before.read-form in
-    let f = c.before.before.before.before.before.first.given in
-    let l : Ended = f.0.0 in
-    let next : ℕ = f.0.1.0 in
-    let w1 = within-is s.n.forms (s.up + 1) (length s.book.now) r.result l next r.ensures.1.0 f.1 in
-    let m = p.0 in
+pub read_form-second-requires : goal.read_form-second-requires
+read_form-second-requires t c =
+    let s = c.args in
+    let front : Front = c.in-Part.p in
+    let w = part-within s.left s.up (length s.book.now) s.n c.open_form.result c.open_form.ensures.opened front c.in-Part.is in
+    let l : Ended = c.in-Is.l in
+    let next : ℕ = c.in-Is.next in
+    let w1 = within-is s.n.forms (s.up + 1) (length s.book.now) c.read_form-first.result l next c.read_form-first.ensures.forms_within c.in-Is.is in
+    let m = c.decreases in
     let u = w.0 in
-    (omega arith, (w1.4, p.1.1, omega (arith, r.auto.0, o.auto.0, p.1.2), omega (arith, r.auto.1.0, o.auto.1.0, p.1.3), w1.1, w1.2, w1.3, p.1.7, p.1.8))
+    (omega arith, (w1.4, c.requires.1, omega (arith, c.read_form-first.auto.cells, c.open_form.auto.cells, c.requires.2), omega (arith, c.read_form-first.auto.values, c.open_form.auto.values, c.requires.3), w1.1, w1.2, w1.3, c.requires.7, c.requires.8))
 
-read_form_enum_known-second : (t : ℕ) → read-form-lts.Need-enum-known-second (read_form_calls t) (read_form_at t) read-form.Post
-read_form_enum_known-second t c =
-    search rules
+pub shape_of-cells-in_default-second : goal.shape_of-cells-in_default-second
+shape_of-cells-in_default-second t c =
+    omega (arith, c.read_form-second.auto.cells, c.read_form-first.auto.cells, c.open_form.auto.cells)
 
-read_form_enum_told_2 : (t : ℕ) → read-form-lts.Need-enum-told-2 (read_form_calls t) (read_form_at t) read-form.Post
-read_form_enum_told_2 t c =
-    search rules
+pub shape_of-values-in_default-second : goal.shape_of-values-in_default-second
+shape_of-values-in_default-second t c =
+    omega (arith, c.read_form-second.auto.values, c.read_form-first.auto.values, c.open_form.auto.values)
 
-read_form_same-length_5 : (t : ℕ) → read-form-lts.Need-same-length-5 (read_form_calls t) (read_form_at t) read-form.Post
-read_form_same-length_5 t c =
-    omega (arith, c.before.before.before.before.before.read-form2.auto.0, c.before.before.before.before.before.before.before.before.before.before.before.before.before.before.before.before.read-form.auto.0, c.before.before.before.before.before.before.before.before.before.before.before.before.before.before.before.before.before.before.before.before.before.before.before.before.before.open-form.auto.0)
-
-read_form_same-length_6 : (t : ℕ) → read-form-lts.Need-same-length-6 (read_form_calls t) (read_form_at t) read-form.Post
-read_form_same-length_6 t c =
-    omega (arith, c.before.before.before.before.before.read-form2.auto.1.0, c.before.before.before.before.before.before.before.before.before.before.before.before.before.before.before.before.read-form.auto.1.0, c.before.before.before.before.before.before.before.before.before.before.before.before.before.before.before.before.before.before.before.before.before.before.before.before.before.open-form.auto.1.0)
-
-read_form_returns_3 : (t : ℕ) → read-form-lts.Need-returns-3 (read_form_calls t) (read_form_at t) read-form.Post
-read_form_returns_3 t c =
-    let s = c.before.before.before.before.before.before.before.before.before.before.before.before.before.before.before.before.before.before.before.before.before.before.before.before.before.before.before.before.before.before.before.before.args in
-    let o = c.before.before.before.before.before.before.before.before.before.before.before.before.before.before.before.before.before.before.before.before.before.before.before.before.before.open-form in
-    let fr = c.before.before.before.before.before.before.before.before.before.before.before.before.before.before.before.before.before.before.before.before.p.given in
-    let front : Front = fr.0.0 in
-    let r = c.before.before.before.before.before.before.before.before.before.before.before.before.before.before.before.before.read-form in
-    let f = c.before.before.before.before.before.before.before.before.before.before.before.first.given in
-    let l : Ended = f.0.0 in
-    let next : ℕ = f.0.1.0 in
-    let r2 = c.before.before.before.before.before.read-form2 in
-    let k = c.enum-told2.given in
-    let h1 : front.code ≤ 4 = c.before.before.before.before.before.before.before.before.if1.false in (
-      λ a h b bf bp bi.
-          let x = (part_read s.book.now a (readers_at s.book.now a (s.left - 1)) (form_begun b) (arg_at s.book.now a (readers_at s.book.now a s.left) form b s.at) (begun_of s.n) s.cells.now o.new.0 s.values.now o.new.1.0 o.result (o.ensures.0 a h b bf bp bi) front fr.1) in
+pub returns-in_default-second : goal.returns-in_default-second
+returns-in_default-second t c =
+    let s = c.args in
+    let front : Front = c.in-Part.p in
+    let l : Ended = c.in-Is.l in
+    let next : ℕ = c.in-Is.next in
+    let h1 : front.code ≤ 4 = c.if-p-gt-FORM_OR.false in record { form_read = λ a h b bf bp bi.
+          let x = (part_read s.book.now a (readers_at s.book.now a (s.left - 1)) (form_begun b) (arg_at s.book.now a (readers_at s.book.now a s.left) form b s.at) (begun_of s.n) s.cells.now c.open_form.new.cells s.values.now c.open_form.new.values c.open_form.result (c.open_form.ensures.open_read a h b bf bp bi) front c.in-Part.is) in
           let b1 = begun_with x.frame (form_begun b) in
           let g = begun_with_lem s.n.paths x.frame front.next front (form_begun b) x.holds bp in
           let g0 : b1.forms ≡ s.n.forms + (s.up + 1) = begun_forms s.n.forms s.up b.forms bf g.0 in
-          let y = r.ensures.0 a h b1 g0 g.1 (g.2 ∙ bi) in
-          let z = form_got l next y f.1 in
+          let y = c.read_form-first.ensures.form_read a h b1 g0 g.1 (g.2 ∙ bi) in
+          let z = form_got l next y c.in-Is.is in
           let d = begun_after b1 (record { forms = s.n.forms; paths = front.paths; items = s.n.items }) l (s.up + 1) z.tree g0 g.1 (g.2 ∙ bi) z.ended in
-          let y2 = r2.ensures.0 a h (after form z.tree b1) d.0 d.1 d.2 in
-          form_no k.0.0 (x.rest ∙ second_refused s.book.now a (readers_at s.book.now a (s.left - 1)) b1 front.next z.tree next z.is x.frame k.0.0 (subst (λ (j : ℕ). j ≤ 4) (front-code s.n.paths x.frame front.next front x.holds) h1) (form_refused k.0.0 y2 k.1)) k.1,
-      (rw k.1 tt, (r2.ensures.1.1.0 ∙ (r.ensures.1.1.0 ∙ o.ensures.1.1.0), r2.ensures.1.1.1 ∙ (r.ensures.1.1.1 ∙ o.ensures.1.1.1))),
-    )
+          let y2 = c.read_form-second.ensures.form_read a h (after form z.tree b1) d.0 d.1 d.2 in
+          form_no c.in_default-second.field-0 (x.rest ∙ second_refused s.book.now a (readers_at s.book.now a (s.left - 1)) b1 front.next z.tree next z.is x.frame c.in_default-second.field-0 (subst (λ (j : ℕ). j ≤ 4) (front-code s.n.paths x.frame front.next front x.holds) h1) (form_refused c.in_default-second.field-0 y2 c.in_default-second.is)) c.in_default-second.is; forms_within = rw c.in_default-second.is tt; cells_unchanged = c.read_form-second.ensures.cells_unchanged ∙ (c.read_form-first.ensures.cells_unchanged ∙ c.open_form.ensures.cells_unchanged); values_unchanged = c.read_form-second.ensures.values_unchanged ∙ (c.read_form-first.ensures.values_unchanged ∙ c.open_form.ensures.values_unchanged) }
 
-read_form_sub_close_form : (t : ℕ) → read-form-lts.Need-overflow-sub-close-form (read_form_calls t) (read_form_at t) read-form.Post
-read_form_sub_close_form t c =
-    let s = c.before.before.before.before.before.before.before.before.before.before.before.before.before.before.before.before.before.before.before.before.before.before.before.before.before.before.before.before.before.before.before.before.before.before.before.args in
-    let r = c.before.before.before.before.before.before.before.before.before.before.before.before.before.before.before.before.before.before.before.read-form in
-    let f = c.before.before.before.before.before.before.before.before.before.before.before.before.before.before.first.given in
-    let l : Ended = f.0.0 in
-    let next : ℕ = f.0.1.0 in
-    let w1 = within-is s.n.forms (s.up + 1) (length s.book.now) r.result l next r.ensures.1.0 f.1 in
+pub overflow_sub-l : goal.overflow_sub-l
+overflow_sub-l t c =
+    let s = c.args in
+    let l : Ended = c.in-Is.l in
+    let next : ℕ = c.in-Is.next in
+    let w1 = within-is s.n.forms (s.up + 1) (length s.book.now) c.read_form-first.result l next c.read_form-first.ensures.forms_within c.in-Is.is in
     let u = w1.0 in
     omega arith
 
-read_form_cast_close_form : (t : ℕ) → read-form-lts.Need-overflow-cast-close-form (read_form_calls t) (read_form_at t) read-form.Post
-read_form_cast_close_form t c =
-    let s = c.before.before.before.before.before.before.before.before.before.before.before.before.before.before.before.before.before.before.before.before.before.before.before.before.before.before.before.before.before.before.before.before.before.before.before.args in
-    let r = c.before.before.before.before.before.before.before.before.before.before.before.before.before.before.before.before.before.before.before.read-form in
-    let f = c.before.before.before.before.before.before.before.before.before.before.before.before.before.before.first.given in
-    let l : Ended = f.0.0 in
-    let next : ℕ = f.0.1.0 in
-    let w1 = within-is s.n.forms (s.up + 1) (length s.book.now) r.result l next r.ensures.1.0 f.1 in
+pub overflow_cast-l : goal.overflow_cast-l
+overflow_cast-l t c =
+    let s = c.args in
+    let l : Ended = c.in-Is.l in
+    let next : ℕ = c.in-Is.next in
+    let w1 = within-is s.n.forms (s.up + 1) (length s.book.now) c.read_form-first.result l next c.read_form-first.ensures.forms_within c.in-Is.is in
     let u = w1.1 in
     omega arith
 
-read_form_sub_close_form_2 : (t : ℕ) → read-form-lts.Need-overflow-sub-close-form-2 (read_form_calls t) (read_form_at t) read-form.Post
-read_form_sub_close_form_2 t c =
-    let s = c.before.before.before.before.before.before.before.before.before.before.before.before.before.before.before.before.before.before.before.before.before.before.before.before.before.before.before.before.before.before.before.before.before.before.before.before.args in
-    let r = c.before.before.before.before.before.before.before.before.before.before.before.before.before.before.before.before.before.before.before.before.read-form in
-    let f = c.before.before.before.before.before.before.before.before.before.before.before.before.before.before.before.first.given in
-    let l : Ended = f.0.0 in
-    let next : ℕ = f.0.1.0 in
-    let r2 = c.before.before.before.before.before.before.before.before.before.read-form2 in
-    let f2 = c.before.before.before.before.second.given in
-    let k : Ended = f2.0.0 in
-    let last : ℕ = f2.0.1.0 in
-    let w2 = within-is l.forms (s.up + 1) (length s.book.now) r2.result k last r2.ensures.1.0 f2.1 in
+pub overflow_sub-k : goal.overflow_sub-k
+overflow_sub-k t c =
+    let s = c.args in
+    let r = c.read_form-first in
+    let l : Ended = c.in-Is.l in
+    let next : ℕ = c.in-Is.next in
+    let k : Ended = c.in-Is-second.k in
+    let last : ℕ = c.in-Is-second.last in
+    let w2 = within-is l.forms (s.up + 1) (length s.book.now) c.read_form-second.result k last c.read_form-second.ensures.forms_within c.in-Is-second.is in
     let u = w2.0 in
     omega arith
 
-read_form_cast_close_form_2 : (t : ℕ) → read-form-lts.Need-overflow-cast-close-form-2 (read_form_calls t) (read_form_at t) read-form.Post
-read_form_cast_close_form_2 t c =
-    let s = c.before.before.before.before.before.before.before.before.before.before.before.before.before.before.before.before.before.before.before.before.before.before.before.before.before.before.before.before.before.before.before.before.before.before.before.before.args in
-    let r = c.before.before.before.before.before.before.before.before.before.before.before.before.before.before.before.before.before.before.before.before.read-form in
-    let f = c.before.before.before.before.before.before.before.before.before.before.before.before.before.before.before.first.given in
-    let l : Ended = f.0.0 in
-    let next : ℕ = f.0.1.0 in
-    let r2 = c.before.before.before.before.before.before.before.before.before.read-form2 in
-    let f2 = c.before.before.before.before.second.given in
-    let k : Ended = f2.0.0 in
-    let last : ℕ = f2.0.1.0 in
-    let w2 = within-is l.forms (s.up + 1) (length s.book.now) r2.result k last r2.ensures.1.0 f2.1 in
+pub overflow_cast-k : goal.overflow_cast-k
+overflow_cast-k t c =
+    let s = c.args in
+    let r = c.read_form-first in
+    let l : Ended = c.in-Is.l in
+    let next : ℕ = c.in-Is.next in
+    let k : Ended = c.in-Is-second.k in
+    let last : ℕ = c.in-Is-second.last in
+    let w2 = within-is l.forms (s.up + 1) (length s.book.now) c.read_form-second.result k last c.read_form-second.ensures.forms_within c.in-Is-second.is in
     let u = w2.1 in
     omega arith
 
-read_form_close_form_requires : (t : ℕ) → read-form-lts.Need-close-form-requires (read_form_calls t) (read_form_at t) read-form.Post
-read_form_close_form_requires t c κs =
-    let s = c.before.before.before.before.before.before.before.before.before.before.before.before.before.before.before.before.before.before.before.before.before.before.before.before.before.before.before.before.before.before.before.before.before.before.before.before.args in
-    let p = c.before.before.before.before.before.before.before.before.before.before.before.before.before.before.before.before.before.before.before.before.before.before.before.before.before.before.before.before.before.before.before.before.before.before.before.before.requires in
-    let o = c.before.before.before.before.before.before.before.before.before.before.before.before.before.before.before.before.before.before.before.before.before.before.before.before.before.before.before.before.before.open-form in
-    let r = c.before.before.before.before.before.before.before.before.before.before.before.before.before.before.before.before.before.before.before.before.read-form in
-    let f = c.before.before.before.before.before.before.before.before.before.before.before.before.before.before.before.first.given in
-    let l : Ended = f.0.0 in
-    let next : ℕ = f.0.1.0 in
-    let r2 = c.before.before.before.before.before.before.before.before.before.read-form2 in
-    let f2 = c.before.before.before.before.second.given in
-    let k : Ended = f2.0.0 in
-    let last : ℕ = f2.0.1.0 in
-    let w2 = within-is l.forms (s.up + 1) (length s.book.now) r2.result k last r2.ensures.1.0 f2.1 in
+pub close_form-requires : goal.close_form-requires
+close_form-requires t c =
+    let s = c.args in
+    let l : Ended = c.in-Is.l in
+    let next : ℕ = c.in-Is.next in
+    let k : Ended = c.in-Is-second.k in
+    let last : ℕ = c.in-Is-second.last in
+    let w2 = within-is l.forms (s.up + 1) (length s.book.now) c.read_form-second.result k last c.read_form-second.ensures.forms_within c.in-Is-second.is in
     let u = w2.1 in
-    (omega arith, omega (arith, r2.auto.0, r.auto.0, o.auto.0, p.1.2))
+    (omega arith, omega (arith, c.read_form-second.auto.cells, c.read_form-first.auto.cells, c.open_form.auto.cells, c.requires.2))
 
-read_form_same-length_7 : (t : ℕ) → read-form-lts.Need-same-length-7 (read_form_calls t) (read_form_at t) read-form.Post
-read_form_same-length_7 t c =
-    omega (arith, c.before.before.before.before.before.before.open-form.auto.0)
+pub shape_of-cells-in-Whole : goal.shape_of-cells-in-Whole
+shape_of-cells-in-Whole t c =
+    omega (arith, c.open_form.auto.cells)
 
-read_form_same-length_8 : (t : ℕ) → read-form-lts.Need-same-length-8 (read_form_calls t) (read_form_at t) read-form.Post
-read_form_same-length_8 t c =
-    omega (arith, c.before.before.before.before.before.before.open-form.auto.1.0)
+pub shape_of-values-in-Whole : goal.shape_of-values-in-Whole
+shape_of-values-in-Whole t c =
+    omega (arith, c.open_form.auto.values)
 
-read_form_returns_4 : (t : ℕ) → read-form-lts.Need-returns-4 (read_form_calls t) (read_form_at t) read-form.Post
-read_form_returns_4 t c =
-    let s = c.before.before.before.before.before.before.before.before.before.before.before.before.before.args in
-    let o = c.before.before.before.before.before.before.open-form in
-    let j = c.before.form.given in (
-      λ a h b bf bp bi. whole_read s.book.now a (readers_at s.book.now a (s.left - 1)) (form_begun b) (arg_at s.book.now a (readers_at s.book.now a s.left) form b s.at) (begun_of s.n) s.cells.now o.new.0 s.values.now o.new.1.0 o.result (o.ensures.0 a h b bf bp bi) j.0.0 j.1,
-      (whole-within s.left s.up (length s.book.now) s.n o.result o.ensures.1.0 j.0.0 j.1, (o.ensures.1.1.0, o.ensures.1.1.1)),
-    )
+pub returns-in-Whole : goal.returns-in-Whole
+returns-in-Whole t c =
+    let s = c.args in
+    record { form_read = λ a h b bf bp bi. whole_read s.book.now a (readers_at s.book.now a (s.left - 1)) (form_begun b) (arg_at s.book.now a (readers_at s.book.now a s.left) form b s.at) (begun_of s.n) s.cells.now c.open_form.new.cells s.values.now c.open_form.new.values c.open_form.result (c.open_form.ensures.open_read a h b bf bp bi) c.in-Whole.form c.in-Whole.is; forms_within = whole-within s.left s.up (length s.book.now) s.n c.open_form.result c.open_form.ensures.opened c.in-Whole.form c.in-Whole.is; cells_unchanged = c.open_form.ensures.cells_unchanged; values_unchanged = c.open_form.ensures.values_unchanged }
 
-read_form_same-length_9 : (t : ℕ) → read-form-lts.Need-same-length-9 (read_form_calls t) (read_form_at t) read-form.Post
-read_form_same-length_9 t c =
-    omega (arith, c.before.before.close-form.auto.0, c.before.before.before.before.before.before.before.before.before.before.before.before.read-form2.auto.0, c.before.before.before.before.before.before.before.before.before.before.before.before.before.before.before.before.before.before.before.before.before.before.before.read-form.auto.0, c.before.before.before.before.before.before.before.before.before.before.before.before.before.before.before.before.before.before.before.before.before.before.before.before.before.before.before.before.before.before.before.before.open-form.auto.0)
+pub shape_of-cells-in-Is-second : goal.shape_of-cells-in-Is-second
+shape_of-cells-in-Is-second t c =
+    omega (arith, c.close_form.auto.cells, c.read_form-second.auto.cells, c.read_form-first.auto.cells, c.open_form.auto.cells)
 
-read_form_same-length_10 : (t : ℕ) → read-form-lts.Need-same-length-10 (read_form_calls t) (read_form_at t) read-form.Post
-read_form_same-length_10 t c =
-    omega (arith, c.before.before.before.before.before.before.before.before.before.before.before.before.read-form2.auto.1.0, c.before.before.before.before.before.before.before.before.before.before.before.before.before.before.before.before.before.before.before.before.before.before.before.read-form.auto.1.0, c.before.before.before.before.before.before.before.before.before.before.before.before.before.before.before.before.before.before.before.before.before.before.before.before.before.before.before.before.before.before.before.before.open-form.auto.1.0)
+pub shape_of-values-in-Is-second : goal.shape_of-values-in-Is-second
+shape_of-values-in-Is-second t c =
+    omega (arith, c.read_form-second.auto.values, c.read_form-first.auto.values, c.open_form.auto.values)
 
-read_form_returns_5 : (t : ℕ) → read-form-lts.Need-returns-5 (read_form_calls t) (read_form_at t) read-form.Post
-read_form_returns_5 t c =
-    let s = c.before.before.before.before.before.before.before.before.before.before.before.before.before.before.before.before.before.before.before.before.before.before.before.before.before.before.before.before.before.before.before.before.before.before.before.before.before.before.before.args in
-    let o = c.before.before.before.before.before.before.before.before.before.before.before.before.before.before.before.before.before.before.before.before.before.before.before.before.before.before.before.before.before.before.before.before.open-form in
-    let fr = c.before.before.before.before.before.before.before.before.before.before.before.before.before.before.before.before.before.before.before.before.before.before.before.before.before.before.before.p.given in
-    let front : Front = fr.0.0 in
-    let r = c.before.before.before.before.before.before.before.before.before.before.before.before.before.before.before.before.before.before.before.before.before.before.before.read-form in
-    let f = c.before.before.before.before.before.before.before.before.before.before.before.before.before.before.before.before.before.before.first.given in
-    let l : Ended = f.0.0 in
-    let next : ℕ = f.0.1.0 in
-    let w1 = within-is s.n.forms (s.up + 1) (length s.book.now) r.result l next r.ensures.1.0 f.1 in
-    let r2 = c.before.before.before.before.before.before.before.before.before.before.before.before.read-form2 in
-    let f2 = c.before.before.before.before.before.before.before.second.given in
-    let k : Ended = f2.0.0 in
-    let last : ℕ = f2.0.1.0 in
-    let w2 = within-is l.forms (s.up + 1) (length s.book.now) r2.result k last r2.ensures.1.0 f2.1 in
-    let q = c.before.before.close-form in
-    let h1 : front.code ≤ 4 = c.before.before.before.before.before.before.before.before.before.before.before.before.before.before.before.if1.false in
+pub returns-in-Is-second : goal.returns-in-Is-second
+returns-in-Is-second t c =
+    let s = c.args in
+    let front : Front = c.in-Part.p in
+    let l : Ended = c.in-Is.l in
+    let next : ℕ = c.in-Is.next in
+    let w1 = within-is s.n.forms (s.up + 1) (length s.book.now) c.read_form-first.result l next c.read_form-first.ensures.forms_within c.in-Is.is in
+    let k : Ended = c.in-Is-second.k in
+    let last : ℕ = c.in-Is-second.last in
+    let w2 = within-is l.forms (s.up + 1) (length s.book.now) c.read_form-second.result k last c.read_form-second.ensures.forms_within c.in-Is-second.is in
+    let h1 : front.code ≤ 4 = c.if-p-gt-FORM_OR.false in
     let u = w1.0 in
     let v = w2.0 in
-    let t' = w2.1 in (
-      λ a h b bf bp bi.
-          let x = (part_read s.book.now a (readers_at s.book.now a (s.left - 1)) (form_begun b) (arg_at s.book.now a (readers_at s.book.now a s.left) form b s.at) (begun_of s.n) s.cells.now o.new.0 s.values.now o.new.1.0 o.result (o.ensures.0 a h b bf bp bi) front fr.1) in
+    let t' = w2.1 in record { form_read = λ a h b bf bp bi.
+          let x = (part_read s.book.now a (readers_at s.book.now a (s.left - 1)) (form_begun b) (arg_at s.book.now a (readers_at s.book.now a s.left) form b s.at) (begun_of s.n) s.cells.now c.open_form.new.cells s.values.now c.open_form.new.values c.open_form.result (c.open_form.ensures.open_read a h b bf bp bi) front c.in-Part.is) in
           let b1 = begun_with x.frame (form_begun b) in
           let g = begun_with_lem s.n.paths x.frame front.next front (form_begun b) x.holds bp in
           let g0 : b1.forms ≡ s.n.forms + (s.up + 1) = begun_forms s.n.forms s.up b.forms bf g.0 in
-          let y = r.ensures.0 a h b1 g0 g.1 (g.2 ∙ bi) in
-          let z = form_got l next y f.1 in
+          let y = c.read_form-first.ensures.form_read a h b1 g0 g.1 (g.2 ∙ bi) in
+          let z = form_got l next y c.in-Is.is in
           let d = begun_after b1 (record { forms = s.n.forms; paths = front.paths; items = s.n.items }) l (s.up + 1) z.tree g0 g.1 (g.2 ∙ bi) z.ended in
-          let y2 = r2.ensures.0 a h (after form z.tree b1) d.0 d.1 d.2 in
-          let z2 = form_got k last y2 f2.1 in
+          let y2 = c.read_form-second.ensures.form_read a h (after form z.tree b1) d.0 d.1 d.2 in
+          let z2 = form_got k last y2 c.in-Is-second.is in
           form_is_lem (x.rest ∙ two-rest s.book.now a (readers_at s.book.now a (s.left - 1)) b1 front.next z.tree next z.is x.frame z2.tree last (subst (λ (j : ℕ). j ≤ 4) (front-code s.n.paths x.frame front.next front x.holds) h1) z2.is)
-          (closed_form_lem s.book.now last k a (put_form k.forms front.code (l.forms - 1) (k.forms - 1) 0 0 r2.new.0) r2.new.0 (two_closes s.n s.cells.now s.values.now z.tree x.frame front.next front x.holds o.new.0 o.new.1.0 x.cells x.values l r.new.0 r.new.1.0 z.ended z.cells z.values h1 z2.tree k r2.new.0 r2.new.1.0 z2.ended z2.cells z2.values) q.ensures.0 q.ensures.1.0),
-      (rw q.ensures.0 (closed-within s.book.now last k s.n.forms s.up (omega arith) (omega arith) w2.2 w2.3), (q.ensures.1.1 ∙ (r2.ensures.1.1.0 ∙ (r.ensures.1.1.0 ∙ o.ensures.1.1.0)), r2.ensures.1.1.1 ∙ (r.ensures.1.1.1 ∙ o.ensures.1.1.1))),
-    )
+          (closed_form_lem s.book.now last k a (put_form k.forms front.code (l.forms - 1) (k.forms - 1) 0 0 c.read_form-second.new.cells) c.read_form-second.new.cells (two_closes s.n s.cells.now s.values.now z.tree x.frame front.next front x.holds c.open_form.new.cells c.open_form.new.values x.cells x.values l c.read_form-first.new.cells c.read_form-first.new.values z.ended z.cells z.values h1 z2.tree k c.read_form-second.new.cells c.read_form-second.new.values z2.ended z2.cells z2.values) c.close_form.ensures.value c.close_form.ensures.new_cells); forms_within = rw c.close_form.ensures.value (closed-within s.book.now last k s.n.forms s.up (omega arith) (omega arith) w2.2 w2.3); cells_unchanged = c.close_form.ensures.cells_unchanged ∙ (c.read_form-second.ensures.cells_unchanged ∙ (c.read_form-first.ensures.cells_unchanged ∙ c.open_form.ensures.cells_unchanged)); values_unchanged = c.read_form-second.ensures.values_unchanged ∙ (c.read_form-first.ensures.values_unchanged ∙ c.open_form.ensures.values_unchanged) }

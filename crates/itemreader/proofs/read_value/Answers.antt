@@ -1,4 +1,5 @@
 use Prim.Native.Nat.{◌+◌}
+use mir.Syntax.{w64}
 use mir.Facts.{to_z-of_z}
 use lib.IntN.{ℤ}
 use Rattle.itemreader.specs.declared.Value.{Value}
@@ -39,4 +40,4 @@ returns-in-Value c =
     let s = c.args in
     let end = c.item_end-end in
     let z = sym c.byte.ensures ∙ c.if-byte-ne32.false in
-    record { value = λ a R b. rw (eq-eqb _ 32 z, value-is s.book.now a (s.at + 1) end.result end.ensures c.in-Value.x (sym c.number_at.ensures ∙ c.in-Value.is)) (ap (λ (v : ℤ). Value.Is v end.result) (to_z-of_z (record { sfits = c.in-Value.known_told-1-own.given.0.1 }))); inside = (item-within s.book.now s.at end.result 31 z end.ensures).1 }
+    record { value = λ a R b. rw (eq-eqb _ 32 z, value-is s.book.now a (s.at + 1) end.result end.ensures c.in-Value.x (sym c.number_at.ensures ∙ c.in-Value.is)) (ap (λ (v : ℤ). Value.Is v end.result) (to_z-of_z {w = w64} (record { sfits = c.in-Value.known_told-1-own.given.0.1 }))); inside = (item-within s.book.now s.at end.result 31 z end.ensures).1 }

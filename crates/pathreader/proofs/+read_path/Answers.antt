@@ -1,4 +1,3 @@
-use borrow.Author.Rules.{rules}
 use Prim.Native.Nat.{◌+◌, ◌-◌, ℕ, ◌<◌}
 use mathlib.Core.Path.{refl, sym, ◌∙◌}
 use mathlib.Core.List.{List}
@@ -12,265 +11,163 @@ use Rattle.grammar.specs.Reading.{path_begun, after, readers_at}
 use Rattle.stores.specs.Entries.{put_path}
 use Rattle.itemreader.proofs.Heads.{headed-word}
 use Rattle.pathreader.proofs.Paths.{done_no, done_is, path_got, done_refused, path_unspaced, path_bare, path_head_refused, path_word_lem, one_path, two_paths, body_refused, body_one, body_second_refused, body_joined, begun_first, begun_second, one-count, one-stored, joined_count, joined_stored, closed_read, closed-grown, grown-is}
-use borrow.Fn.Kinds.{In}
-use borrow.Fn.PlainCycle.{Measures, is, falls, and}
-use Rattle.pathreader.proofs.read_path.Reads as read-path
-use Rattle.pathreader.proofs.read_path.Kinds as read-path-kinds
-use Rattle.pathreader.proofs.+read_path.Lts-read_path as read-path-lts
-use Rattle.itemreader.proofs.path_head.Reads as path-head-reads
-use Rattle.pathreader.proofs.close_path.Reads as close-path-reads
-use Rattle.pathreader.proofs.read_link.Reads as read-link-reads
-use Rattle.text.proofs.byte.Reads as byte-Reads
+use borrow.Fn.PlainCycle.{is}
 use Rattle.pathreader.proofs.+read_path.Goals as goal
 
-abbrev μ_read_path : Measures 4 read-path-kinds.ps ℕ
-μ_read_path κs a = a.1.1.1.1.1.1.0
+pub returns-then-byte-ne32 : goal.returns-then-byte-ne32
+returns-then-byte-ne32 t c =
+    let s = c.args in
+    record { path_read = λ a h b q. done_no 2 (path_unspaced s.book.now a b s.at (s.n + s.up) q s.left (λ e. c.if-byte-ne32.true (c.byte.ensures ∙ e))) refl; grown = tt; cells_unchanged = refl }
 
-abbrev read_path_at : ℕ → In 4 read-path-kinds.ps
-read_path_at t = and 4 read-path-kinds.ps (is 4 read-path-kinds.ps μ_read_path t) read-path.Pre
-
-abbrev read_path_below : ℕ → In 4 read-path-kinds.ps
-read_path_below t =
-    and 4 read-path-kinds.ps (falls 4 read-path-kinds.ps ◌<◌ μ_read_path t) read-path.Pre
-
-abbrev read_path_calls : ℕ → read-path-lts.Claims
-read_path_calls t = (byte-Reads.Asked, byte-Reads.Learnt, path-head-reads.Asked, path-head-reads.Learnt, read-link-reads.Asked, read-link-reads.Learnt, read_path_below t, read-path.Post, close-path-reads.Asked, close-path-reads.Learnt)
-
-read_path_byte_requires : (t : ℕ) → read-path-lts.Need-byte-requires (read_path_calls t) (read_path_at t) read-path.Post
-read_path_byte_requires t c κs = search rules
-
-read_path_returns : (t : ℕ) → read-path-lts.Need-returns (read_path_calls t) (read_path_at t) read-path.Post
-read_path_returns t c =
-    let s = c.before.before.before.before.before.before.args in
-    (λ a h b q. done_no 2 (path_unspaced s.book.now a b s.at (s.n + s.up) q s.left (λ e. c.if1.true (c.before.byte.ensures ∙ e))) refl, (tt, refl))
-
-read_path_add_path_head : (t : ℕ) → read-path-lts.Need-overflow-add-path-head (read_path_calls t) (read_path_at t) read-path.Post
-read_path_add_path_head t c = search rules
-
-read_path_add_path_head_2 : (t : ℕ) → read-path-lts.Need-overflow-add-path-head-2 (read_path_calls t) (read_path_at t) read-path.Post
-read_path_add_path_head_2 t c = search rules
-
-read_path_path_head_requires : (t : ℕ) → read-path-lts.Need-path-head-requires (read_path_calls t) (read_path_at t) read-path.Post
-read_path_path_head_requires t c κs =
-    let s = c.before.before.before.before.before.before.args in
-    let i : s.at < length s.book.now = inside s.book.now s.at (λ e. omega (arith, c.before.byte.ensures, c.if1.false)) in
+pub path_head-requires : goal.path_head-requires
+path_head-requires t c =
+    let s = c.args in
+    let i : s.at < length s.book.now = inside s.book.now s.at (λ e. omega (arith, c.byte.ensures, c.if-byte-ne32.false)) in
     omega arith
 
-read_path_enum_told : (t : ℕ) → read-path-lts.Need-enum-told (read_path_calls t) (read_path_at t) read-path.Post
-read_path_enum_told t c = search rules
-
-read_path_read_link_requires : (t : ℕ) → read-path-lts.Need-read-link-requires (read_path_calls t) (read_path_at t) read-path.Post
-read_path_read_link_requires t c κs = search rules
-
-read_path_enum_known_k : (t : ℕ) → read-path-lts.Need-enum-known-k (read_path_calls t) (read_path_at t) read-path.Post
-read_path_enum_known_k t c = search rules
-
-read_path_enum_known-code : (t : ℕ) → read-path-lts.Need-enum-known-code (read_path_calls t) (read_path_at t) read-path.Post
-read_path_enum_known-code t c = search rules
-
-read_path_sub_read_path : (t : ℕ) → read-path-lts.Need-overflow-sub-read-path (read_path_calls t) (read_path_at t) read-path.Post
-read_path_sub_read_path t c =
-    let w = (headed-word _ _ _ _ c.before.before.before.before.path-head.result _ _ c.before.before.before.before.path-head.ensures.1 c.before.before.code.given.1).1 in
+pub overflow_sub-left : goal.overflow_sub-left
+overflow_sub-left t c =
+    let w = (headed-word _ _ _ _ c.path_head.result _ _ c.path_head.ensures.headed c.in-Word.is).1 in
     omega arith
 
-read_path_add_read_path : (t : ℕ) → read-path-lts.Need-overflow-add-read-path (read_path_calls t) (read_path_at t) read-path.Post
-read_path_add_read_path t c = search rules
-
-read_path_read_path_requires : (t : ℕ) → read-path-lts.Need-read-path-requires (read_path_calls t) (read_path_at t) read-path.Post
-read_path_read_path_requires t c κs =
-    let p = c.before.before.before.before.before.before.before.before.before.before.before.requires in
-    let m = p.0 in
-    let w = headed-word _ _ _ _ c.before.before.before.before.path-head.result _ _ c.before.before.before.before.path-head.ensures.1 c.before.before.code.given.1 in
-    let s = c.before.before.before.before.before.before.before.before.before.before.before.args in
+pub read_path-first-requires : goal.read_path-first-requires
+read_path-first-requires t c =
+    let m = c.decreases in
+    let w = headed-word _ _ _ _ c.path_head.result _ _ c.path_head.ensures.headed c.in-Word.is in
+    let s = c.args in
     let u = leb-false max_paths (s.n + s.up) w.2 in
     let l = w.1 in
-    (omega arith, (w.3, p.1.1, p.1.2, omega arith, p.1.4, p.1.5))
+    (omega arith, (w.3, c.requires.1, c.requires.2, omega arith, c.requires.4, c.requires.5))
 
-read_path_enum_known-first : (t : ℕ) → read-path-lts.Need-enum-known-first (read_path_calls t) (read_path_at t) read-path.Post
-read_path_enum_known-first t c = search rules
+pub returns-in_default : goal.returns-in_default
+returns-in_default t c =
+    let s = c.args in
+    let z = sym c.byte.ensures ∙ c.if-byte-ne32.false in
+    record { path_read = λ a h b q. done_no c.in_default.field-0 (path_word_lem s.book.now a b s.at (s.n + s.up) q z c.path_head.result s.left c.in-Word.code c.in-Word.end c.path_head.ensures.value c.in-Word.is ∙ body_refused s.book.now a (readers_at s.book.now a (s.left - 1)) (path_begun b) c.in-Word.end c.in-Word.code c.in_default.field-0 (done_refused c.in_default.field-0 (c.read_path-first.ensures.path_read a h (path_begun b) (begun_first b s.n s.up q)) c.in_default.is)) c.in_default.is; grown = rw c.in_default.is tt; cells_unchanged = c.read_path-first.ensures.cells_unchanged }
 
-read_path_enum_told_2 : (t : ℕ) → read-path-lts.Need-enum-told-2 (read_path_calls t) (read_path_at t) read-path.Post
-read_path_enum_told_2 t c = search rules
-
-read_path_same-length : (t : ℕ) → read-path-lts.Need-same-length (read_path_calls t) (read_path_at t) read-path.Post
-read_path_same-length t c = search rules
-
-read_path_returns_2 : (t : ℕ) → read-path-lts.Need-returns-2 (read_path_calls t) (read_path_at t) read-path.Post
-read_path_returns_2 t c =
-    let s = c.before.before.before.before.before.before.before.before.before.before.before.before.before.before.before.before.args in
-    let w = c.before.before.before.before.before.before.before.code.given in
-    let hd = c.before.before.before.before.before.before.before.before.before.path-head in
-    let z = sym c.before.before.before.before.before.before.before.before.before.before.before.byte.ensures ∙ c.before.before.before.before.before.before.before.before.before.before.if1.false in
-    let k = c.enum-told2.given in
-    let r = c.before.before.before.before.read-path in (
-      λ a h b q. done_no k.0.0 (path_word_lem s.book.now a b s.at (s.n + s.up) q z hd.result s.left w.0.0 w.0.1.0 hd.ensures.0 w.1 ∙ body_refused s.book.now a (readers_at s.book.now a (s.left - 1)) (path_begun b) w.0.1.0 w.0.0 k.0.0 (done_refused k.0.0 (r.ensures.0 a h (path_begun b) (begun_first b s.n s.up q)) k.1)) k.1,
-      (rw k.1 tt, r.ensures.1.1),
-    )
-
-read_path_add_entry : (t : ℕ) → read-path-lts.Need-overflow-add-entry (read_path_calls t) (read_path_at t) read-path.Post
-read_path_add_entry t c =
-    let w = (headed-word _ _ _ _ c.before.before.before.before.before.before.before.before.before.before.path-head.result _ _ c.before.before.before.before.before.before.before.before.before.before.path-head.ensures.1 c.before.before.before.before.before.before.before.before.code.given.1).0 in
+pub overflow_add-entry : goal.overflow_add-entry
+overflow_add-entry t c =
+    let w = (headed-word _ _ _ _ c.path_head.result _ _ c.path_head.ensures.headed c.in-Word.is).0 in
     omega arith
 
-read_path_cast_entry : (t : ℕ) → read-path-lts.Need-overflow-cast-entry (read_path_calls t) (read_path_at t) read-path.Post
-read_path_cast_entry t c =
-    let w = (headed-word _ _ _ _ c.before.before.before.before.before.before.before.before.before.before.path-head.result _ _ c.before.before.before.before.before.before.before.before.before.before.path-head.ensures.1 c.before.before.before.before.before.before.before.before.code.given.1).0 in
+pub overflow_cast-entry : goal.overflow_cast-entry
+overflow_cast-entry t c =
+    let w = (headed-word _ _ _ _ c.path_head.result _ _ c.path_head.ensures.headed c.in-Word.is).0 in
     omega arith
 
-read_path_sub_part : (t : ℕ) → read-path-lts.Need-overflow-sub-part (read_path_calls t) (read_path_at t) read-path.Post
-read_path_sub_part t c =
-    let f = (grown-is _ _ _ c.before.before.before.before.before.read-path.result _ _ c.before.before.before.before.before.read-path.ensures.1.0 c.before.first.given.1).0 in
+pub overflow_sub-part : goal.overflow_sub-part
+overflow_sub-part t c =
+    let f = (grown-is _ _ _ c.read_path-first.result _ _ c.read_path-first.ensures.grown c.in-Is.is).0 in
     omega arith
 
-read_path_cast_part : (t : ℕ) → read-path-lts.Need-overflow-cast-part (read_path_calls t) (read_path_at t) read-path.Post
-read_path_cast_part t c =
-    let f = (grown-is _ _ _ c.before.before.before.before.before.read-path.result _ _ c.before.before.before.before.before.read-path.ensures.1.0 c.before.first.given.1).1 in
+pub overflow_cast-part : goal.overflow_cast-part
+overflow_cast-part t c =
+    let f = (grown-is _ _ _ c.read_path-first.result _ _ c.read_path-first.ensures.grown c.in-Is.is).1 in
     omega arith
 
-read_path_close_path_requires : (t : ℕ) → read-path-lts.Need-close-path-requires (read_path_calls t) (read_path_at t) read-path.Post
-read_path_close_path_requires t c κs =
-    let f = (grown-is _ _ _ c.before.before.before.before.before.before.before.read-path.result _ _ c.before.before.before.before.before.before.before.read-path.ensures.1.0 c.before.before.before.first.given.1).1 in
-    (omega arith, omega (arith, c.before.before.before.before.before.before.before.read-path.auto.0, c.before.before.before.before.before.before.before.before.before.before.before.before.before.before.before.before.before.before.before.requires.1.2))
+pub close_path-requires : goal.close_path-requires
+close_path-requires t c =
+    let f = (grown-is _ _ _ c.read_path-first.result _ _ c.read_path-first.ensures.grown c.in-Is.is).1 in
+    (omega arith, omega (arith, c.read_path-first.auto.cells, c.requires.2))
 
-read_path_same-length_2 : (t : ℕ) → read-path-lts.Need-same-length-2 (read_path_calls t) (read_path_at t) read-path.Post
-read_path_same-length_2 t c = omega (arith, c.before.before.close-path.auto.0, c.before.before.before.before.before.before.before.before.before.before.read-path.auto.0)
+pub shape_of-cells-then-code : goal.shape_of-cells-then-code
+shape_of-cells-then-code t c = omega (arith, c.close_path.auto.cells, c.read_path-first.auto.cells)
 
-read_path_returns_3 : (t : ℕ) → read-path-lts.Need-returns-3 (read_path_calls t) (read_path_at t) read-path.Post
-read_path_returns_3 t c =
-    let s = c.before.before.before.before.before.before.before.before.before.before.before.before.before.before.before.before.before.before.before.before.before.before.args in
-    let w = c.before.before.before.before.before.before.before.before.before.before.before.before.before.code.given in
-    let hd = c.before.before.before.before.before.before.before.before.before.before.before.before.before.before.before.path-head in
-    let z = sym c.before.before.before.before.before.before.before.before.before.before.before.before.before.before.before.before.before.byte.ensures ∙ c.before.before.before.before.before.before.before.before.before.before.before.before.before.before.before.before.if1.false in
-    let f = c.before.before.before.before.before.before.first.given in
-    let r = c.before.before.before.before.before.before.before.before.before.before.read-path in
-    let o = c.before.before.close-path in
-    let l = grown-is _ _ _ c.before.before.before.before.before.before.before.before.before.before.read-path.result _ _ c.before.before.before.before.before.before.before.before.before.before.read-path.ensures.1.0 c.before.before.before.before.before.before.first.given.1 in
+pub returns-then-code : goal.returns-then-code
+returns-then-code t c =
+    let s = c.args in
+    let z = sym c.byte.ensures ∙ c.if-byte-ne32.false in
+    let l = grown-is _ _ _ c.read_path-first.result _ _ c.read_path-first.ensures.grown c.in-Is.is in
     let g0 = l.0 in
     let g1 = l.1 in
-    let hw = (headed-word _ _ _ _ c.before.before.before.before.before.before.before.before.before.before.before.before.before.before.before.path-head.result _ _ c.before.before.before.before.before.before.before.before.before.before.before.before.before.before.before.path-head.ensures.1 c.before.before.before.before.before.before.before.before.before.before.before.before.before.code.given.1).0 in
-    let one = c.before.before.before.before.if2.true in
-    let mid : List ℕ = r.new.0 in
-    let code : ℕ = w.0.0 in
-    let m : ℕ = f.0.0 in
-    let next : ℕ = f.0.1.0 in (
-      λ a h b q.
-          let g = path_got m next (r.ensures.0 a h (path_begun b) (begun_first b s.n s.up q)) f.1 in
-          done_is (path_word_lem s.book.now a b s.at (s.n + s.up) q z hd.result s.left w.0.0 w.0.1.0 hd.ensures.0 w.1 ∙ body_one s.book.now a (readers_at s.book.now a (s.left - 1)) (path_begun b) w.0.1.0 g.tree next g.is code one hw)
-          (closed_read s.book.now next m a (one_path code g.tree) s.n s.cells.now (put_path m (code + 1) (m - 1) 0 mid) mid o.new.0 o.result (one-count s.n m g.tree s.cells.now mid g.count g.cells code one hw) (one-stored s.n m g.tree s.cells.now mid g.count g.cells code one hw) o.ensures.0 o.ensures.1.0),
-      (rw o.ensures.0 (closed-grown s.book.now next m (s.n + 1) s.up (omega arith) (omega arith)), o.ensures.1.1 ∙ r.ensures.1.1),
-    )
+    let hw = (headed-word _ _ _ _ c.path_head.result _ _ c.path_head.ensures.headed c.in-Word.is).0 in
+    let one = c.if-code.true in
+    let mid : List ℕ = c.read_path-first.new.cells in
+    let code : ℕ = c.in-Word.code in
+    let m : ℕ = c.in-Is.m in
+    let next : ℕ = c.in-Is.next in record { path_read = λ a h b q.
+          let g = path_got m next (c.read_path-first.ensures.path_read a h (path_begun b) (begun_first b s.n s.up q)) c.in-Is.is in
+          done_is (path_word_lem s.book.now a b s.at (s.n + s.up) q z c.path_head.result s.left c.in-Word.code c.in-Word.end c.path_head.ensures.value c.in-Word.is ∙ body_one s.book.now a (readers_at s.book.now a (s.left - 1)) (path_begun b) c.in-Word.end g.tree next g.is code one hw)
+          (closed_read s.book.now next m a (one_path code g.tree) s.n s.cells.now (put_path m (code + 1) (m - 1) 0 mid) mid c.close_path.new.cells c.close_path.result (one-count s.n m g.tree s.cells.now mid g.count g.cells code one hw) (one-stored s.n m g.tree s.cells.now mid g.count g.cells code one hw) c.close_path.ensures.value c.close_path.ensures.new_cells); grown = rw c.close_path.ensures.value (closed-grown s.book.now next m (s.n + 1) s.up (omega arith) (omega arith)); cells_unchanged = c.close_path.ensures.cells_unchanged ∙ c.read_path-first.ensures.cells_unchanged }
 
-read_path_sub_read_path_2 : (t : ℕ) → read-path-lts.Need-overflow-sub-read-path-2 (read_path_calls t) (read_path_at t) read-path.Post
-read_path_sub_read_path_2 t c =
-    let w = (headed-word _ _ _ _ c.before.before.before.before.before.before.before.before.before.before.before.before.path-head.result _ _ c.before.before.before.before.before.before.before.before.before.before.before.before.path-head.ensures.1 c.before.before.before.before.before.before.before.before.before.before.code.given.1).1 in
+pub overflow_sub-left-in-Word : goal.overflow_sub-left-in-Word
+overflow_sub-left-in-Word t c =
+    let w = (headed-word _ _ _ _ c.path_head.result _ _ c.path_head.ensures.headed c.in-Word.is).1 in
     omega arith
 
-read_path_add_read_path_2 : (t : ℕ) → read-path-lts.Need-overflow-add-read-path-2 (read_path_calls t) (read_path_at t) read-path.Post
-read_path_add_read_path_2 t c =
-    let f = (grown-is _ _ _ c.before.before.before.before.before.before.before.read-path.result _ _ c.before.before.before.before.before.before.before.read-path.ensures.1.0 c.before.before.before.first.given.1).1 in
+pub overflow_add-up-in-Word : goal.overflow_add-up-in-Word
+overflow_add-up-in-Word t c =
+    let f = (grown-is _ _ _ c.read_path-first.result _ _ c.read_path-first.ensures.grown c.in-Is.is).1 in
     omega arith
 
-read_path_read_path_requires_2 : (t : ℕ) → read-path-lts.Need-read-path-requires-2 (read_path_calls t) (read_path_at t) read-path.Post
-read_path_read_path_requires_2 t c κs =
-    let p = c.before.before.before.before.before.before.before.before.before.before.before.before.before.before.before.before.before.before.before.requires in
-    let m = p.0 in
-    let w = (headed-word _ _ _ _ c.before.before.before.before.before.before.before.before.before.before.before.before.path-head.result _ _ c.before.before.before.before.before.before.before.before.before.before.before.before.path-head.ensures.1 c.before.before.before.before.before.before.before.before.before.before.code.given.1).1 in
-    let f = grown-is _ _ _ c.before.before.before.before.before.before.before.read-path.result _ _ c.before.before.before.before.before.before.before.read-path.ensures.1.0 c.before.before.before.first.given.1 in
+pub read_path-second-requires : goal.read_path-second-requires
+read_path-second-requires t c =
+    let m = c.decreases in
+    let w = (headed-word _ _ _ _ c.path_head.result _ _ c.path_head.ensures.headed c.in-Word.is).1 in
+    let f = grown-is _ _ _ c.read_path-first.result _ _ c.read_path-first.ensures.grown c.in-Is.is in
     let f1 = f.1 in
-    (omega arith, (f.2, p.1.1, omega (arith, c.before.before.before.before.before.before.before.read-path.auto.0, p.1.2), f.1, p.1.4, p.1.5))
+    (omega arith, (f.2, c.requires.1, omega (arith, c.read_path-first.auto.cells, c.requires.2), f.1, c.requires.4, c.requires.5))
 
-read_path_enum_known-second : (t : ℕ) → read-path-lts.Need-enum-known-second (read_path_calls t) (read_path_at t) read-path.Post
-read_path_enum_known-second t c = search rules
+pub shape_of-cells-in_default-second : goal.shape_of-cells-in_default-second
+shape_of-cells-in_default-second t c = omega (arith, c.read_path-second.auto.cells, c.read_path-first.auto.cells)
 
-read_path_enum_told_3 : (t : ℕ) → read-path-lts.Need-enum-told-3 (read_path_calls t) (read_path_at t) read-path.Post
-read_path_enum_told_3 t c = search rules
+pub returns-in_default-second : goal.returns-in_default-second
+returns-in_default-second t c =
+    let s = c.args in
+    let z = sym c.byte.ensures ∙ c.if-byte-ne32.false in
+    let m : ℕ = c.in-Is.m in
+    let next : ℕ = c.in-Is.next in record { path_read = λ a h b q.
+          let g = path_got m next (c.read_path-first.ensures.path_read a h (path_begun b) (begun_first b s.n s.up q)) c.in-Is.is in
+          done_no c.in_default-second.field-0 (path_word_lem s.book.now a b s.at (s.n + s.up) q z c.path_head.result s.left c.in-Word.code c.in-Word.end c.path_head.ensures.value c.in-Word.is ∙ body_second_refused s.book.now a (readers_at s.book.now a (s.left - 1)) (path_begun b) c.in-Word.end g.tree next g.is c.in-Word.code c.in_default-second.field-0 c.if-code.false (done_refused c.in_default-second.field-0 (c.read_path-second.ensures.path_read a h (after path g.tree (path_begun b)) (begun_second b s.n s.up m g.tree q g.count)) c.in_default-second.is)) c.in_default-second.is; grown = rw c.in_default-second.is tt; cells_unchanged = c.read_path-second.ensures.cells_unchanged ∙ c.read_path-first.ensures.cells_unchanged }
 
-read_path_same-length_3 : (t : ℕ) → read-path-lts.Need-same-length-3 (read_path_calls t) (read_path_at t) read-path.Post
-read_path_same-length_3 t c = omega (arith, c.before.before.before.before.read-path2.auto.0, c.before.before.before.before.before.before.before.before.before.before.before.before.read-path.auto.0)
-
-read_path_returns_4 : (t : ℕ) → read-path-lts.Need-returns-4 (read_path_calls t) (read_path_at t) read-path.Post
-read_path_returns_4 t c =
-    let s = c.before.before.before.before.before.before.before.before.before.before.before.before.before.before.before.before.before.before.before.before.before.before.before.before.args in
-    let w = c.before.before.before.before.before.before.before.before.before.before.before.before.before.before.before.code.given in
-    let hd = c.before.before.before.before.before.before.before.before.before.before.before.before.before.before.before.before.before.path-head in
-    let z = sym c.before.before.before.before.before.before.before.before.before.before.before.before.before.before.before.before.before.before.before.byte.ensures ∙ c.before.before.before.before.before.before.before.before.before.before.before.before.before.before.before.before.before.before.if1.false in
-    let k = c.enum-told3.given in
-    let f = c.before.before.before.before.before.before.before.before.first.given in
-    let r = c.before.before.before.before.before.before.before.before.before.before.before.before.read-path in
-    let r2 = c.before.before.before.before.read-path2 in
-    let m : ℕ = f.0.0 in
-    let next : ℕ = f.0.1.0 in (
-      λ a h b q.
-          let g = path_got m next (r.ensures.0 a h (path_begun b) (begun_first b s.n s.up q)) f.1 in
-          done_no k.0.0 (path_word_lem s.book.now a b s.at (s.n + s.up) q z hd.result s.left w.0.0 w.0.1.0 hd.ensures.0 w.1 ∙ body_second_refused s.book.now a (readers_at s.book.now a (s.left - 1)) (path_begun b) w.0.1.0 g.tree next g.is w.0.0 k.0.0 c.before.before.before.before.before.before.if2.false (done_refused k.0.0 (r2.ensures.0 a h (after path g.tree (path_begun b)) (begun_second b s.n s.up m g.tree q g.count)) k.1)) k.1,
-      (rw k.1 tt, r2.ensures.1.1 ∙ r.ensures.1.1),
-    )
-
-read_path_sub_close_path : (t : ℕ) → read-path-lts.Need-overflow-sub-close-path (read_path_calls t) (read_path_at t) read-path.Post
-read_path_sub_close_path t c =
-    let f = (grown-is _ _ _ c.before.before.before.before.before.before.read-path2.result _ _ c.before.before.before.before.before.before.read-path2.ensures.1.0 c.before.before.second.given.1).0 in
+pub overflow_sub-l : goal.overflow_sub-l
+overflow_sub-l t c =
+    let f = (grown-is _ _ _ c.read_path-second.result _ _ c.read_path-second.ensures.grown c.in-Is-second.is).0 in
     omega arith
 
-read_path_cast_close_path : (t : ℕ) → read-path-lts.Need-overflow-cast-close-path (read_path_calls t) (read_path_at t) read-path.Post
-read_path_cast_close_path t c =
-    let f = (grown-is _ _ _ c.before.before.before.before.before.before.read-path2.result _ _ c.before.before.before.before.before.before.read-path2.ensures.1.0 c.before.before.second.given.1).1 in
+pub overflow_cast-l : goal.overflow_cast-l
+overflow_cast-l t c =
+    let f = (grown-is _ _ _ c.read_path-second.result _ _ c.read_path-second.ensures.grown c.in-Is-second.is).1 in
     omega arith
 
-read_path_close_path_requires_2 : (t : ℕ) → read-path-lts.Need-close-path-requires-2 (read_path_calls t) (read_path_at t) read-path.Post
-read_path_close_path_requires_2 t c κs =
-    let f = (grown-is _ _ _ c.before.before.before.before.before.before.read-path2.result _ _ c.before.before.before.before.before.before.read-path2.ensures.1.0 c.before.before.second.given.1).1 in
-    (omega arith, omega (arith, c.before.before.before.before.before.before.read-path2.auto.0, c.before.before.before.before.before.before.before.before.before.before.before.before.before.before.read-path.auto.0, c.before.before.before.before.before.before.before.before.before.before.before.before.before.before.before.before.before.before.before.before.before.before.before.before.before.before.requires.1.2))
+pub close_path-requires-in-Word : goal.close_path-requires-in-Word
+close_path-requires-in-Word t c =
+    let f = (grown-is _ _ _ c.read_path-second.result _ _ c.read_path-second.ensures.grown c.in-Is-second.is).1 in
+    (omega arith, omega (arith, c.read_path-second.auto.cells, c.read_path-first.auto.cells, c.requires.2))
 
-read_path_same-length_4 : (t : ℕ) → read-path-lts.Need-same-length-4 (read_path_calls t) (read_path_at t) read-path.Post
-read_path_same-length_4 t c = search rules
+pub returns-in-Bare : goal.returns-in-Bare
+returns-in-Bare t c =
+    let s = c.args in
+    let z = sym c.byte.ensures ∙ c.if-byte-ne32.false in
+    record { path_read = λ a h b q. done_is (path_bare s.book.now a b s.at (s.n + s.up) q z c.path_head.result s.left c.path_head.ensures.value c.in-Bare.is) (c.read_link.ensures.path_read a h); grown = c.read_link.ensures.grown; cells_unchanged = c.read_link.ensures.cells_unchanged }
 
-read_path_returns_5 : (t : ℕ) → read-path-lts.Need-returns-5 (read_path_calls t) (read_path_at t) read-path.Post
-read_path_returns_5 t c =
-    let s = c.before.before.before.before.before.before.before.before.before.before.before.before.before.args in
-    let hd = c.before.before.before.before.before.before.path-head in
-    let z = sym c.before.before.before.before.before.before.before.before.byte.ensures ∙ c.before.before.before.before.before.before.before.if1.false in
-    let o = c.before.before.read-link in
-    (λ a h b q. done_is (path_bare s.book.now a b s.at (s.n + s.up) q z hd.result s.left hd.ensures.0 c.before.before.before.before.enum_told.given.1) (o.ensures.0 a h), (o.ensures.1.0, o.ensures.1.1))
+pub returns-in-No : goal.returns-in-No
+returns-in-No t c =
+    let s = c.args in
+    let z = sym c.byte.ensures ∙ c.if-byte-ne32.false in
+    record { path_read = λ a h b q. done_no c.in-No.k (path_head_refused s.book.now a b s.at (s.n + s.up) q z c.path_head.result s.left c.in-No.k c.path_head.ensures.value c.in-No.is) refl; grown = tt; cells_unchanged = refl }
 
-read_path_returns_6 : (t : ℕ) → read-path-lts.Need-returns-6 (read_path_calls t) (read_path_at t) read-path.Post
-read_path_returns_6 t c =
-    let s = c.before.before.before.before.before.before.before.before.before.before.args in
-    let hd = c.before.before.before.path-head in
-    let z = sym c.before.before.before.before.before.byte.ensures ∙ c.before.before.before.before.if1.false in
-    let k = c.before.k.given in
-    (λ a h b q. done_no k.0.0 (path_head_refused s.book.now a b s.at (s.n + s.up) q z hd.result s.left k.0.0 hd.ensures.0 k.1) refl, (tt, refl))
+pub shape_of-cells-in-Is-second : goal.shape_of-cells-in-Is-second
+shape_of-cells-in-Is-second t c = omega (arith, c.close_path-in-Word.auto.cells, c.read_path-second.auto.cells, c.read_path-first.auto.cells)
 
-read_path_same-length_5 : (t : ℕ) → read-path-lts.Need-same-length-5 (read_path_calls t) (read_path_at t) read-path.Post
-read_path_same-length_5 t c = omega (arith, c.before.before.close-path2.auto.0, c.before.before.before.before.before.before.before.before.before.read-path2.auto.0, c.before.before.before.before.before.before.before.before.before.before.before.before.before.before.before.before.before.read-path.auto.0)
-
-read_path_returns_7 : (t : ℕ) → read-path-lts.Need-returns-7 (read_path_calls t) (read_path_at t) read-path.Post
-read_path_returns_7 t c =
-    let s = c.before.before.before.before.before.before.before.before.before.before.before.before.before.before.before.before.before.before.before.before.before.before.before.before.before.before.before.before.before.args in
-    let w = c.before.before.before.before.before.before.before.before.before.before.before.before.before.before.before.before.before.before.before.before.code.given in
-    let hd = c.before.before.before.before.before.before.before.before.before.before.before.before.before.before.before.before.before.before.before.before.before.before.path-head in
-    let z = sym c.before.before.before.before.before.before.before.before.before.before.before.before.before.before.before.before.before.before.before.before.before.before.before.before.byte.ensures ∙ c.before.before.before.before.before.before.before.before.before.before.before.before.before.before.before.before.before.before.before.before.before.before.before.if1.false in
-    let f = c.before.before.before.before.before.before.before.before.before.before.before.before.before.first.given in
-    let f2 = c.before.before.before.before.before.second.given in
-    let r = c.before.before.before.before.before.before.before.before.before.before.before.before.before.before.before.before.before.read-path in
-    let r2 = c.before.before.before.before.before.before.before.before.before.read-path2 in
-    let o = c.before.before.close-path2 in
-    let two = c.before.before.before.before.before.before.before.before.before.before.before.if2.false in
-    let l1 = grown-is _ _ _ c.before.before.before.before.before.before.before.before.before.before.before.before.before.before.before.before.before.read-path.result _ _ c.before.before.before.before.before.before.before.before.before.before.before.before.before.before.before.before.before.read-path.ensures.1.0 c.before.before.before.before.before.before.before.before.before.before.before.before.before.first.given.1 in
-    let l2 = grown-is _ _ _ c.before.before.before.before.before.before.before.before.before.read-path2.result _ _ c.before.before.before.before.before.before.before.before.before.read-path2.ensures.1.0 c.before.before.before.before.before.second.given.1 in
+pub returns-in-Is-second : goal.returns-in-Is-second
+returns-in-Is-second t c =
+    let s = c.args in
+    let z = sym c.byte.ensures ∙ c.if-byte-ne32.false in
+    let two = c.if-code.false in
+    let l1 = grown-is _ _ _ c.read_path-first.result _ _ c.read_path-first.ensures.grown c.in-Is.is in
+    let l2 = grown-is _ _ _ c.read_path-second.result _ _ c.read_path-second.ensures.grown c.in-Is-second.is in
     let b1 = l1.0 in
     let b2 = l2.0 in
     let b3 = l2.1 in
-    let mid : List ℕ = r.new.0 in
-    let last : List ℕ = r2.new.0 in
-    let code : ℕ = w.0.0 in
-    let m : ℕ = f.0.0 in
-    let next : ℕ = f.0.1.0 in
-    let l : ℕ = f2.0.0 in
-    let stop : ℕ = f2.0.1.0 in (
-      λ a h b q.
-          let g = path_got m next (r.ensures.0 a h (path_begun b) (begun_first b s.n s.up q)) f.1 in
-          let g2 = path_got l stop (r2.ensures.0 a h (after path g.tree (path_begun b)) (begun_second b s.n s.up m g.tree q g.count)) f2.1 in
-          done_is (path_word_lem s.book.now a b s.at (s.n + s.up) q z hd.result s.left w.0.0 w.0.1.0 hd.ensures.0 w.1 ∙ body_joined s.book.now a (readers_at s.book.now a (s.left - 1)) (path_begun b) w.0.1.0 g.tree next g.is code g2.tree stop two g2.is)
-          (closed_read s.book.now stop l a (two_paths code g.tree g2.tree) s.n s.cells.now (put_path l (code + 1) (m - 1) (l - 1) last) last o.new.0 o.result (joined_count s.n m g.tree s.cells.now mid g.count g.cells l g2.tree last g2.count g2.cells code) (joined_stored s.n m g.tree s.cells.now mid g.count g.cells l g2.tree last g2.count g2.cells code two) o.ensures.0 o.ensures.1.0),
-      (rw o.ensures.0 (closed-grown s.book.now stop l (s.n + 1) s.up (omega arith) (omega arith)), o.ensures.1.1 ∙ (r2.ensures.1.1 ∙ r.ensures.1.1)),
-    )
+    let mid : List ℕ = c.read_path-first.new.cells in
+    let last : List ℕ = c.read_path-second.new.cells in
+    let code : ℕ = c.in-Word.code in
+    let m : ℕ = c.in-Is.m in
+    let next : ℕ = c.in-Is.next in
+    let l : ℕ = c.in-Is-second.l in
+    let stop : ℕ = c.in-Is-second.last in record { path_read = λ a h b q.
+          let g = path_got m next (c.read_path-first.ensures.path_read a h (path_begun b) (begun_first b s.n s.up q)) c.in-Is.is in
+          let g2 = path_got l stop (c.read_path-second.ensures.path_read a h (after path g.tree (path_begun b)) (begun_second b s.n s.up m g.tree q g.count)) c.in-Is-second.is in
+          done_is (path_word_lem s.book.now a b s.at (s.n + s.up) q z c.path_head.result s.left c.in-Word.code c.in-Word.end c.path_head.ensures.value c.in-Word.is ∙ body_joined s.book.now a (readers_at s.book.now a (s.left - 1)) (path_begun b) c.in-Word.end g.tree next g.is code g2.tree stop two g2.is)
+          (closed_read s.book.now stop l a (two_paths code g.tree g2.tree) s.n s.cells.now (put_path l (code + 1) (m - 1) (l - 1) last) last c.close_path-in-Word.new.cells c.close_path-in-Word.result (joined_count s.n m g.tree s.cells.now mid g.count g.cells l g2.tree last g2.count g2.cells code) (joined_stored s.n m g.tree s.cells.now mid g.count g.cells l g2.tree last g2.count g2.cells code two) c.close_path-in-Word.ensures.value c.close_path-in-Word.ensures.new_cells); grown = rw c.close_path-in-Word.ensures.value (closed-grown s.book.now stop l (s.n + 1) s.up (omega arith) (omega arith)); cells_unchanged = c.close_path-in-Word.ensures.cells_unchanged ∙ (c.read_path-second.ensures.cells_unchanged ∙ c.read_path-first.ensures.cells_unchanged) }
