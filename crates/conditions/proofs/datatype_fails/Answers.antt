@@ -3,4 +3,4 @@ use Rattle.conditions.proofs.Terms as terms
 use Rattle.conditions.proofs.datatype_fails.Goals as goal
 
 pub returns : goal.returns
-returns c = λ vs. let a = c.args in terms.datatype-fails a.cells.now vs a.v.0 c.requires a.t c.node_kind-kind.result c.node_type.result c.node_kind-kind.ensures c.node_type.ensures
+returns c = λ vs. let a = c.args in terms.datatype_fails a.cells.now vs a.v.0 c.requires a.t c.node_kind-kind.result c.node_type.result c.node_kind-kind.ensures c.node_type.ensures

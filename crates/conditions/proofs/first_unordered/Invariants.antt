@@ -12,13 +12,13 @@ use Rattle.conditions.proofs.Listing.{quiet, passed_by}
 use Rattle.conditions.proofs.first_unordered.Given as goal
 
 abbrev pub invariant-loop-k : goal.invariant-loop-k
-invariant-loop-k l = (l.answer ≡ NoPair) × (l.k ≤ l.count) × (passed_by (λ l.x y. unordered l.order (term_at l.cells l.values l.x) (term_at l.cells l.values y)) l.x l.seconds l.k ≡ true)
+invariant-loop-k l = (l.answer ≡ NoPair) × (l.k ≤ l.count) × (passed_by (λ x' y. unordered l.order (term_at l.cells l.values x') (term_at l.cells l.values y)) l.x l.seconds l.k ≡ true)
 
 abbrev pub decreases-loop-k : goal.decreases-loop-k
 decreases-loop-k l = l.count - l.k
 
 abbrev pub invariant-search : goal.invariant-search
-invariant-search l = (l.answer ≡ NoPair) × (l.n ≡ node_count l.cells) × MembersListed (has l.b) l.n l.seconds l.count × Passed (has l.a) (quiet (has l.b) (λ l.x y. unordered l.order (term_at l.cells l.values l.x) (term_at l.cells l.values y)) l.n) l.n l.x
+invariant-search l = (l.answer ≡ NoPair) × (l.n ≡ node_count l.cells) × MembersListed (has l.b) l.n l.seconds l.count × Passed (has l.a) (quiet (has l.b) (λ x' y. unordered l.order (term_at l.cells l.values x') (term_at l.cells l.values y)) l.n) l.n l.x
 
 abbrev pub decreases-search : goal.decreases-search
 decreases-search l = l.n - l.x

@@ -7,7 +7,7 @@ use Rattle.tables.specs.Layout.{item_at}
 use Rattle.conditions.proofs.listed.Given as goal
 
 abbrev pub invariant-loop-k : goal.invariant-loop-k
-invariant-loop-k l = (l.k ≤ l.count) × (l.from ≡ l.i) × (l.count ≡ l.n) × (some (λ l.k. eqb l.x (item_at l.cells (l.i + l.k))) l.k ≡ false)
+invariant-loop-k l = (l.k ≤ l.count) × (l.from ≡ l.i) × (l.count ≡ l.n) × (some (λ k'. eqb l.x (item_at l.cells (l.i + k'))) l.k ≡ false)
 
 abbrev pub decreases-loop-k : goal.decreases-loop-k
 decreases-loop-k l = l.count - l.k

@@ -21,11 +21,11 @@ pub next-level-requires : goal.next-level-requires
 next-level-requires c = (c.requires.1, c.requires.2)
 
 -- the level after one round more
-level-after : (c : After-next-level) → let a = c.args in After (leads a.rows.now) a.n a.v (c.loop-nodes.count + 1) c.next.result.reached.words c.next.result.frontier.words
+level-after : (c : After-next-level) → let a = c.args in After (leads a.rows.now) a.n a.v (c.loop-nodes.count + 1) c.next-level.result.reached.words c.next-level.result.frontier.words
 level-after c =
     let a = c.args in
     let pre = c.requires in
-    after_more a.rows.now a.n a.v pre.1 pre.3 pre.0 c.loop-nodes.invariant.0 c.next.ensures.0 c.next.ensures.1
+    after_more a.rows.now a.n a.v pre.1 pre.3 pre.0 c.loop-nodes.invariant.0 c.next-level.ensures.words_value c.next-level.ensures.words_value_2
 
 -- the count is the number of rounds
 counted : (c : Then-none_below) → let a = c.args in rounds (leads a.rows.now) a.n a.v ≡ c.loop-nodes.count
