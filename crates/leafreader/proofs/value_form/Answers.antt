@@ -26,7 +26,7 @@ unfolding put_value
 returns-in-Is c =
     let s = c.args in
     let p = c.requires in
-    let z = to_z-of_z (record { sfits = c.in-Is.known_told-in-Is-1-own.given.0.1 }) in
+    let z = to_z-of_z {w = w64} (record { sfits = c.in-Is.known_told-in-Is-1-own.given.0.1 }) in
     let next : ℕ = c.in-Is.next in record { form_read = λ a R b f sh.
           value-stored (form_values + s.n.forms) c.in-Is.x (to_z w64 (of_z w64 c.in-Is.x)) z
           (form_is_lem (rest-one s.book.now a R value f b s.at c.in-Is.x next (value_got (arg_at s.book.now a R value b s.at) c.read_value.result c.in-Is.x next (c.read_value.ensures.value a R b) c.in-Is.is))

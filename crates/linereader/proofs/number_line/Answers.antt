@@ -1,4 +1,5 @@
 use Prim.Native.Nat.{◌+◌}
+use mir.Syntax.{w64}
 use mathlib.Core.Path.{refl, ◌∙◌}
 use mathlib.Core.List.{[], ◌∷◌}
 use mathlib.Core.Bool.{true}
@@ -94,4 +95,4 @@ returns-in-Is-read_value c =
     let e₃ = value_got (arg_at S a R value b₂ c.in-Is-datatype.after) c.read_value.result c.in-Is-read_value.value c.in-Is-read_value.last (c.read_value.ensures.value a R b₂) c.in-Is-read_value.is in
     let q = body_is S a number_l s.at ∙ all₃ S a true (new nodes) literal_type value (line_family.build number_l) b s.at w c.in-Is.end e c.in-Is-datatype.t c.in-Is-datatype.after e₂ c.in-Is-read_value.value c.in-Is-read_value.last e₃ in
     let t = numeric c.in-Is-datatype.t c.in-Is-read_value.value in
-    done_same a s.counts (line_body S a number_l s.at) (line_end S a true (node w t) c.in-Is-read_value.last) _ s.names.now _ s.cells.now _ s.values.now _ q (o.ensures a t h (refl, refl, refl, to_z-of_z (record { sfits = c.in-Is-read_value.known_told-in-Is-read_value-1-own.given.0.1 })))
+    done_same a s.counts (line_body S a number_l s.at) (line_end S a true (node w t) c.in-Is-read_value.last) _ s.names.now _ s.cells.now _ s.values.now _ q (o.ensures a t h (refl, refl, refl, to_z-of_z {w = w64} (record { sfits = c.in-Is-read_value.known_told-in-Is-read_value-1-own.given.0.1 })))

@@ -59,7 +59,7 @@ pub overflow_add-result : goal.overflow_add-result
 overflow_add-result c =
     let s = c.args in
     let b = (below-is _ _ c.read_used-used.result _ _ c.read_used-used.ensures.below c.in-Is.is).1 in
-    omega (arith, c.well-formed)
+    omega (arith, c.well_formed)
 
 pub returns-in-Bare : goal.returns-in-Bare
 returns-in-Bare c =

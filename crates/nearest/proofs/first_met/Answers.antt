@@ -61,4 +61,4 @@ pub loop-wanted-preserved : goal.loop-wanted-preserved
 loop-wanted-preserved c =
     let a = c.args in
     let pre = c.requires in
-    (after_more a.rows.now a.n a.v pre.1 pre.3 pre.0 c.loop-wanted.invariant.0 c.next.ensures.0 c.next.ensures.1, still (goal.at.loop-wanted-preserved c).Else-node-n)
+    (after_more a.rows.now a.n a.v pre.1 pre.3 pre.0 c.loop-wanted.invariant.0 c.next-level.ensures.words_value c.next-level.ensures.words_value_2, still (goal.at.loop-wanted-preserved c).Else-node-n)

@@ -34,7 +34,7 @@ index_new-requires c =
     let p = c.requires in
     let i = c.loop-at.invariant in
     let R = i.3 in
-    let m = runs_more _ _ _ _ R c.read_line.result _ _ _ c.loop-at-test.true (c.read_line.ensures R.above (runs_held _ _ _ _ R) (runs_kinds _ _ _ _ R)) c.before.before.before.next.given.0.0 c.before.before.before.next.given.0.1.0 c.before.before.before.next.given.1 in
+    let m = runs_more _ _ _ _ R c.read_line.result _ _ _ c.loop-at-test.true (c.read_line.ensures R.above (runs_held _ _ _ _ R) (runs_kinds _ _ _ _ R)) c.in-Next.next c.in-Next.after c.in-Next.is in
     (omega (arith, i.4, p.4), omega (arith, c.read_line.auto.names, i.0, p.0), runs_limits _ _ _ _ m.1)
 
 pub loop-at-smaller : goal.loop-at-smaller
@@ -42,7 +42,7 @@ loop-at-smaller c =
     let R = c.loop-at.invariant.3 in
     let r = c.read_line in
     let h = c.loop-at-test.true in
-    let m = runs_more _ _ _ _ R r.result _ _ _ h (r.ensures R.above (runs_held _ _ _ _ R) (runs_kinds _ _ _ _ R)) c.before.before.before.before.before.before.next.given.0.0 c.before.before.before.before.before.before.next.given.0.1.0 c.before.before.before.before.before.before.next.given.1 in
+    let m = runs_more _ _ _ _ R r.result _ _ _ h (r.ensures R.above (runs_held _ _ _ _ R) (runs_kinds _ _ _ _ R)) c.in-Next.next c.in-Next.after c.in-Next.is in
     let l = m.0 in
     omega arith
 
@@ -51,8 +51,8 @@ loop-at-preserved c =
     let i = c.loop-at.invariant in
     let R = i.3 in
     let h = c.loop-at-test.true in
-    let m = runs_more _ _ _ _ R c.read_line.result _ _ _ h (c.read_line.ensures R.above (runs_held _ _ _ _ R) (runs_kinds _ _ _ _ R)) c.before.before.before.before.before.before.next.given.0.0 c.before.before.before.before.before.before.next.given.0.1.0 c.before.before.before.before.before.before.next.given.1 in
-    (c.read_line.auto.names ∙ i.0, c.read_line.auto.cells ∙ i.1, c.read_line.auto.values ∙ i.2, m.1, c.index_new.auto.index ∙ i.4, subst (Indexed c.read_line.new.names c.before.before.before.before.before.before.next.given.0.1.0) (sym c.index_new.ensures) (m.2 c.loop-at.index (let p = c.requires.4 in omega (arith, i.4)) i.5))
+    let m = runs_more _ _ _ _ R c.read_line.result _ _ _ h (c.read_line.ensures R.above (runs_held _ _ _ _ R) (runs_kinds _ _ _ _ R)) c.in-Next.next c.in-Next.after c.in-Next.is in
+    (c.read_line.auto.names ∙ i.0, c.read_line.auto.cells ∙ i.1, c.read_line.auto.values ∙ i.2, m.1, c.index_new.auto.index ∙ i.4, subst (Indexed c.read_line.new.names c.in-Next.after) (sym c.index_new.ensures) (m.2 c.loop-at.index (let p = c.requires.4 in omega (arith, i.4)) i.5))
 
 pub returns : goal.returns
 returns c =

@@ -9,4 +9,4 @@ returns-in-Unfilled c = λ i. keeps (sym c.in-Unfilled.is i) c.args.end
 
 pub returns-in-RowsOf : goal.returns-in-RowsOf
 unfolding keeps
-returns-in-RowsOf c = c.same_end.ensures ∙ (λ i. keeps (sym c.before.before.kept.given.1 i) c.args.end)
+returns-in-RowsOf c = c.same_end.ensures ∙ (λ i. keeps (sym c.in-RowsOf.is i) c.args.end)
