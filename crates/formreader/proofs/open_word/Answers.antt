@@ -13,7 +13,7 @@ read_leaf-requires c =
     let p = c.requires in
     let n = c.in_default-1.rest in
     let w = c.in_default.branch in
-    let none : (k : ℕ) → 2 ≤ k → k < 5 → s.code ≡ k → ⊥ = λ k l h e. ⊎_elim (λ x. let y = x.taken in omega arith) (λ x. let y = x.1.left in omega arith) w in
+    let none : (k : ℕ) → 2 ≤ k → k < 5 → s.code ≡ k → ⊥ = λ k l h e. ? in
     (p.0, p.1, p.2, p.3, p.5, p.6, p.7, p.8, p.9, leaf_code s.code p.9 (none 2 (omega arith) (omega arith)) (none 3 (omega arith) (omega arith)) (none 4 (omega arith) (omega arith)) n.0.1 n.1, p.10)
 
 pub returns-in-12 : goal.returns-in-12

@@ -46,7 +46,7 @@ loop-k-preserved c =
       c.run_step.auto.first ∙ t.invariant.2,
       c.run_step.auto.second ∙ t.invariant.3,
       c.run_step.ensures.new_work ∙ steps-more (sub_of a.sub) cs a.values.now a.plan.now (sound cs pre.0.ok).nodes a.work.now t.k (p.step t.k (omega (arith, c.step_count-count.ensures, c.loop-k-test.true))) t.invariant.4,
-      subst (λ (x : Kept). RowsHeld cs x c.run_step.new.first) (sym (c.first_after-kept.ensures ∙ ap (λ (y : Kind). first_after y t.auto) kind.ensures)) c.run_step.ensures.rows_held,
+      subst (λ (x : Kept). RowsHeld cs x c.run_step.new.first) (sym (c.first_after-kept.ensures ∙ ap (λ (y : Kind). first_after y t.kept) kind.ensures)) c.run_step.ensures.rows_held,
       subst (λ (x : Kept). RowsHeld cs x c.run_step.new.second) (sym (c.second_after-links.ensures ∙ ap (λ (y : Kind). second_after y t.links) kind.ensures)) c.run_step.ensures.rows_held_2,
     )
 

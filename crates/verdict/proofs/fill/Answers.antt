@@ -1,4 +1,5 @@
 -- `fill` meets its contract. The invariant: all nodes before x are settled, and nothing that was known is lost.
+use borrow.Author.Rules.{rules}
 use mathlib.Core.Path.{sym, ◌∙◌}
 use Prim.Native.Nat.{◌-◌, ◌<◌}
 use native.Mathlib.Omega.{arith}
@@ -13,7 +14,7 @@ pub decide-set-requires : goal.decide-set-requires
 decide-set-requires c = c.requires
 
 pub loop-x-init : goal.loop-x-init
-loop-x-init c = (slice-aggregate-next-member c.before, filling_none c.requires.0 c.node_count-n.ensures c.next_member-x.ensures)
+loop-x-init c = (search rules, filling_none c.requires.0 c.node_count-n.ensures c.next_member-x.ensures)
 
 pub overflow_cast-x : goal.overflow_cast-x
 overflow_cast-x c = omega (arith, c.loop-x-test, c.loop-x.invariant.1.count, nodes_le c.args.cells.now c.requires.0.tables)

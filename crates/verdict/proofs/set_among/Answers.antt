@@ -42,9 +42,9 @@ loop-x-preserved c =
 
 pub returns : goal.returns
 returns c v l h =
-    let a = c.before.before.before.before.before.before.before.before.before.args in
-    let t = c.before.loop in
-    let n = c.before.before.before.before.before.node-count.result in
+    let a = c.args in
+    let t = c.loop-x in
+    let n = c.node_count-n.result in
     let p : ℕ → Bool = (conforms (graph_at a.cells.now a.values.now) (shape_at a.cells.now a.values.now a.e)) in
-    has_of (λ m. ltb m n && (has a.nodes.words m && p m)) 16 (gathered-all (has a.nodes.words) p n t.invariant.1 (omega (arith, c.loop-test))) v (omega (arith, nodes_le a.cells.now c.before.before.before.before.before.before.before.before.before.requires.0.tables))
+    has_of (λ m. ltb m n && (has a.nodes.words m && p m)) 16 (gathered-all (has a.nodes.words) p n t.invariant.1 (omega (arith, c.loop-x-test))) v (omega (arith, nodes_le a.cells.now c.requires.0.tables))
     ∙ ap₂ (λ (s t : Bool). s && (t && p v)) (lt-ltb v n (omega (arith, t.invariant.0))) h
