@@ -6,14 +6,14 @@ use Rattle.leafreader.proofs.Forms.{body_is}
 use Rattle.formreader.specs.Frames.{every}
 use Rattle.formreader.proofs.Frames.{word_fronted, all_rest, leaf_code}
 use Rattle.formreader.proofs.open_word.Goals as goal
+use Rattle.formreader.proofs.open_word.Goals.{in_default-via-then-code-lt2, in_default-via-else-code-lt2+else-code-lt5}
 
 pub read_leaf-requires : goal.read_leaf-requires
 read_leaf-requires c =
     let s = c.args in
     let p = c.requires in
     let n = c.in_default-1.rest in
-    let w = c.in_default.branch in
-    let none : (k : ℕ) → 2 ≤ k → k < 5 → s.code ≡ k → ⊥ = λ k l h e. ? in
+    let none : (k : ℕ) → 2 ≤ k → k < 5 → s.code ≡ k → ⊥ = λ k l h e. elim c.in_default.branch [ in_default-via-then-code-lt2 x ↦ omega arith | in_default-via-else-code-lt2+else-code-lt5 x ↦ omega arith ] in
     (p.0, p.1, p.2, p.3, p.5, p.6, p.7, p.8, p.9, leaf_code s.code p.9 (none 2 (omega arith) (omega arith)) (none 3 (omega arith) (omega arith)) (none 4 (omega arith) (omega arith)) n.0.1 n.1, p.10)
 
 pub returns-in-12 : goal.returns-in-12
