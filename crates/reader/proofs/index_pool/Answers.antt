@@ -40,6 +40,12 @@ hash-requires c =
     let n = c.requires.1 in
     (omega arith, omega arith)
 
+pub nonzero_rem-hash : goal.nonzero_rem-hash
+nonzero_rem-hash c =
+    let p = (pool_inside (pool_of c.args.pool)).1 in
+    let m = c.most.ensures in
+    omega arith
+
 pub link-requires : goal.link-requires
 link-requires c =
     let p = pool_of c.args.pool in

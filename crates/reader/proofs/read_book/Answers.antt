@@ -52,4 +52,4 @@ returns-in-No c =
     let z = c.clear-in-No.ensures in
     let e = r.0 in
     let f = r.1 in
-    record { result_value = rw (e, f) w.answer; new_names = z.0 ∙ w.names; new_cells = z.1.0 ∙ w.cells; new_values = z.1.1 ∙ w.values }
+    record { result_value = rw (e, f) w.answer; new_names = z.new_names ∙ w.names; new_cells = z.new_cells ∙ w.cells; new_values = z.new_values ∙ w.values }
