@@ -18,6 +18,9 @@ overflow_mul-at c = let a = c.args in let q = c.requires in search (rules, few-r
 pub offset_bounds-lists-at : goal.offset_bounds-lists-at
 offset_bounds-lists-at c = let a = c.args in let q = c.requires in search (rules, few-rules a.cells.now a.plan.now q.0 q.1, c.rule_count-count.ensures, q.3)
 
+pub slice_bounds-list_rule-start : goal.slice_bounds-list_rule-start
+slice_bounds-list_rule-start c = let a = c.args in let q = c.requires in search (rules, few-rules a.cells.now a.plan.now q.0 q.1, c.rule_count-count.ensures, q.3)
+
 pub slice_bounds-list_rule-count : goal.slice_bounds-list_rule-count
 slice_bounds-list_rule-count c = let a = c.args in let q = c.requires in search (rules, few-rules a.cells.now a.plan.now q.0 q.1, c.rule_count-count.ensures, q.3)
 
