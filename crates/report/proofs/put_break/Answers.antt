@@ -24,7 +24,7 @@ put_bytes-requires c =
     let p = c.put_bytes-word.ensures in
     let q = c.put_number-number.ensures in
     let n = c.put_name-name.ensures in
-    omega (arith, p.ends, q.ends, n.1, put-length p, put-length q, put-length n.0, two_digits a.r c.requires.1, c.requires.0)
+    omega (arith, p.ends, q.ends, n.upper_bound, put-length p, put-length q, put-length n.put, two_digits a.r c.requires.1, c.requires.0)
 
 pub returns : goal.returns
 returns c =
@@ -33,4 +33,4 @@ returns c =
     let q = c.put_number-number.ensures in
     let n = c.put_name-name.ensures in
     let e = c.put_bytes.ensures in
-    record { put = put_as (line-two (bytes "breaks") (decimal a.r) (node_name_at a.names.now a.v.0)) (put_then (put_then (put_then p q) n.0) e); upper_bound = omega (arith, p.ends, q.ends, n.1, e.ends, two_digits a.r c.requires.1) }
+    record { put = put_as (line-two (bytes "breaks") (decimal a.r) (node_name_at a.names.now a.v.0)) (put_then (put_then (put_then p q) n.put) e); upper_bound = omega (arith, p.ends, q.ends, n.upper_bound, e.ends, two_digits a.r c.requires.1) }

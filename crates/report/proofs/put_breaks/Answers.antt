@@ -30,7 +30,7 @@ loop-i-preserved c =
     let a = c.args in
     let l = c.loop-i in
     let p = c.put_break-at.ensures in
-    (omega (arith, c.loop-i-test.true), omega (arith, l.invariant.1, p.1), put-length p.0 ∙ l.invariant.2, put_as (lines_more a.r (node_name_at a.names.now) a.list.now l.i c.loop-i-test.true) (put_then l.invariant.3 p.0))
+    (omega (arith, c.loop-i-test.true), omega (arith, l.invariant.1, p.upper_bound), put-length p.put ∙ l.invariant.2, put_as (lines_more a.r (node_name_at a.names.now) a.list.now l.i c.loop-i-test.true) (put_then l.invariant.3 p.put))
 
 pub returns : goal.returns
 returns c =

@@ -18,7 +18,7 @@ use Rattle.report.proofs.Answers.{part-answers, part_room, refused_on, written_o
 use Rattle.report.proofs.report_part.Goals as goal
 
 pub returns-then-not-long_enough : goal.returns-then-not-long_enough
-returns-then-not-long_enough c = refused_on (short (part-answers c.args.names.now c.args.cells.now c.args.values.now c.args.lists.now c.args.lengths.now c.args.part c.args.page.now) (sym c.long_enough.ensures ∙ not-true c.long_enough.result c.if-not-long_enough.true-raw))
+returns-then-not-long_enough c = let r = refused_on (short (part-answers c.args.names.now c.args.cells.now c.args.values.now c.args.lists.now c.args.lengths.now c.args.part c.args.page.now) (sym c.long_enough.ensures ∙ not-true c.long_enough.result c.if-not-long_enough.true-raw)) in record { result_value = r.0; new_page = r.1.0; result_in_bounds = r.1.1 }
 
 pub slice_bounds-cs-end : goal.slice_bounds-cs-end
 slice_bounds-cs-end c = sym (length-take-le cell_count c.args.cells.now (part_room c.args.names.now c.args.cells.now c.args.values.now c.args.lists.now c.args.lengths.now c.args.page.now (sym c.long_enough.ensures ∙ not-false c.long_enough.result c.if-not-long_enough.false-raw)).tables.cells)
@@ -27,7 +27,7 @@ pub part_ok-requires : goal.part_ok-requires
 part_ok-requires c = let l = part_room c.args.names.now c.args.cells.now c.args.values.now c.args.lists.now c.args.lengths.now c.args.page.now (sym c.long_enough.ensures ∙ not-false c.long_enough.result c.if-not-long_enough.false-raw) in (l.first, l.second)
 
 pub returns-then-not-part_ok : goal.returns-then-not-part_ok
-returns-then-not-part_ok c = refused_on (malformed (part-answers c.args.names.now c.args.cells.now c.args.values.now c.args.lists.now c.args.lengths.now c.args.part c.args.page.now) (sym c.long_enough.ensures ∙ not-false c.long_enough.result c.if-not-long_enough.false-raw) (sym c.part_ok.ensures ∙ not-true c.part_ok.result c.if-not-part_ok.true-raw))
+returns-then-not-part_ok c = let r = refused_on (malformed (part-answers c.args.names.now c.args.cells.now c.args.values.now c.args.lists.now c.args.lengths.now c.args.part c.args.page.now) (sym c.long_enough.ensures ∙ not-false c.long_enough.result c.if-not-long_enough.false-raw) (sym c.part_ok.ensures ∙ not-true c.part_ok.result c.if-not-part_ok.true-raw)) in record { result_value = r.0; new_page = r.1.0; result_in_bounds = r.1.1 }
 
 pub overflow_add-rule_count : goal.overflow_add-rule_count
 overflow_add-rule_count c =
@@ -37,8 +37,8 @@ overflow_add-rule_count c =
 
 pub returns-then-rule_count-part : goal.returns-then-rule_count-part
 returns-then-rule_count-part c =
-    refused_on (absent (part-answers c.args.names.now c.args.cells.now c.args.values.now c.args.lists.now c.args.lengths.now c.args.part c.args.page.now) (sym c.long_enough.ensures ∙ not-false c.long_enough.result c.if-not-long_enough.false-raw) (sym c.part_ok.ensures ∙ not-false c.part_ok.result c.if-not-part_ok.false-raw)
-    (ap (λ (n : ℕ). leb c.args.part (n + 1)) (sym c.rule_count.ensures) ∙ lt-leb c.args.part (c.rule_count.result + 1) c.if-rule_count-part.true))
+    let r = refused_on (absent (part-answers c.args.names.now c.args.cells.now c.args.values.now c.args.lists.now c.args.lengths.now c.args.part c.args.page.now) (sym c.long_enough.ensures ∙ not-false c.long_enough.result c.if-not-long_enough.false-raw) (sym c.part_ok.ensures ∙ not-false c.part_ok.result c.if-not-part_ok.false-raw)
+    (ap (λ (n : ℕ). leb c.args.part (n + 1)) (sym c.rule_count.ensures) ∙ lt-leb c.args.part (c.rule_count.result + 1) c.if-rule_count-part.true)) in record { result_value = r.0; new_page = r.1.0; result_in_bounds = r.1.1 }
 
 pub put_part-requires : goal.put_part-requires
 put_part-requires c =
@@ -49,6 +49,6 @@ put_part-requires c =
 
 pub returns : goal.returns
 returns c =
-    written_on (part-answers c.args.names.now c.args.cells.now c.args.values.now c.args.lists.now c.args.lengths.now c.args.part c.args.page.now) (sym c.long_enough.ensures ∙ not-false c.long_enough.result c.if-not-long_enough.false-raw) (sym c.part_ok.ensures ∙ not-false c.part_ok.result c.if-not-part_ok.false-raw)
+    let r = written_on (part-answers c.args.names.now c.args.cells.now c.args.values.now c.args.lists.now c.args.lengths.now c.args.part c.args.page.now) (sym c.long_enough.ensures ∙ not-false c.long_enough.result c.if-not-long_enough.false-raw) (sym c.part_ok.ensures ∙ not-false c.part_ok.result c.if-not-part_ok.false-raw)
     (ap (λ (n : ℕ). leb c.args.part (n + 1)) (sym c.rule_count.ensures) ∙ le-leb c.args.part (c.rule_count.result + 1) c.if-rule_count-part.false)
-    c.put_part.ensures
+    c.put_part.ensures in record { result_value = r.0; new_page = r.1.0; result_in_bounds = r.1.1 }

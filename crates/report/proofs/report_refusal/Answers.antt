@@ -15,7 +15,7 @@ use Rattle.report.proofs.report_refusal.Goals as goal
 pub returns-then-space-lt-REFUSAL_BYTES : goal.returns-then-space-lt-REFUSAL_BYTES
 returns-then-space-lt-REFUSAL_BYTES c =
     let a = c.args in
-    refused_on (short (refusal_answers (code_of a.refusal) (line_of a.refusal) a.space.now) (lt-leb refusal_count (length a.space.now) c.if-space-lt-REFUSAL_BYTES.true))
+    let r = refused_on (short (refusal_answers (code_of a.refusal) (line_of a.refusal) a.space.now) (lt-leb refusal_count (length a.space.now) c.if-space-lt-REFUSAL_BYTES.true)) in record { result_value = r.0; new_space = r.1.0; result_in_bounds = r.1.1 }
 
 pub put_refusal-requires : goal.put_refusal-requires
 put_refusal-requires c =
@@ -30,4 +30,4 @@ pub returns : goal.returns
 returns c =
     let a = c.args in
     let same : refusal_report c.code.result c.line.result ≡ refusal_report (code_of a.refusal) (line_of a.refusal) = ap (λ (n : ℕ). refusal_report n c.line.result) c.code.ensures ∙ ap (refusal_report (code_of a.refusal)) c.line.ensures in
-    written_on (refusal_answers (code_of a.refusal) (line_of a.refusal) a.space.now) (le-leb refusal_count (length a.space.now) c.if-space-lt-REFUSAL_BYTES.false) refl refl (put_as same c.put_refusal.ensures)
+    let r = written_on (refusal_answers (code_of a.refusal) (line_of a.refusal) a.space.now) (le-leb refusal_count (length a.space.now) c.if-space-lt-REFUSAL_BYTES.false) refl refl (put_as same c.put_refusal.ensures) in record { result_value = r.0; new_space = r.1.0; result_in_bounds = r.1.1 }
