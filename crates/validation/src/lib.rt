@@ -57,7 +57,7 @@ pub fn validate(
 ) -> Validated
     ensures demand3 { Demand3 book.now (lent names.old cells.old values.old plan.old work.old lists.old lengths.old) (answer_of result) (lent names.new cells.new values.new plan.new work.new lists.new lengths.new) }
     ensures result_value { answer_of result ≡ validate_answer book.now (lent names.old cells.old values.old plan.old work.old lists.old lengths.old) }
-    ensures new_lengths { lent names.new cells.new values.new plan.new work.new lists.new lengths.new ≡ after book.now (lent names.old cells.old values.old plan.old work.old lists.old lengths.old) }
+    ensures new_lent { lent names.new cells.new values.new plan.new work.new lists.new lengths.new ≡ after book.now (lent names.old cells.old values.old plan.old work.old lists.old lengths.old) }
 {
     if !long_enough(
         &names[..],

@@ -17,7 +17,7 @@ use Rattle.validation.proofs.Whole.{room, Meets, too_short, turned_down, taken, 
 use Rattle.validation.proofs.validate.Goals as goal
 
 pub returns-then-not-long_enough : goal.returns-then-not-long_enough
-returns-then-not-long_enough c = let a = c.args in too_short a.book.now (lent a.names.now a.cells.now a.values.now a.plan.now a.work.now a.lists.now a.lengths.now) (sym c.long_enough.ensures ∙ not-true c.long_enough.result c.if-not-long_enough.true-raw)
+returns-then-not-long_enough c = let a = c.args in let r = too_short a.book.now (lent a.names.now a.cells.now a.values.now a.plan.now a.work.now a.lists.now a.lengths.now) (sym c.long_enough.ensures ∙ not-true c.long_enough.result c.if-not-long_enough.true-raw) in record { demand3 = r.0; result_value = r.1.0; new_lent = r.1.1 }
 
 pub run_tables-requires : goal.run_tables-requires
 run_tables-requires c =
@@ -38,7 +38,8 @@ returns-in-Refused c =
     let t : long_enough a.names.now a.cells.now a.values.now ≡ true = (room l e).tables in
     let q : reading s ≡ refusal (code_of c.in-Refused.r) (line_of c.in-Refused.r) = was_refused s a.names.now a.cells.now a.values.now t c.read.result c.in-Refused.r c.read.ensures.result_value c.in-Refused.is in
     let o : Answer Book = refusal (code_of c.in-Refused.r) (line_of c.in-Refused.r) in
-    subst (Meets s l (refusal (code_of c.in-Refused.r) (line_of c.in-Refused.r))) (sym (lent_same (c.read.ensures.new_names ∙ names-left s a.names.now a.cells.now a.values.now t o q) (c.read.ensures.new_cells ∙ cells_left_lem s a.names.now a.cells.now a.values.now t o q) (c.read.ensures.new_values ∙ values-left s a.names.now a.cells.now a.values.now t o q) refl refl refl refl)) (turned_down s l e (code_of c.in-Refused.r) (line_of c.in-Refused.r) q)
+    let r = subst (Meets s l (refusal (code_of c.in-Refused.r) (line_of c.in-Refused.r))) (sym (lent_same (c.read.ensures.new_names ∙ names-left s a.names.now a.cells.now a.values.now t o q) (c.read.ensures.new_cells ∙ cells_left_lem s a.names.now a.cells.now a.values.now t o q) (c.read.ensures.new_values ∙ values-left s a.names.now a.cells.now a.values.now t o q) refl refl refl refl)) (turned_down s l e (code_of c.in-Refused.r) (line_of c.in-Refused.r) q) in
+    record { demand3 = r.0; result_value = r.1.0; new_lent = r.1.1 }
 
 pub returns-in-Accepted : goal.returns-in-Accepted
 returns-in-Accepted c =
@@ -54,4 +55,5 @@ returns-in-Accepted c =
     let m = lent_same t.names t.cells t.values (c.run_tables.ensures.new_plan ∙ ap (λ k. plan_of k ++ drop plan_count a.plan.now) E) (c.run_tables.ensures.new_work ∙ (λ j. filled (G j) (E j) (F j) (plan_of (E j)) a.work.now)) (c.run_tables.ensures.new_lists ∙ rows_of t a.lists.now) (c.run_tables.ensures.new_lengths ∙ lengths_of t a.lengths.now) in
     let n₁ = sym n in
     let m₁ = sym m in
-    subst (λ (z : Answer ℕ × Lent). Meets s l z.0 z.1) (λ j. (value (n₁ j), m₁ j)) (taken s l e t.book t.read)
+    let r = subst (λ (z : Answer ℕ × Lent). Meets s l z.0 z.1) (λ j. (value (n₁ j), m₁ j)) (taken s l e t.book t.read) in
+    record { demand3 = r.0; result_value = r.1.0; new_lent = r.1.1 }
