@@ -272,7 +272,7 @@ pub extern "C" fn melivanoup_validate(
     ensures value { result ≡ refusal_number (validate_answer book.now (lent names.old cells.old values.old plan.old work.old lists.old lengths.old)) }
     ensures new_line { line.new ≡ refusal_line (validate_answer book.now (lent names.old cells.old values.old plan.old work.old lists.old lengths.old)) }
     ensures new_steps { steps.new ≡ value_or 0 (validate_answer book.now (lent names.old cells.old values.old plan.old work.old lists.old lengths.old)) }
-    ensures new_lengths { lent names.new cells.new values.new plan.new work.new lists.new lengths.new ≡ after book.now (lent names.old cells.old values.old plan.old work.old lists.old lengths.old) }
+    ensures new_lent { lent names.new cells.new values.new plan.new work.new lists.new lengths.new ≡ after book.now (lent names.old cells.old values.old plan.old work.old lists.old lengths.old) }
 {
     match validate(book, names, cells, values, plan, work, lists, lengths) {
         Validated::Steps(n) => {

@@ -8,9 +8,9 @@ use Rattle.melivanoup.proofs.melivanoup_read.Goals as goal
 pub returns-in-Accepted : goal.returns-in-Accepted
 returns-in-Accepted c =
     let q = ap answer_of (sym c.in-Accepted.is) ∙ c.read.ensures.result_value in
-    (ap refusal_number q, (ap refusal_line q, (ap (λ (a : Answer Counts). (value_or no_counts a).nodes) q, (ap (λ (a : Answer Counts). (value_or no_counts a).facts) q, (ap (λ (a : Answer Counts). (value_or no_counts a).rules) q, c.read.ensures.1)))))
+    record { value = ap refusal_number q; new_line = ap refusal_line q; new_nodes = ap (λ (a : Answer Counts). (value_or no_counts a).nodes) q; new_facts = ap (λ (a : Answer Counts). (value_or no_counts a).facts) q; new_rules = ap (λ (a : Answer Counts). (value_or no_counts a).rules) q; new_names = c.read.ensures.new_names; new_cells = c.read.ensures.new_cells; new_values = c.read.ensures.new_values }
 
 pub returns-in-Refused : goal.returns-in-Refused
 returns-in-Refused c =
     let q = ap answer_of (sym c.in-Refused.is) ∙ c.read.ensures.result_value in
-    (c.with_line.ensures.value ∙ ap refusal_number q, (c.with_line.ensures.new_line ∙ ap refusal_line q, (ap (λ (a : Answer Counts). (value_or no_counts a).nodes) q, (ap (λ (a : Answer Counts). (value_or no_counts a).facts) q, (ap (λ (a : Answer Counts). (value_or no_counts a).rules) q, c.read.ensures.1)))))
+    record { value = c.with_line.ensures.value ∙ ap refusal_number q; new_line = c.with_line.ensures.new_line ∙ ap refusal_line q; new_nodes = ap (λ (a : Answer Counts). (value_or no_counts a).nodes) q; new_facts = ap (λ (a : Answer Counts). (value_or no_counts a).facts) q; new_rules = ap (λ (a : Answer Counts). (value_or no_counts a).rules) q; new_names = c.read.ensures.new_names; new_cells = c.read.ensures.new_cells; new_values = c.read.ensures.new_values }
