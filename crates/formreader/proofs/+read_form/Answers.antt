@@ -57,13 +57,18 @@ pub returns-in_default : goal.returns-in_default
 returns-in_default t c =
     let s = c.args in
     let front : Front = c.in-Part.p in
-    record { form_read = λ a h b bf bp bi.
+    record {
+      form_read = λ a h b bf bp bi.
           let x = (part_read s.book.now a (readers_at s.book.now a (s.left - 1)) (form_begun b) (arg_at s.book.now a (readers_at s.book.now a s.left) form b s.at) (begun_of s.n) s.cells.now c.open_form.new.cells s.values.now c.open_form.new.values c.open_form.result (c.open_form.ensures.open_read a h b bf bp bi) front c.in-Part.is) in
           let b1 = begun_with x.frame (form_begun b) in
           let g = begun_with_lem s.n.paths x.frame front.next front (form_begun b) x.holds bp in
           let g0 : b1.forms ≡ s.n.forms + (s.up + 1) = begun_forms s.n.forms s.up b.forms bf g.0 in
           let y = c.read_form-first.ensures.form_read a h b1 g0 g.1 (g.2 ∙ bi) in
-          form_no c.in_default.field-0 (x.rest ∙ child_refused s.book.now a (readers_at s.book.now a (s.left - 1)) b1 front.next x.frame c.in_default.field-0 (form_refused c.in_default.field-0 y c.in_default.is)) c.in_default.is; forms_within = rw c.in_default.is tt; cells_unchanged = c.read_form-first.ensures.cells_unchanged ∙ c.open_form.ensures.cells_unchanged; values_unchanged = c.read_form-first.ensures.values_unchanged ∙ c.open_form.ensures.values_unchanged }
+          form_no c.in_default.field-0 (x.rest ∙ child_refused s.book.now a (readers_at s.book.now a (s.left - 1)) b1 front.next x.frame c.in_default.field-0 (form_refused c.in_default.field-0 y c.in_default.is)) c.in_default.is;
+      forms_within = rw c.in_default.is tt;
+      cells_unchanged = c.read_form-first.ensures.cells_unchanged ∙ c.open_form.ensures.cells_unchanged;
+      values_unchanged = c.read_form-first.ensures.values_unchanged ∙ c.open_form.ensures.values_unchanged;
+    }
 
 pub close_child-requires : goal.close_child-requires
 close_child-requires t c =
@@ -93,7 +98,8 @@ returns-then-p-gt-FORM_OR t c =
     let w1 = within-is s.n.forms (s.up + 1) (length s.book.now) c.read_form-first.result l next c.read_form-first.ensures.forms_within c.in-Is.is in
     let h1 : 4 < front.code = c.if-p-gt-FORM_OR.true in
     let u = w1.0 in
-    let v = w1.1 in record { form_read = λ a h b bf bp bi.
+    let v = w1.1 in record {
+      form_read = λ a h b bf bp bi.
           let x = (part_read s.book.now a (readers_at s.book.now a (s.left - 1)) (form_begun b) (arg_at s.book.now a (readers_at s.book.now a s.left) form b s.at) (begun_of s.n) s.cells.now c.open_form.new.cells s.values.now c.open_form.new.values c.open_form.result (c.open_form.ensures.open_read a h b bf bp bi) front c.in-Part.is) in
           let b1 = begun_with x.frame (form_begun b) in
           let g = begun_with_lem s.n.paths x.frame front.next front (form_begun b) x.holds bp in
@@ -101,7 +107,11 @@ returns-then-p-gt-FORM_OR t c =
           let y = c.read_form-first.ensures.form_read a h b1 g0 g.1 (g.2 ∙ bi) in
           let z = form_got l next y c.in-Is.is in
           form_is_lem (x.rest ∙ one-rest s.book.now a (readers_at s.book.now a (s.left - 1)) b1 front.next z.tree next z.is x.frame (subst (λ (j : ℕ). 4 < j) (front-code s.n.paths x.frame front.next front x.holds) h1))
-          (closed_form_lem s.book.now next l a (put_child front l.forms c.read_form-first.new.cells) c.read_form-first.new.cells (one_closes s.n s.cells.now s.values.now z.tree x.frame front.next front x.holds c.open_form.new.cells c.open_form.new.values x.cells x.values l c.read_form-first.new.cells c.read_form-first.new.values z.ended z.cells z.values h1) c.close_child.ensures.value c.close_child.ensures.new_cells); forms_within = rw c.close_child.ensures.value (closed-within s.book.now next l s.n.forms s.up (omega arith) (omega arith) w1.2 w1.3); cells_unchanged = c.close_child.ensures.cells_unchanged ∙ (c.read_form-first.ensures.cells_unchanged ∙ c.open_form.ensures.cells_unchanged); values_unchanged = c.read_form-first.ensures.values_unchanged ∙ c.open_form.ensures.values_unchanged }
+          (closed_form_lem s.book.now next l a (put_child front l.forms c.read_form-first.new.cells) c.read_form-first.new.cells (one_closes s.n s.cells.now s.values.now z.tree x.frame front.next front x.holds c.open_form.new.cells c.open_form.new.values x.cells x.values l c.read_form-first.new.cells c.read_form-first.new.values z.ended z.cells z.values h1) c.close_child.ensures.value c.close_child.ensures.new_cells);
+      forms_within = rw c.close_child.ensures.value (closed-within s.book.now next l s.n.forms s.up (omega arith) (omega arith) w1.2 w1.3);
+      cells_unchanged = c.close_child.ensures.cells_unchanged ∙ (c.read_form-first.ensures.cells_unchanged ∙ c.open_form.ensures.cells_unchanged);
+      values_unchanged = c.read_form-first.ensures.values_unchanged ∙ c.open_form.ensures.values_unchanged;
+    }
 
 pub read_form-second-requires : goal.read_form-second-requires
 read_form-second-requires t c =
@@ -129,7 +139,8 @@ returns-in_default-second t c =
     let front : Front = c.in-Part.p in
     let l : Ended = c.in-Is.l in
     let next : ℕ = c.in-Is.next in
-    let h1 : front.code ≤ 4 = c.if-p-gt-FORM_OR.false in record { form_read = λ a h b bf bp bi.
+    let h1 : front.code ≤ 4 = c.if-p-gt-FORM_OR.false in record {
+      form_read = λ a h b bf bp bi.
           let x = (part_read s.book.now a (readers_at s.book.now a (s.left - 1)) (form_begun b) (arg_at s.book.now a (readers_at s.book.now a s.left) form b s.at) (begun_of s.n) s.cells.now c.open_form.new.cells s.values.now c.open_form.new.values c.open_form.result (c.open_form.ensures.open_read a h b bf bp bi) front c.in-Part.is) in
           let b1 = begun_with x.frame (form_begun b) in
           let g = begun_with_lem s.n.paths x.frame front.next front (form_begun b) x.holds bp in
@@ -138,7 +149,11 @@ returns-in_default-second t c =
           let z = form_got l next y c.in-Is.is in
           let d = begun_after b1 (record { forms = s.n.forms; paths = front.paths; items = s.n.items }) l (s.up + 1) z.tree g0 g.1 (g.2 ∙ bi) z.ended in
           let y2 = c.read_form-second.ensures.form_read a h (after form z.tree b1) d.0 d.1 d.2 in
-          form_no c.in_default-second.field-0 (x.rest ∙ second_refused s.book.now a (readers_at s.book.now a (s.left - 1)) b1 front.next z.tree next z.is x.frame c.in_default-second.field-0 (subst (λ (j : ℕ). j ≤ 4) (front-code s.n.paths x.frame front.next front x.holds) h1) (form_refused c.in_default-second.field-0 y2 c.in_default-second.is)) c.in_default-second.is; forms_within = rw c.in_default-second.is tt; cells_unchanged = c.read_form-second.ensures.cells_unchanged ∙ (c.read_form-first.ensures.cells_unchanged ∙ c.open_form.ensures.cells_unchanged); values_unchanged = c.read_form-second.ensures.values_unchanged ∙ (c.read_form-first.ensures.values_unchanged ∙ c.open_form.ensures.values_unchanged) }
+          form_no c.in_default-second.field-0 (x.rest ∙ second_refused s.book.now a (readers_at s.book.now a (s.left - 1)) b1 front.next z.tree next z.is x.frame c.in_default-second.field-0 (subst (λ (j : ℕ). j ≤ 4) (front-code s.n.paths x.frame front.next front x.holds) h1) (form_refused c.in_default-second.field-0 y2 c.in_default-second.is)) c.in_default-second.is;
+      forms_within = rw c.in_default-second.is tt;
+      cells_unchanged = c.read_form-second.ensures.cells_unchanged ∙ (c.read_form-first.ensures.cells_unchanged ∙ c.open_form.ensures.cells_unchanged);
+      values_unchanged = c.read_form-second.ensures.values_unchanged ∙ (c.read_form-first.ensures.values_unchanged ∙ c.open_form.ensures.values_unchanged);
+    }
 
 pub overflow_sub-l : goal.overflow_sub-l
 overflow_sub-l t c =
@@ -227,7 +242,8 @@ returns-in-Is-second t c =
     let h1 : front.code ≤ 4 = c.if-p-gt-FORM_OR.false in
     let u = w1.0 in
     let v = w2.0 in
-    let t' = w2.1 in record { form_read = λ a h b bf bp bi.
+    let t' = w2.1 in record {
+      form_read = λ a h b bf bp bi.
           let x = (part_read s.book.now a (readers_at s.book.now a (s.left - 1)) (form_begun b) (arg_at s.book.now a (readers_at s.book.now a s.left) form b s.at) (begun_of s.n) s.cells.now c.open_form.new.cells s.values.now c.open_form.new.values c.open_form.result (c.open_form.ensures.open_read a h b bf bp bi) front c.in-Part.is) in
           let b1 = begun_with x.frame (form_begun b) in
           let g = begun_with_lem s.n.paths x.frame front.next front (form_begun b) x.holds bp in
@@ -238,4 +254,8 @@ returns-in-Is-second t c =
           let y2 = c.read_form-second.ensures.form_read a h (after form z.tree b1) d.0 d.1 d.2 in
           let z2 = form_got k last y2 c.in-Is-second.is in
           form_is_lem (x.rest ∙ two-rest s.book.now a (readers_at s.book.now a (s.left - 1)) b1 front.next z.tree next z.is x.frame z2.tree last (subst (λ (j : ℕ). j ≤ 4) (front-code s.n.paths x.frame front.next front x.holds) h1) z2.is)
-          (closed_form_lem s.book.now last k a (put_form k.forms front.code (l.forms - 1) (k.forms - 1) 0 0 c.read_form-second.new.cells) c.read_form-second.new.cells (two_closes s.n s.cells.now s.values.now z.tree x.frame front.next front x.holds c.open_form.new.cells c.open_form.new.values x.cells x.values l c.read_form-first.new.cells c.read_form-first.new.values z.ended z.cells z.values h1 z2.tree k c.read_form-second.new.cells c.read_form-second.new.values z2.ended z2.cells z2.values) c.close_form.ensures.value c.close_form.ensures.new_cells); forms_within = rw c.close_form.ensures.value (closed-within s.book.now last k s.n.forms s.up (omega arith) (omega arith) w2.2 w2.3); cells_unchanged = c.close_form.ensures.cells_unchanged ∙ (c.read_form-second.ensures.cells_unchanged ∙ (c.read_form-first.ensures.cells_unchanged ∙ c.open_form.ensures.cells_unchanged)); values_unchanged = c.read_form-second.ensures.values_unchanged ∙ (c.read_form-first.ensures.values_unchanged ∙ c.open_form.ensures.values_unchanged) }
+          (closed_form_lem s.book.now last k a (put_form k.forms front.code (l.forms - 1) (k.forms - 1) 0 0 c.read_form-second.new.cells) c.read_form-second.new.cells (two_closes s.n s.cells.now s.values.now z.tree x.frame front.next front x.holds c.open_form.new.cells c.open_form.new.values x.cells x.values l c.read_form-first.new.cells c.read_form-first.new.values z.ended z.cells z.values h1 z2.tree k c.read_form-second.new.cells c.read_form-second.new.values z2.ended z2.cells z2.values) c.close_form.ensures.value c.close_form.ensures.new_cells);
+      forms_within = rw c.close_form.ensures.value (closed-within s.book.now last k s.n.forms s.up (omega arith) (omega arith) w2.2 w2.3);
+      cells_unchanged = c.close_form.ensures.cells_unchanged ∙ (c.read_form-second.ensures.cells_unchanged ∙ (c.read_form-first.ensures.cells_unchanged ∙ c.open_form.ensures.cells_unchanged));
+      values_unchanged = c.read_form-second.ensures.values_unchanged ∙ (c.read_form-first.ensures.values_unchanged ∙ c.open_form.ensures.values_unchanged);
+    }

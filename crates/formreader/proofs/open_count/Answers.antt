@@ -49,7 +49,11 @@ returns-in-Is-read_high c =
     let s = c.args in
     let lo : ℕ = c.in-Is.low in
     let mid : ℕ = c.in-Is.mid in
-    let next : ℕ = c.in-Is-read_high.next in record { open_read = λ a h b e vs.
+    let next : ℕ = c.in-Is-read_high.next in record {
+      open_read = λ a h b e vs.
           let y = item_got upper_number (arg_at s.book.now a (readers_at s.book.now a (s.left - 1)) high b mid) c.read_high.result c.in-Is-read_high.high next (c.read_high.ensures.reads a (readers_at s.book.now a (s.left - 1)) b) c.in-Is-read_high.is in
           rw (count-rest s.book.now a (s.left - 1) b s.at lo mid (number_got (arg_at s.book.now a (readers_at s.book.now a (s.left - 1)) low b s.at) c.read_low.result lo mid (c.read_low.ensures.reads a (readers_at s.book.now a (s.left - 1)) b) c.in-Is.is) y.0 next y.1)
-          (c.open_path.ensures.open_read a h b e (times lo y.0) refl refl (sym y.2) vs); opened = c.open_path.ensures.opened; cells_unchanged = c.open_path.ensures.cells_unchanged }
+          (c.open_path.ensures.open_read a h b e (times lo y.0) refl refl (sym y.2) vs);
+      opened = c.open_path.ensures.opened;
+      cells_unchanged = c.open_path.ensures.cells_unchanged;
+    }

@@ -37,15 +37,21 @@ bounds-cells-v c =
 pub returns-then-cells-v-gt-NODE_BLANK : goal.returns-then-cells-v-gt-NODE_BLANK
 returns-then-cells-v-gt-NODE_BLANK c =
     let s = c.args in
-    record { reads = λ a h kinds R b.
+    record {
+      reads = λ a h kinds R b.
           let g = number_got (arg_at s.book.now a R (used nodes) b s.at) c.read_used-used.result c.in-Is.v c.in-Is.next (c.read_used-used.ensures.reads a h R b) c.in-Is.is in
           let k = sym (kinds c.in-Is.v (used_below s.book.now a R b nodes s.at c.in-Is.v c.in-Is.next g)) ∙ lt-leb (get_or s.cells.now (node_kinds + c.in-Is.v) 0) 1 c.if-cells-v-gt-NODE_BLANK.true in
-          rw (subject_got s.book.now a R b s.at c.in-Is.v c.in-Is.next g, k); below = tt }
+          rw (subject_got s.book.now a R b s.at c.in-Is.v c.in-Is.next g, k);
+      below = tt;
+    }
 
 pub returns : goal.returns
 returns c =
     let s = c.args in
-    record { reads = λ a h kinds R b.
+    record {
+      reads = λ a h kinds R b.
           let g = number_got (arg_at s.book.now a R (used nodes) b s.at) c.read_used-used.result c.in-Is.v c.in-Is.next (c.read_used-used.ensures.reads a h R b) c.in-Is.is in
           let k = sym (kinds c.in-Is.v (used_below s.book.now a R b nodes s.at c.in-Is.v c.in-Is.next g)) ∙ le-leb (get_or s.cells.now (node_kinds + c.in-Is.v) 0) 1 c.if-cells-v-gt-NODE_BLANK.false in
-          rw (subject_got s.book.now a R b s.at c.in-Is.v c.in-Is.next g, k); below = below-is _ _ c.read_used-used.result _ _ c.read_used-used.ensures.below c.in-Is.is }
+          rw (subject_got s.book.now a R b s.at c.in-Is.v c.in-Is.next g, k);
+      below = below-is _ _ c.read_used-used.result _ _ c.read_used-used.ensures.below c.in-Is.is;
+    }

@@ -15,13 +15,19 @@ returns-in_default c =
 pub returns-then-t-eq0 : goal.returns-then-t-eq0
 returns-then-t-eq0 c =
     let s = c.args in
-    record { reads = λ a h R b.
+    record {
+      reads = λ a h R b.
           let g = number_got (arg_at s.book.now a R (used types) b s.at) c.read_used-used.result c.in-Is.t c.in-Is.next (c.read_used-used.ensures.reads a h R b) c.in-Is.is in
-          rw (type_got s.book.now a R b s.at c.in-Is.t c.in-Is.next g, eq-eqb c.in-Is.t 0 c.if-t-eq0.true); below = tt }
+          rw (type_got s.book.now a R b s.at c.in-Is.t c.in-Is.next g, eq-eqb c.in-Is.t 0 c.if-t-eq0.true);
+      below = tt;
+    }
 
 pub returns : goal.returns
 returns c =
     let s = c.args in
-    record { reads = λ a h R b.
+    record {
+      reads = λ a h R b.
           let g = number_got (arg_at s.book.now a R (used types) b s.at) c.read_used-used.result c.in-Is.t c.in-Is.next (c.read_used-used.ensures.reads a h R b) c.in-Is.is in
-          rw (type_got s.book.now a R b s.at c.in-Is.t c.in-Is.next g, ne_eqb c.in-Is.t 0 c.if-t-eq0.false); below = below-is _ _ c.read_used-used.result _ _ c.read_used-used.ensures.below c.in-Is.is }
+          rw (type_got s.book.now a R b s.at c.in-Is.t c.in-Is.next g, ne_eqb c.in-Is.t 0 c.if-t-eq0.false);
+      below = below-is _ _ c.read_used-used.result _ _ c.read_used-used.ensures.below c.in-Is.is;
+    }

@@ -40,10 +40,13 @@ returns-in-At c =
     let z = sym c.byte.ensures ∙ c.if-byte-ne32.false in
     let w = slice (s.at + 1) end.result s.book.now in
     let n = sym c.is_well_named.ensures ∙ not-false _ c.if-not-is_well_named.false-raw in
-    let f = sym c.look_up.ensures ∙ c.in-At.is in record { reads = λ a h R b. rw (eq-eqb _ 32 z, used_known s.book.now a (s.at + 1) end.result end.ensures (pool_of s.pool) n c.in-At.k (sym (h.finds (pool_of s.pool) w n) ∙ f)); below = (
+    let f = sym c.look_up.ensures ∙ c.in-At.is in record {
+      reads = λ a h R b. rw (eq-eqb _ 32 z, used_known s.book.now a (s.at + 1) end.result end.ensures (pool_of s.pool) n c.in-At.k (sym (h.finds (pool_of s.pool) w n) ∙ f));
+      below = (
         found_below s.names.now (pool_base (pool_of s.pool)) (count_of s.counts (pool_of s.pool)) w c.in-At.k f,
         (item-within s.book.now s.at end.result 31 z end.ensures).1,
-      ) }
+      );
+    }
 
 pub returns-in-Nothing : goal.returns-in-Nothing
 unfolding arg_at

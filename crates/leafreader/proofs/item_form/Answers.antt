@@ -26,7 +26,11 @@ pub returns-in-Is : goal.returns-in-Is
 returns-in-Is c =
     let s = c.args in
     let p = c.requires in
-    let next : ℕ = c.in-Is.next in record { item_form = λ a R b k g at e m cs vs vs' f cl.
+    let next : ℕ = c.in-Is.next in record {
+      item_form = λ a R b k g at e m cs vs vs' f cl.
           let y = item_got g (arg_at s.book.now a R k b at) s.item c.in-Is.k next e c.in-Is.is in
           form_is_lem (rest-one s.book.now a R k f b at y.0 next y.1)
-          (closed_form_lem s.book.now next s.n a (put_item s.lone s.n.forms s.code s.first s.cells.now (g y.0)) s.cells.now (cl y.0) c.close_form.ensures.value (c.close_form.ensures.new_cells ∙ ap (λ (q : List ℕ). cond (eqb (get_or s.book.now next 0) 41) q s.cells.now) (put_item_lem s.lone s.n.forms s.code s.first s.cells.now c.pick_cell.result c.pick_cell-in-Is.result c.in-Is.k (g y.0) c.pick_cell.ensures c.pick_cell-in-Is.ensures y.2))); forms_within = rw c.close_form.ensures.value (closed-within s.book.now next s.n s.n.forms s.up (omega arith) p.0 p.1 p.2); cells_unchanged = c.close_form.ensures.cells_unchanged }
+          (closed_form_lem s.book.now next s.n a (put_item s.lone s.n.forms s.code s.first s.cells.now (g y.0)) s.cells.now (cl y.0) c.close_form.ensures.value (c.close_form.ensures.new_cells ∙ ap (λ (q : List ℕ). cond (eqb (get_or s.book.now next 0) 41) q s.cells.now) (put_item_lem s.lone s.n.forms s.code s.first s.cells.now c.pick_cell.result c.pick_cell-in-Is.result c.in-Is.k (g y.0) c.pick_cell.ensures c.pick_cell-in-Is.ensures y.2)));
+      forms_within = rw c.close_form.ensures.value (closed-within s.book.now next s.n s.n.forms s.up (omega arith) p.0 p.1 p.2);
+      cells_unchanged = c.close_form.ensures.cells_unchanged;
+    }

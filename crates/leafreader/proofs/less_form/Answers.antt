@@ -48,8 +48,12 @@ returns-in-Is c =
     let s = c.args in
     let m : ℕ = c.in-Is.m in
     let next : ℕ = c.in-Is.next in
-    let mid : List ℕ = c.read_path.new.cells in record { form_read = λ a h b q f sh vs.
+    let mid : List ℕ = c.read_path.new.cells in record {
+      form_read = λ a h b q f sh vs.
           let g = path_got m next (c.read_path.ensures.path_read a h b (q ∙ sym (add-zero s.n.paths))) c.in-Is.is in
           let b' = after path g.tree b in
           form_is_lem (rest_got s.book.now a (readers_at s.book.now a s.left) true path (used links ∷ []) (λ xs. f xs.0 xs.1.0) b s.at g.tree next g.is)
-          (c.item_form.ensures.item_form a (readers_at s.book.now a s.left) b' (used links) same next (c.read_used-item.ensures.reads a h (readers_at s.book.now a s.left) b') (begun_of s.n) s.cells.now vs vs (λ p. f g.tree p) (λ p. path_closes s.n m p s.cells.now mid vs f s.code sh g.tree g.count g.cells)); forms_within = c.item_form.ensures.forms_within; cells_unchanged = c.item_form.ensures.cells_unchanged ∙ c.read_path.ensures.cells_unchanged }
+          (c.item_form.ensures.item_form a (readers_at s.book.now a s.left) b' (used links) same next (c.read_used-item.ensures.reads a h (readers_at s.book.now a s.left) b') (begun_of s.n) s.cells.now vs vs (λ p. f g.tree p) (λ p. path_closes s.n m p s.cells.now mid vs f s.code sh g.tree g.count g.cells));
+      forms_within = c.item_form.ensures.forms_within;
+      cells_unchanged = c.item_form.ensures.cells_unchanged ∙ c.read_path.ensures.cells_unchanged;
+    }

@@ -35,8 +35,12 @@ returns-in-Is c =
     let m : ℕ = c.in-Is.m in
     let next : ℕ = c.in-Is.next in
     let mid : List ℕ = c.read_list.new.cells in
-    let w = counted_is _ _ _ c.read_list.result _ _ c.read_list.ensures.counted c.in-Is.is in record { form_read = λ a h R b q f sh vs.
+    let w = counted_is _ _ _ c.read_list.result _ _ c.read_list.ensures.counted c.in-Is.is in record {
+      form_read = λ a h R b q f sh vs.
           let x = list_at s.book.now a (pool_of s.pool) (max_items - s.n.items) s.at in
           let y = item_got (items_after s.n.items) x c.read_list.result m next (c.read_list.ensures.value a h) c.in-Is.is in
           form_is_lem (rest-one s.book.now a R (list (pool_of s.pool)) f b s.at y.0 next (list_arg s.book.now a R (pool_of s.pool) b s.n.items s.at q ∙ y.1))
-          (closed_form_lem s.book.now next (record { forms = s.n.forms; paths = s.n.paths; items = m }) a (put_form s.n.forms s.code s.n.items (m - s.n.items) 0 0 mid) mid (list_closes f s.code sh s.n m y.0 s.cells.now mid vs y.2 (listed_got x y.0 next s.n.items s.cells.now mid y.1 (c.read_list.ensures.listed a h))) c.close_form.ensures.value c.close_form.ensures.new_cells); forms_within = rw c.close_form.ensures.value (closed-within s.book.now next (record { forms = s.n.forms; paths = s.n.paths; items = m }) s.n.forms s.up (omega arith) p.3 p.4 w.1); cells_unchanged = c.close_form.ensures.cells_unchanged ∙ c.read_list.ensures.cells_unchanged }
+          (closed_form_lem s.book.now next (record { forms = s.n.forms; paths = s.n.paths; items = m }) a (put_form s.n.forms s.code s.n.items (m - s.n.items) 0 0 mid) mid (list_closes f s.code sh s.n m y.0 s.cells.now mid vs y.2 (listed_got x y.0 next s.n.items s.cells.now mid y.1 (c.read_list.ensures.listed a h))) c.close_form.ensures.value c.close_form.ensures.new_cells);
+      forms_within = rw c.close_form.ensures.value (closed-within s.book.now next (record { forms = s.n.forms; paths = s.n.paths; items = m }) s.n.forms s.up (omega arith) p.3 p.4 w.1);
+      cells_unchanged = c.close_form.ensures.cells_unchanged ∙ c.read_list.ensures.cells_unchanged;
+    }

@@ -37,7 +37,11 @@ returns-in-Is c =
     let m : ℕ = c.in-Is.m in
     let next : ℕ = c.in-Is.next in
     let mid : List ℕ = c.read_path.new.cells in
-    let w = (grown-is _ _ _ c.read_path.result _ _ c.read_path.ensures.grown c.in-Is.is).1 in record { form_read = λ a h b q vs.
+    let w = (grown-is _ _ _ c.read_path.result _ _ c.read_path.ensures.grown c.in-Is.is).1 in record {
+      form_read = λ a h b q vs.
           let g = path_got m next (c.read_path.ensures.path_read a h b (q ∙ sym (add-zero s.n.paths))) c.in-Is.is in
           form_is_lem (rest-one s.book.now a (readers_at s.book.now a s.left) path unique_lang b s.at g.tree next g.is)
-          (closed_form_lem s.book.now next (record { forms = s.n.forms; paths = m; items = s.n.items }) a (put_form s.n.forms codes.form_onelang (m - 1) 0 0 0 mid) mid (onelang_closes s.n s.cells.now vs m g.tree mid g.count g.cells) c.close_form.ensures.value c.close_form.ensures.new_cells); forms_within = rw c.close_form.ensures.value (closed-within s.book.now next (record { forms = s.n.forms; paths = m; items = s.n.items }) s.n.forms s.up (omega arith) p.3 (omega arith) p.5); cells_unchanged = c.close_form.ensures.cells_unchanged ∙ c.read_path.ensures.cells_unchanged }
+          (closed_form_lem s.book.now next (record { forms = s.n.forms; paths = m; items = s.n.items }) a (put_form s.n.forms codes.form_onelang (m - 1) 0 0 0 mid) mid (onelang_closes s.n s.cells.now vs m g.tree mid g.count g.cells) c.close_form.ensures.value c.close_form.ensures.new_cells);
+      forms_within = rw c.close_form.ensures.value (closed-within s.book.now next (record { forms = s.n.forms; paths = m; items = s.n.items }) s.n.forms s.up (omega arith) p.3 (omega arith) p.5);
+      cells_unchanged = c.close_form.ensures.cells_unchanged ∙ c.read_path.ensures.cells_unchanged;
+    }

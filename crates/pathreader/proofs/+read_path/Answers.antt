@@ -85,10 +85,14 @@ returns-then-code t c =
     let mid : List ℕ = c.read_path-first.new.cells in
     let code : ℕ = c.in-Word.code in
     let m : ℕ = c.in-Is.m in
-    let next : ℕ = c.in-Is.next in record { path_read = λ a h b q.
+    let next : ℕ = c.in-Is.next in record {
+      path_read = λ a h b q.
           let g = path_got m next (c.read_path-first.ensures.path_read a h (path_begun b) (begun_first b s.n s.up q)) c.in-Is.is in
           done_is (path_word_lem s.book.now a b s.at (s.n + s.up) q z c.path_head.result s.left c.in-Word.code c.in-Word.end c.path_head.ensures.value c.in-Word.is ∙ body_one s.book.now a (readers_at s.book.now a (s.left - 1)) (path_begun b) c.in-Word.end g.tree next g.is code one hw)
-          (closed_read s.book.now next m a (one_path code g.tree) s.n s.cells.now (put_path m (code + 1) (m - 1) 0 mid) mid c.close_path.new.cells c.close_path.result (one-count s.n m g.tree s.cells.now mid g.count g.cells code one hw) (one-stored s.n m g.tree s.cells.now mid g.count g.cells code one hw) c.close_path.ensures.value c.close_path.ensures.new_cells); grown = rw c.close_path.ensures.value (closed-grown s.book.now next m (s.n + 1) s.up (omega arith) (omega arith)); cells_unchanged = c.close_path.ensures.cells_unchanged ∙ c.read_path-first.ensures.cells_unchanged }
+          (closed_read s.book.now next m a (one_path code g.tree) s.n s.cells.now (put_path m (code + 1) (m - 1) 0 mid) mid c.close_path.new.cells c.close_path.result (one-count s.n m g.tree s.cells.now mid g.count g.cells code one hw) (one-stored s.n m g.tree s.cells.now mid g.count g.cells code one hw) c.close_path.ensures.value c.close_path.ensures.new_cells);
+      grown = rw c.close_path.ensures.value (closed-grown s.book.now next m (s.n + 1) s.up (omega arith) (omega arith));
+      cells_unchanged = c.close_path.ensures.cells_unchanged ∙ c.read_path-first.ensures.cells_unchanged;
+    }
 
 pub overflow_sub-left-in-Word : goal.overflow_sub-left-in-Word
 overflow_sub-left-in-Word t c =
@@ -116,9 +120,13 @@ returns-in_default-second t c =
     let s = c.args in
     let z = sym c.byte.ensures ∙ c.if-byte-ne32.false in
     let m : ℕ = c.in-Is.m in
-    let next : ℕ = c.in-Is.next in record { path_read = λ a h b q.
+    let next : ℕ = c.in-Is.next in record {
+      path_read = λ a h b q.
           let g = path_got m next (c.read_path-first.ensures.path_read a h (path_begun b) (begun_first b s.n s.up q)) c.in-Is.is in
-          done_no c.in_default-second.field-0 (path_word_lem s.book.now a b s.at (s.n + s.up) q z c.path_head.result s.left c.in-Word.code c.in-Word.end c.path_head.ensures.value c.in-Word.is ∙ body_second_refused s.book.now a (readers_at s.book.now a (s.left - 1)) (path_begun b) c.in-Word.end g.tree next g.is c.in-Word.code c.in_default-second.field-0 c.if-code.false (done_refused c.in_default-second.field-0 (c.read_path-second.ensures.path_read a h (after path g.tree (path_begun b)) (begun_second b s.n s.up m g.tree q g.count)) c.in_default-second.is)) c.in_default-second.is; grown = rw c.in_default-second.is tt; cells_unchanged = c.read_path-second.ensures.cells_unchanged ∙ c.read_path-first.ensures.cells_unchanged }
+          done_no c.in_default-second.field-0 (path_word_lem s.book.now a b s.at (s.n + s.up) q z c.path_head.result s.left c.in-Word.code c.in-Word.end c.path_head.ensures.value c.in-Word.is ∙ body_second_refused s.book.now a (readers_at s.book.now a (s.left - 1)) (path_begun b) c.in-Word.end g.tree next g.is c.in-Word.code c.in_default-second.field-0 c.if-code.false (done_refused c.in_default-second.field-0 (c.read_path-second.ensures.path_read a h (after path g.tree (path_begun b)) (begun_second b s.n s.up m g.tree q g.count)) c.in_default-second.is)) c.in_default-second.is;
+      grown = rw c.in_default-second.is tt;
+      cells_unchanged = c.read_path-second.ensures.cells_unchanged ∙ c.read_path-first.ensures.cells_unchanged;
+    }
 
 pub overflow_sub-l : goal.overflow_sub-l
 overflow_sub-l t c =
@@ -166,8 +174,12 @@ returns-in-Is-second t c =
     let m : ℕ = c.in-Is.m in
     let next : ℕ = c.in-Is.next in
     let l : ℕ = c.in-Is-second.l in
-    let stop : ℕ = c.in-Is-second.last in record { path_read = λ a h b q.
+    let stop : ℕ = c.in-Is-second.last in record {
+      path_read = λ a h b q.
           let g = path_got m next (c.read_path-first.ensures.path_read a h (path_begun b) (begun_first b s.n s.up q)) c.in-Is.is in
           let g2 = path_got l stop (c.read_path-second.ensures.path_read a h (after path g.tree (path_begun b)) (begun_second b s.n s.up m g.tree q g.count)) c.in-Is-second.is in
           done_is (path_word_lem s.book.now a b s.at (s.n + s.up) q z c.path_head.result s.left c.in-Word.code c.in-Word.end c.path_head.ensures.value c.in-Word.is ∙ body_joined s.book.now a (readers_at s.book.now a (s.left - 1)) (path_begun b) c.in-Word.end g.tree next g.is code g2.tree stop two g2.is)
-          (closed_read s.book.now stop l a (two_paths code g.tree g2.tree) s.n s.cells.now (put_path l (code + 1) (m - 1) (l - 1) last) last c.close_path-in-Word.new.cells c.close_path-in-Word.result (joined_count s.n m g.tree s.cells.now mid g.count g.cells l g2.tree last g2.count g2.cells code) (joined_stored s.n m g.tree s.cells.now mid g.count g.cells l g2.tree last g2.count g2.cells code two) c.close_path-in-Word.ensures.value c.close_path-in-Word.ensures.new_cells); grown = rw c.close_path-in-Word.ensures.value (closed-grown s.book.now stop l (s.n + 1) s.up (omega arith) (omega arith)); cells_unchanged = c.close_path-in-Word.ensures.cells_unchanged ∙ (c.read_path-second.ensures.cells_unchanged ∙ c.read_path-first.ensures.cells_unchanged) }
+          (closed_read s.book.now stop l a (two_paths code g.tree g2.tree) s.n s.cells.now (put_path l (code + 1) (m - 1) (l - 1) last) last c.close_path-in-Word.new.cells c.close_path-in-Word.result (joined_count s.n m g.tree s.cells.now mid g.count g.cells l g2.tree last g2.count g2.cells code) (joined_stored s.n m g.tree s.cells.now mid g.count g.cells l g2.tree last g2.count g2.cells code two) c.close_path-in-Word.ensures.value c.close_path-in-Word.ensures.new_cells);
+      grown = rw c.close_path-in-Word.ensures.value (closed-grown s.book.now stop l (s.n + 1) s.up (omega arith) (omega arith));
+      cells_unchanged = c.close_path-in-Word.ensures.cells_unchanged ∙ (c.read_path-second.ensures.cells_unchanged ∙ c.read_path-first.ensures.cells_unchanged);
+    }

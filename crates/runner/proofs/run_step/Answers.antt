@@ -14,5 +14,9 @@ returns c =
     let a = c.args in
     let pre = c.requires in
     let ws : List ℕ = a.work.now in
-    record { new_work = put-tail ws c.step_set-set.result.words a.k (length ws - 16 * a.k) (length-step (sub_of a.sub) a.cells.now a.values.now a.plan.now ws a.k c.step_set-set.ensures.words_value) (omega (arith, pre.1, pre.5)) refl c.store.ensures
-          ∙ ap (put ws a.k) c.step_set-set.ensures.words_value; rows_held = c.step_set-set.ensures.rows_held; rows_held_2 = c.step_set-set.ensures.rows_held_2 }
+    record {
+      new_work = put-tail ws c.step_set-set.result.words a.k (length ws - 16 * a.k) (length-step (sub_of a.sub) a.cells.now a.values.now a.plan.now ws a.k c.step_set-set.ensures.words_value) (omega (arith, pre.1, pre.5)) refl c.store.ensures
+          ∙ ap (put ws a.k) c.step_set-set.ensures.words_value;
+      rows_held = c.step_set-set.ensures.rows_held;
+      rows_held_2 = c.step_set-set.ensures.rows_held_2;
+    }

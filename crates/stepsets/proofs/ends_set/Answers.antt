@@ -24,6 +24,10 @@ returns c =
     let pre = c.requires in
     let cs = a.cells.now in
     let vs = a.values.now in
-    record { words_value = c.nodes_where.ensures
+    record {
+      words_value = c.nodes_where.ensures
           ∙ where_ext cs vs (sound cs pre.0.ok) a.condition (λ v. has (drop (16 * v) c.keep_ends.new.rows)) (starts (graph_at cs vs) (end_in cs a.end)) (λ v. has (drop (16 * v) c.keep_ends-2.new.rows)) (objects (graph_at cs vs) a.link.0)
-          (row_ends cs a.index.now pre.0 a.end c.keep_ends.ensures) (row_ends cs a.index.now pre.0 (Link a.link) c.keep_ends-2.ensures); rows_held = c.keep_ends.ensures; rows_held_2 = c.keep_ends-2.ensures }
+          (row_ends cs a.index.now pre.0 a.end c.keep_ends.ensures) (row_ends cs a.index.now pre.0 (Link a.link) c.keep_ends-2.ensures);
+      rows_held = c.keep_ends.ensures;
+      rows_held_2 = c.keep_ends-2.ensures;
+    }

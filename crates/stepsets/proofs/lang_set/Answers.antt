@@ -30,6 +30,9 @@ returns c =
     let cs = a.cells.now in
     let vs = a.values.now in
     let ws : List ℕ = c.languages-set.result.words in
-    record { words_value = c.nodes_where.ensures
+    record {
+      words_value = c.nodes_where.ensures
           ∙ where_ext cs vs (sound cs pre.0.ok) a.condition (λ v. has (drop (16 * v) c.keep_ends.new.rows)) (from (graph_at cs vs) (path_at cs a.path)) (λ v. has ws) (λ v. tagged cs)
-          (row_ends cs a.index.now pre.0 (Path a.path) c.keep_ends.ensures) (λ v l w lw. has_of (tagged cs) 16 c.languages-set.ensures w lw); rows_held = c.keep_ends.ensures }
+          (row_ends cs a.index.now pre.0 (Path a.path) c.keep_ends.ensures) (λ v l w lw. has_of (tagged cs) 16 c.languages-set.ensures w lw);
+      rows_held = c.keep_ends.ensures;
+    }

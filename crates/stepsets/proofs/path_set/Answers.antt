@@ -27,6 +27,9 @@ returns c =
     let pre = c.requires in
     let cs = a.cells.now in
     let vs = a.values.now in
-    record { words_value = c.nodes_where.ensures
+    record {
+      words_value = c.nodes_where.ensures
           ∙ where_ext cs vs (sound cs pre.0.ok) a.condition (λ v. has (drop (16 * v) c.keep_ends.new.rows)) (from (graph_at cs vs) (path_at cs a.path)) (λ v. has c.part.result.now) (λ v. has (drop (16 * a.step) a.work.now))
-          (row_ends cs a.index.now pre.0 (Path a.path) c.keep_ends.ensures) (λ v l w lw. ap (λ (d : List ℕ). has d w) c.part.ensures); rows_held = c.keep_ends.ensures }
+          (row_ends cs a.index.now pre.0 (Path a.path) c.keep_ends.ensures) (λ v l w lw. ap (λ (d : List ℕ). has d w) c.part.ensures);
+      rows_held = c.keep_ends.ensures;
+    }

@@ -14,13 +14,12 @@ returns-then-not-is_digit c =
     ∙ all-fails digit c.args.book.now c.args.end c.loop-i.i c.loop-i-test.true c.requires.1 (sym c.is_digit.ensures ∙ not-true _ c.if-not-is_digit.true-raw))
 
 pub loop-i-preserved : goal.loop-i-preserved
-loop-i-preserved c =
-    (
-      search rules,
-      search rules,
-      c.loop-i.invariant.2
-          ∙ all_more digit c.args.book.now c.args.end c.loop-i.i c.loop-i-test.true c.requires.1 (sym c.is_digit.ensures ∙ not-false _ c.if-not-is_digit.false-raw),
-    )
+loop-i-preserved c = (
+  search rules,
+  search rules,
+  c.loop-i.invariant.2
+      ∙ all_more digit c.args.book.now c.args.end c.loop-i.i c.loop-i-test.true c.requires.1 (sym c.is_digit.ensures ∙ not-false _ c.if-not-is_digit.false-raw),
+)
 
 pub returns : goal.returns
 returns c =

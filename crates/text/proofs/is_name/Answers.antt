@@ -24,13 +24,12 @@ returns-then-not-is_name_byte c =
     ∙ all-fails name_byte c.args.book.now c.args.end c.loop-i.i c.loop-i-test.true c.requires.1 (sym c.is_name_byte.ensures ∙ not-true _ c.if-not-is_name_byte.true-raw))
 
 pub loop-i-preserved : goal.loop-i-preserved
-loop-i-preserved c =
-    (
-      search rules,
-      search rules,
-      c.loop-i.invariant.2
-          ∙ all_more name_byte c.args.book.now c.args.end c.loop-i.i c.loop-i-test.true c.requires.1 (sym c.is_name_byte.ensures ∙ not-false _ c.if-not-is_name_byte.false-raw),
-    )
+loop-i-preserved c = (
+  search rules,
+  search rules,
+  c.loop-i.invariant.2
+      ∙ all_more name_byte c.args.book.now c.args.end c.loop-i.i c.loop-i-test.true c.requires.1 (sym c.is_name_byte.ensures ∙ not-false _ c.if-not-is_name_byte.false-raw),
+)
 
 pub returns : goal.returns
 returns c =

@@ -27,8 +27,7 @@ settle-requires-then-has_parts t c =
 
 pub fill-requires : goal.fill-requires
 fill-requires t c =
-    let r = c.requires in
-    (
+    let r = c.requires in (
       record { tables = r.tables; size = c.settle-then-has_parts.auto.memo ∙ c.settle.auto.memo ∙ r.size; right = c.settle-then-has_parts.ensures.right; entry = r.entry },
       parts-settled c.args.e c.unsettled-nodes.result.words c.asked-looked.ensures c.first_part.ensures c.settle.ensures c.second_part.ensures c.settle-then-has_parts.ensures,
     )
