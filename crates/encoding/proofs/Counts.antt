@@ -9,7 +9,7 @@ use lib.IntN.{pos}
 use Rattle.base.proofs.Columns.{at-flat, length-flat}
 use Rattle.model.specs.Paths.{Path, predicate, inverse, sequence, alternative, zero_or_more, one_or_more, End, self, along}
 use Rattle.model.specs.Shapes.{Test, node_kind, datatype, language_in, min_inclusive, min_exclusive, max_inclusive, max_exclusive, Shape, top, has_shape, has_value, conj, disj, neg, test, count, for_all, equals, disjoint, closed, less_than, less_than_eq, unique_lang}
-use Rattle.model.specs.Books.{Book, shape, Pool, nodes, links, types, langs, shapes, pool_number, new_triples, new_shapes, collect, names, rules}
+use Rattle.model.specs.Books.{Book, Pool, nodes, links, types, langs, shapes, pool_number, new_triples, new_shapes, collect, names, rules}
 use Rattle.model.specs.Sizes.{path_entries, end_entries, form_entries, shape_paths, test_items, list_items, sum_over, forms_in, paths_in, items_in}
 use Rattle.tables.specs.Layout.{cell_count, value_count, name_count, fact_count, path_count, form_count, item_count, rule_count}
 use Rattle.tables.specs.Entries.{PathEntry, inv, seq, alt, star, plus, Entry}

@@ -1,5 +1,5 @@
 -- Each bracket of the grammar against its row in the definitions: how it is written, what is asked of it, its depth, its entries.
-use Prim.Native.Nat.{ℕ, suc, ◌+◌}
+use Prim.Native.Nat.{ℕ, suc}
 use mathlib.Core.Path.{◌≡◌, refl, sym, ap, ◌∙◌}
 use mathlib.Core.List.{List, [], ◌∷◌, ◌++◌, map, append-nil}
 use mathlib.Core.Bool.{Bool, true, ◌&&◌, and-true, and_assoc}

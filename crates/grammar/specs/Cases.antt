@@ -5,7 +5,7 @@ use Rattle.base.specs.Bytes.{bytes}
 use Rattle.model.specs.Answers.{Answer, value, refusal}
 use Rattle.model.specs.Graph.{iri, numeric}
 use Rattle.model.specs.Paths.{Path, predicate, inverse, sequence, zero_or_more, one_or_more}
-use Rattle.model.specs.Shapes.{Shape, top, neg, unique_lang}
+use Rattle.model.specs.Shapes.{top, neg, unique_lang}
 use Rattle.model.specs.Books.{Book, type, node, shape, rules, list_of}
 
 -- lines, each ended by LF

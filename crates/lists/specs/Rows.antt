@@ -1,5 +1,5 @@
 -- The list of a rule, read off the work space; and the rows of all rules.
-use Rattle.std.specs.Prelude.{ℕ, zero, suc, ◌+◌, ◌*◌, List, ◌++◌, length, take, drop, set, get_or}
+use Rattle.std.specs.Prelude.{ℕ, zero, suc, ◌*◌, List, ◌++◌, length, take, drop, set, get_or}
 use Rattle.base.specs.Bounded.{members}
 use Rattle.nodeset.specs.Words.{has}
 use Rattle.model.specs.Limits.{max_nodes, max_rules}

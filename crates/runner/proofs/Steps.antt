@@ -6,7 +6,7 @@ use mathlib.Core.Bool.{Bool, true, ◌&&◌, ◌||◌}
 use mathlib.Core.Path.{◌≡◌, refl, ap, ap₂}
 use lib.Dec.{ltb, leb}
 use lib.IntN.{ℤ}
-use Rattle.base.specs.Bounded.{◌⇒◌, every}
+use Rattle.base.specs.Bounded.{◌⇒◌}
 use Rattle.base.proofs.Bools.{and_left, two-below}
 use Rattle.base.proofs.Bounded.{every_ext, size_ext}
 use Rattle.model.specs.Limits.{max_count}

@@ -1,5 +1,5 @@
 -- `busy_bit` meets its contract. The invariant: where nothing is in the words before word i, the row leads to none of their numbers.
-use Prim.Native.Nat.{◌%◌, ◌-◌}
+use Prim.Native.Nat.{◌%◌}
 use native.Mathlib.Omega.{arith}
 use Rattle.base.proofs.Bools.{never_both}
 use Rattle.closure.proofs.Digits.{empty-more, shifted-digit}

@@ -1,5 +1,4 @@
 -- `busy_bits` meets its contract. The invariant: the bits of the rows below v are there.
-use Prim.Native.Nat.{◌-◌}
 use native.Mathlib.Omega.{arith}
 use Rattle.closure.proofs.Gains.{busy_more}
 use borrow.Author.Rules.{rules}

@@ -1,5 +1,5 @@
 -- `close` meets its contract. The invariant: the rows lead through the nodes of the blocks below j.
-use Prim.Native.Nat.{ℕ, ◌+◌, ◌*◌, ◌-◌}
+use Prim.Native.Nat.{ℕ, ◌+◌, ◌*◌}
 use mathlib.Core.Path.{◌≡◌, subst}
 use native.Mathlib.Omega.{arith}
 use Rattle.closure.specs.Closing.{Closing}

@@ -1,5 +1,4 @@
 -- `close_block` meets its contract. The invariant: the rows of the block lead through its nodes below k.
-use Prim.Native.Nat.{◌-◌}
 use native.Mathlib.Omega.{arith}
 use Rattle.closure.specs.Closing.{RowsRoom}
 use Rattle.closure.proofs.Blocks.{closing-node, closing-inner}

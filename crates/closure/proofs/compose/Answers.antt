@@ -1,5 +1,5 @@
 -- `compose` meets its contract. The invariant: the rows have gained by the blocks below j.
-use Prim.Native.Nat.{◌*◌, ◌<◌, ◌-◌}
+use Prim.Native.Nat.{◌*◌, ◌<◌}
 use mathlib.Core.Path.{refl, ◌∙◌}
 use native.Mathlib.Omega.{arith}
 use Rattle.closure.proofs.Gains.{composed-none, composed-more, composed-all, mask_named}

@@ -1,5 +1,5 @@
 -- `compose_block` meets its contract. The invariant: the rows below v have gained, and sum is what the nodes lead to that the last of them has.
-use Prim.Native.Nat.{ℕ, ◌-◌}
+use Prim.Native.Nat.{ℕ}
 use mathlib.Core.Path.{◌≡◌, refl, sym, ap, ◌∙◌}
 use native.Mathlib.Nat.{le_of_eq}
 use native.Mathlib.Omega.{arith}

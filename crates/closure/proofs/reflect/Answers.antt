@@ -1,5 +1,4 @@
 -- `reflect` meets its contract. The invariant: each node below v is in its own row.
-use Prim.Native.Nat.{◌-◌}
 use mathlib.Core.Path.{refl, ◌∙◌}
 use native.Mathlib.Omega.{arith}
 use lib.ListN.{length}

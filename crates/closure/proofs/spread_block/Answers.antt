@@ -1,5 +1,5 @@
 -- `spread_block` meets its contract. The invariant: the rows below v have taken in theirs.
-use Prim.Native.Nat.{ℕ, ◌*◌, ◌-◌}
+use Prim.Native.Nat.{ℕ, ◌*◌}
 use mathlib.Core.Path.{◌≡◌, refl, ap, ◌∙◌}
 use native.Mathlib.Omega.{arith}
 use Rattle.closure.specs.Rows.{leads}

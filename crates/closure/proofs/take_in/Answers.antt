@@ -1,5 +1,4 @@
 -- `take_in` meets its contract. The invariant: the words before word i are taken in.
-use Prim.Native.Nat.{◌-◌}
 use mathlib.Core.Path.{refl, ◌∙◌}
 use native.Mathlib.Omega.{arith}
 use lib.ListN.{length-set}

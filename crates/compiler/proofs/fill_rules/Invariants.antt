@@ -6,7 +6,6 @@ use Rattle.base.specs.Lists.{values}
 use Rattle.tables.specs.Layout.{rule_count}
 use Rattle.plan.specs.Layout.{laid}
 use Rattle.translation.specs.Compile.{steps_to, rule_step}
-use borrow.Author.Rules.{rules}
 use Rattle.compiler.proofs.fill_rules.Given as goal
 
 abbrev pub invariant-loop-r : goal.invariant-loop-r

@@ -8,7 +8,6 @@ use Rattle.plan.specs.Layout.{plan_count}
 use Rattle.translation.specs.Compile.{steps_of}
 use Rattle.compiler.proofs.Loops.{forms-laid, plan-laid}
 use Rattle.translation.proofs.WellMade.{start_four, steps-few}
-use borrow.Author.Rules.{rules}
 use Rattle.compiler.proofs.make_plan.Goals as goal
 
 pub narrow-requires : goal.narrow-requires

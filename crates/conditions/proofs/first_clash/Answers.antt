@@ -1,6 +1,6 @@
 -- `first_clash` meets its contract. The invariants: each of the ends before place i has the language of none after it, and the one
 -- at place i that of none before place k.
-use Prim.Native.Nat.{ℕ, ◌-◌, ◌≤◌}
+use Prim.Native.Nat.{ℕ, ◌≤◌}
 use mathlib.Core.Bool.{true, ◌&&◌}
 use mathlib.Core.List.{List}
 use mathlib.Core.Path.{◌≡◌, refl, sym, ap, ◌∙◌, subst}

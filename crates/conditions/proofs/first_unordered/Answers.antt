@@ -1,6 +1,6 @@
 -- `first_unordered` meets its contract. The invariants: each member of a before x is with no member of b in a pair that is not so
 -- ordered, and x with none of the first k seconds.
-use Prim.Native.Nat.{ℕ, ◌-◌, ◌<◌}
+use Prim.Native.Nat.{ℕ, ◌<◌}
 use mathlib.Core.Bool.{Bool, true, not, ◌||◌}
 use mathlib.Core.Path.{◌≡◌, refl, sym, ap, ◌∙◌, subst}
 use native.Mathlib.Omega.{arith}

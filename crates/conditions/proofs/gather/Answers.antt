@@ -1,5 +1,4 @@
 -- `gather` meets its contract. The invariant: the first count places have the members before x.
-use Prim.Native.Nat.{◌-◌}
 use mathlib.Core.Bool.{◌&&◌}
 use mathlib.Core.Path.{refl, ◌∙◌}
 use native.Mathlib.Omega.{arith}

@@ -1,5 +1,4 @@
 -- `copy` meets its contract. The invariant: the first i numbers are stored.
-use Prim.Native.Nat.{◌-◌}
 use mathlib.Core.Path.{refl, sym, ap, ◌∙◌}
 use native.Mathlib.Omega.{arith}
 use lib.Seq.{take_all}

@@ -12,7 +12,6 @@ use Rattle.formreader.specs.declared.Front.{Front}
 use Rattle.formreader.specs.Frames.{begun_with, put_child}
 use Rattle.formreader.proofs.Frames.{whole_read, part_read, whole-within, part-within}
 use Rattle.formreader.proofs.Children.{front-code, begun_forms, begun_with_lem, begun_after, child_refused, one-rest, second_refused, two-rest, one_closes, two_closes}
-use borrow.Fn.PlainCycle.{is}
 use Rattle.formreader.proofs.+read_form.Goals as goal
 
 pub open_form-requires : goal.open_form-requires

@@ -1,4 +1,3 @@
-use Prim.Native.Nat.{◌-◌}
 use Rattle.formreader.proofs.+read_form.Given as goal
 
 abbrev pub decreases-read_form : goal.decreases-read_form

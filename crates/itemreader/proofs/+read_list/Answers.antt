@@ -15,7 +15,6 @@ use Rattle.itemreader.specs.declared.Item.{Item}
 use Rattle.itemreader.specs.Answers.{pool_of, same}
 use Rattle.itemreader.specs.Held.{Held}
 use Rattle.itemreader.proofs.Items.{number_got, item_refused, below-is, counted-less, count_limit, list_end, list_refused, list_full, list_more, more-answer, more-listed}
-use borrow.Fn.PlainCycle.{is}
 use Rattle.itemreader.proofs.+read_list.Goals as goal
 
 -- a list's names are read as they are anywhere

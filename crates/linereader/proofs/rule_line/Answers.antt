@@ -18,7 +18,6 @@ use Rattle.linereader.specs.declared.LineAnswer.{LineAnswer}
 use Rattle.linereader.specs.Storing.{ended_with, line_end, line_body}
 use Rattle.linereader.proofs.Bodies.{item-stop, done_no, done_yes, ended-no, ended-yes, ended-room, body_is, stop₁, stop₂, all₂, rule_cells, rule_room}
 use Rattle.linereader.proofs.Targets.{targeted_is, target_read, target-no}
-use borrow.Author.Rules.{rules}
 use Rattle.linereader.proofs.rule_line.Goals as goal
 
 pub returns-in_default : goal.returns-in_default

@@ -1,4 +1,3 @@
-use Prim.Native.Nat.{◌-◌}
 use native.Mathlib.Omega.{arith}
 use Rattle.nodeset.specs.Words.{has}
 use Rattle.lists.proofs.Rows.{listing_start, listing_more, listing_end, next_later}

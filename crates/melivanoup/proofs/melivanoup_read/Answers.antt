@@ -2,7 +2,6 @@ use mathlib.Core.Path.{sym, ap, ◌∙◌}
 use Rattle.model.specs.Answers.{Answer, refusal_number, refusal_line, value_or}
 use Rattle.model.specs.declared.Counts.{Counts}
 use Rattle.reader.specs.Answers.{no_counts, answer_of}
-use borrow.Author.Rules.{rules}
 use Rattle.melivanoup.proofs.melivanoup_read.Goals as goal
 
 pub returns-in-Accepted : goal.returns-in-Accepted

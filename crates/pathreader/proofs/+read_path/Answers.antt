@@ -11,7 +11,6 @@ use Rattle.grammar.specs.Reading.{path_begun, after, readers_at}
 use Rattle.stores.specs.Entries.{put_path}
 use Rattle.itemreader.proofs.Heads.{headed-word}
 use Rattle.pathreader.proofs.Paths.{done_no, done_is, path_got, done_refused, path_unspaced, path_bare, path_head_refused, path_word_lem, one_path, two_paths, body_refused, body_one, body_second_refused, body_joined, begun_first, begun_second, one-count, one-stored, joined_count, joined_stored, closed_read, closed-grown, grown-is}
-use borrow.Fn.PlainCycle.{is}
 use Rattle.pathreader.proofs.+read_path.Goals as goal
 
 pub returns-then-byte-ne32 : goal.returns-then-byte-ne32

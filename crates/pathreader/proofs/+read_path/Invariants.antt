@@ -1,4 +1,3 @@
-use Prim.Native.Nat.{◌-◌}
 use Rattle.pathreader.proofs.+read_path.Given as goal
 
 abbrev pub decreases-read_path : goal.decreases-read_path

@@ -6,7 +6,6 @@ use mathlib.Core.Path.{◌≡◌, refl, sym, ap, ap₂, ◌∙◌, subst}
 use native.Mathlib.Omega.{arith}
 use lib.Dec.{eqb}
 use lib.ListN.{replicate}
-use borrow.Fn.PlainCycle.{is}
 use Rattle.model.specs.Limits.{max_nodes}
 use Rattle.model.specs.Paths.{Path}
 use Rattle.tables.specs.Codes as codes

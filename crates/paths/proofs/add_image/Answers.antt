@@ -1,5 +1,4 @@
 -- `add_image` meets its contract. The invariant: the nodes below w have joined.
-use Prim.Native.Nat.{◌-◌}
 use mathlib.Core.Path.{refl, ◌∙◌}
 use native.Mathlib.Omega.{arith}
 use Rattle.paths.proofs.Repeats.{gained-none, gained-more, gain_one}

@@ -1,5 +1,4 @@
 -- `join_itself` meets its contract. The invariant: the nodes below x have joined.
-use Prim.Native.Nat.{◌-◌}
 use mathlib.Core.Path.{refl, ◌∙◌}
 use native.Mathlib.Omega.{arith}
 use borrow.Author.Rules.{rules}

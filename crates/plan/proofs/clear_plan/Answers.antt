@@ -1,5 +1,4 @@
 -- The loop stores zeros from the front.
-use Prim.Native.Nat.{◌-◌}
 use native.Mathlib.Omega.{arith}
 use Rattle.plan.specs.Layout.{plan_count}
 use Rattle.tables.proofs.Cleared.{filled_none, filled_more, filled-all}

@@ -1,5 +1,4 @@
 -- `clear` meets its contract. The invariant: the words below i are cleared.
-use Prim.Native.Nat.{◌-◌}
 use mathlib.Core.Path.{refl, ◌∙◌}
 use native.Mathlib.Omega.{arith}
 use lib.ListN.{length-set}

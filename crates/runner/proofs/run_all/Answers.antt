@@ -1,5 +1,4 @@
 -- `run_all` meets its contract. The invariant: the steps below k have their words, and the rows what they are said to hold.
-use Prim.Native.Nat.{◌-◌}
 use mathlib.Core.Path.{refl, sym, ap, ◌∙◌, subst}
 use native.Mathlib.Omega.{arith}
 use Rattle.tables.proofs.WellFormed.{sound}

@@ -1,4 +1,3 @@
-use Prim.Native.Nat.{◌-◌}
 use lib.Seq.{slice}
 use Rattle.text.proofs.Hashes.{Walk}
 use Rattle.text.proofs.find_chained.Given as goal

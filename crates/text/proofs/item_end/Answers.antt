@@ -1,4 +1,3 @@
-use Prim.Native.Nat.{◌-◌}
 use mathlib.Core.Path.{refl, sym, ◌∙◌}
 use Rattle.text.proofs.Items.{item_end_out, item_end-edge, item_end-step}
 use Rattle.text.proofs.item_end.Goals as goal

@@ -1,4 +1,4 @@
-use Prim.Native.Nat.{◌-◌, zero-le}
+use Prim.Native.Nat.{zero-le}
 use native.Mathlib.Omega.{arith}
 use Rattle.text.specs.Pool.{zero_at}
 use Rattle.text.proofs.Same.{every-none, every-next, every-end}

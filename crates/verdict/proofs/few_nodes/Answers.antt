@@ -1,5 +1,4 @@
 -- `few_nodes` is safe and ends; it promises nothing more.
-use Prim.Native.Nat.{◌-◌}
 use native.Mathlib.Omega.{arith}
 use Rattle.verdict.proofs.few_nodes.Goals as goal
 

@@ -1,7 +1,7 @@
 -- `fill` meets its contract. The invariant: all nodes before x are settled, and nothing that was known is lost.
 use borrow.Author.Rules.{rules}
 use mathlib.Core.Path.{sym, ◌∙◌}
-use Prim.Native.Nat.{◌-◌, ◌<◌}
+use Prim.Native.Nat.{◌<◌}
 use native.Mathlib.Omega.{arith}
 use Rattle.base.proofs.Least.{next-after}
 use Rattle.nodeset.specs.Words.{has}

@@ -2,7 +2,6 @@
 use Rattle.tables.specs.Layout.{root_at, form_first_at}
 use mathlib.Core.Path.{ap, ◌∙◌}
 use mathlib.Core.Bool.{cond}
-use Prim.Native.Nat.{◌-◌}
 use lib.Dec.{eqb}
 use Rattle.tables.specs.Layout.{root_at}
 use Rattle.verdict.specs.Parts.{first_by, first_part}

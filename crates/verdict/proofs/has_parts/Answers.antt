@@ -1,6 +1,5 @@
 -- `has_parts` meets its contract, which has the same test.
 use mathlib.Core.Bool.{◌&&◌, ◌||◌}
-use Prim.Native.Nat.{◌-◌}
 use lib.Dec.{leb}
 use Rattle.verdict.specs.Parts.{looks_at_ends, has_parts}
 use Rattle.verdict.proofs.has_parts.Goals as goal

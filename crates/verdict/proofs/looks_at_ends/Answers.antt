@@ -1,6 +1,5 @@
 -- `looks_at_ends` meets its contract, which has the same test.
 use mathlib.Core.Path.{ap}
-use Prim.Native.Nat.{◌-◌}
 use Rattle.verdict.specs.Parts.{ends_code, looks_at_ends}
 use Rattle.verdict.proofs.looks_at_ends.Goals as goal
 

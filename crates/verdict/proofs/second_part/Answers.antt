@@ -1,6 +1,5 @@
 -- `second_part` meets its contract, which has the same test.
 use mathlib.Core.Path.{◌∙◌}
-use Prim.Native.Nat.{◌-◌}
 use Rattle.verdict.specs.Parts.{second_by, second_part}
 use Rattle.verdict.proofs.second_part.Goals as goal
 

@@ -1,4 +1,3 @@
-use Prim.Native.Nat.{◌-◌}
 use native.Mathlib.Omega.{arith}
 use Rattle.tables.specs.Layout.{cell_count}
 use Rattle.tables.proofs.Cleared.{filled_none, filled_more, filled-all}
