@@ -2,11 +2,11 @@
 # bash bench/slow.sh [BOOK ..]: books made to be slow, by paths that repeat or by classes under classes. For each the milliseconds
 # of a whole run, the best of three, and where the library is built already of the slowest direct verdict and of the slowest
 # questions for rounds and for the nearest spare. The report must be the reference's. PROGRAM names the program (default
-# target/bin/validate); nothing of it is built or proved here.
+# crates/validate/out/validate); nothing of it is built or proved here.
 set -eu
 here=$(cd "$(dirname "$0")" && pwd)
-program=${PROGRAM:-$here/../target/bin/validate}
-export MELIVANOUP_LIB=${MELIVANOUP_LIB:-$here/../target/staticlib}
+program=${PROGRAM:-$here/../crates/validate/out/validate}
+export MELIVANOUP_LIB=${MELIVANOUP_LIB:-$here/../crates/melivanoup/out}
 out=$here/target/slow
 [ -x "$program" ] || { echo "slow.sh: there is no $program" >&2; exit 2; }
 

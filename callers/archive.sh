@@ -3,15 +3,17 @@
 # MELIVANOUP_LIB may name a folder that has an archive already; nothing is built then.
 set -eu
 root=$(cd "$(dirname "$0")/.." && pwd)
-folder=${MELIVANOUP_LIB:-$root/target/staticlib}
+folder=${MELIVANOUP_LIB:-$root/crates/melivanoup/out}
 archive=$folder/libmelivanoup.a
+newer() { find "$root/crates" "$root/crates.txt" -name out -prune -o -type f -newer "$1" -print | head -n 1; }
 if [ -z "${MELIVANOUP_LIB:-}" ]; then
-    if [ ! -f "$archive" ] || [ -n "$(find "$root/crates" "$root/crates.txt" -newer "$archive" -type f | head -n 1)" ]; then
+    if [ ! -f "$archive" ] || [ -n "$(newer "$archive")" ]; then
         command -v rt >/dev/null || { echo "archive.sh: the Rattle kit (rt) is not on the path" >&2; exit 2; }
         echo "proving and building the library (some minutes the first time)" >&2
         rm -f "$archive"
-        (cd "$root" && rt staticlib melivanoup) 2>&1 | grep --line-buffered '^rt:' >&2 || true
+        mkdir -p "$folder"
+        (cd "$root/crates/melivanoup" && rt lib) 2>&1 | tee "$folder/log" | grep --line-buffered '^rt:' >&2 || true
     fi
 fi
-[ -f "$archive" ] || { echo "archive.sh: there is no libmelivanoup.a; see target/log" >&2; exit 1; }
+[ -f "$archive" ] || { echo "archive.sh: there is no $archive; see the file log beside it" >&2; exit 1; }
 echo "$folder"

@@ -1,10 +1,11 @@
 #!/usr/bin/env bash
 # Every book of tests/vectors, tests/vectors14, tests/w3c and examples through a program that reads a book and writes its report:
-# what it writes must be the book's .out file, byte for byte. Usage: bash tests/books.sh [PROGRAM]
+# what it writes must be the book's .out file, byte for byte. `rt ci` and ./validate leave the proved program where it is looked for.
+# Usage: bash tests/books.sh [PROGRAM]
 set -uo pipefail
 cd "$(dirname "$0")/.."
 . tests/counting.sh
-program=${1:-target/bin/validate}
+program=${1:-crates/validate/out/validate}
 need "$program"
 
 report() {

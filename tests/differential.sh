@@ -7,5 +7,7 @@ set -eu
 cd "$(dirname "$0")/.."
 MELIVANOUP_LIB=$(bash callers/archive.sh)
 export MELIVANOUP_LIB
+# a book on which they differ is saved there
+mkdir -p target
 cargo build --release --offline --quiet --manifest-path tests/differential/Cargo.toml
 exec tests/differential/target/release/differential "$@"

@@ -1,4 +1,4 @@
-/* Melivanoup: the check of rig books, proved. Link libmelivanoup.a (rt staticlib melivanoup); it needs no other library.
+/* Melivanoup: the check of rig books, proved. Link libmelivanoup.a (rt lib in crates/melivanoup); it needs no other library.
  *
  * How things are lent
  *   A slice is a pointer and a length in elements. The pointer is never NULL and is aligned, even where the length is 0.

@@ -1,15 +1,15 @@
-//! Where libmelivanoup.a stands: the folder in MELIVANOUP_LIB, else where `rt staticlib melivanoup` writes it.
+//! Where libmelivanoup.a stands: the folder in MELIVANOUP_LIB, else where `rt lib` writes it.
 
 use std::{env, path::PathBuf};
 
 fn main() {
     let here = PathBuf::from(env::var_os("CARGO_MANIFEST_DIR").unwrap());
-    let folder = env::var_os("MELIVANOUP_LIB").map_or_else(|| here.join("../../target/staticlib"), PathBuf::from);
+    let folder = env::var_os("MELIVANOUP_LIB").map_or_else(|| here.join("../../crates/melivanoup/out"), PathBuf::from);
     let archive = folder.join("libmelivanoup.a");
     println!("cargo:rerun-if-env-changed=MELIVANOUP_LIB");
     println!("cargo:rerun-if-changed={}", archive.display());
     if !archive.is_file() {
-        eprintln!("there is no libmelivanoup.a: run `rt staticlib melivanoup`, or name its folder in MELIVANOUP_LIB");
+        eprintln!("there is no libmelivanoup.a: run `rt lib` in crates/melivanoup, or name its folder in MELIVANOUP_LIB");
         std::process::exit(1);
     }
     println!("cargo:rustc-link-search=native={}", folder.display());

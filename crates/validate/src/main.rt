@@ -10,48 +10,51 @@ use model::{MAX_BYTES, Refusal};
 use plan::PLAN_CELLS;
 use report::{PAGE_BYTES, Page, report_part, report_refusal};
 use runner::WORK_WORDS;
+use std::io;
+use std::io::Read;
 use tables::layout::{CELLS, NAMES, VALUES};
 use tables::reads::rule_count;
 use validation::{Validated, validate};
 
 // What was written to the page; nothing where that was refused.
-fn print(page: &[u8], written: Page)
+fn print(rt: &impl Print, page: &[u8], written: Page) -> io::Result<()>
     requires { value_or 0 (answer_of written) ≤ length page.now }
 {
     match written {
-        Page::Bytes(n) => {
-            io::write_all(1, &page[..n]);
-        }
-        Page::Refused(_) => {}
+        Page::Bytes(n) => rt.write_all(&page[..n]),
+        Page::Refused(_) => Ok(()),
     }
 }
 
 // The parts of the report, one after the other: the head, each rule's breaks, the count.
 fn print_report(
+    rt: &impl Print,
     names: &[u8],
     cells: &[u16],
     values: &[i64],
     lists: &[u16],
     lengths: &[u16],
     page: &mut [u8],
-) {
+) -> io::Result<()> {
     let parts = rule_count(cells) + 2;
     for k in 0..parts {
         let written = report_part(names, cells, values, lists, lengths, k, page);
-        print(&page[..], written);
+        print(rt, &page[..], written)?;
     }
+    Ok(())
 }
 
-fn print_refusal(refusal: Refusal, page: &mut [u8]) {
+fn print_refusal(rt: &impl Print, refusal: Refusal, page: &mut [u8]) -> io::Result<()> {
     let written = report_refusal(refusal, page);
-    print(&page[..], written);
+    print(rt, &page[..], written)
 }
 
 // One byte more than a book may have, so that a longer one is seen to be too long.
 const BOOK_BYTES: usize = MAX_BYTES + 1;
 
-fn main() {
-    let mut book = [0u8; BOOK_BYTES];
+fn main(rt: HostRuntime) -> io::Result<()> {
+    let mut book = Vec::new(rt.alloc());
+    rt.reader().take(BOOK_BYTES as u64).read_to_end(&mut book)?;
     let mut names = [0u8; NAMES];
     let mut cells = [0u16; CELLS];
     let mut values = [0i64; VALUES];
@@ -60,9 +63,8 @@ fn main() {
     let mut lists = [0u16; LIST_PLACES];
     let mut lengths = [0u16; LENGTH_PLACES];
     let mut page = [0u8; PAGE_BYTES];
-    let n = io::read_full(0, &mut book);
     let answer = validate(
-        &book[..n],
+        &book,
         &mut names,
         &mut cells,
         &mut values,
@@ -72,7 +74,9 @@ fn main() {
         &mut lengths,
     );
     match answer {
-        Validated::Refused(r) => print_refusal(r, &mut page),
-        Validated::Steps(_) => print_report(&names, &cells, &values, &lists, &lengths, &mut page),
+        Validated::Refused(r) => print_refusal(&rt, r, &mut page),
+        Validated::Steps(_) => {
+            print_report(&rt, &names, &cells, &values, &lists, &lengths, &mut page)
+        }
     }
 }

@@ -1,4 +1,4 @@
-//! The proved operations, as `rt staticlib melivanoup` exports them: each answers the refusal's number, 0 for none.
+//! The proved operations, as libmelivanoup.a exports them: each answers the refusal's number, 0 for none.
 
 use reference::verdicts::Question;
 

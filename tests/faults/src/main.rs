@@ -45,9 +45,9 @@ fn main() -> io::Result<()> {
 
 fn drawn(prover: &Prover, wanted: &[String], n: usize, seed: u64) -> io::Result<Vec<Fault>> {
     let (mut sites, mut declared) = (Vec::new(), source::Declared::default());
-    for (name, _) in &prover.crates {
-        let found = source::sites(&prover.root, name, &mut declared)?;
-        if wanted.contains(name) {
+    for c in &prover.crates {
+        let found = source::sites(&prover.root, &c.name, &mut declared)?;
+        if wanted.contains(&c.name) {
             sites.extend(found);
         }
     }

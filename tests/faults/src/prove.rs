@@ -1,10 +1,11 @@
 //! One fault: a copy of the crate with it, and what the prover says.
 
 use crate::plant::Fault;
+use crate::source::Crate;
 use std::path::{Path, PathBuf};
 use std::process::{Command, ExitStatus, Stdio};
 use std::time::{Duration, Instant};
-use std::{env, fs, io};
+use std::{fs, io};
 
 /// no check may take longer
 const LIMIT: Duration = Duration::from_secs(120);
@@ -25,8 +26,8 @@ pub struct Prover {
     pub kit: PathBuf,
     /// the folder for copies
     pub room: PathBuf,
-    /// all crates that are no programs, each with what it depends on
-    pub crates: Vec<(String, Vec<String>)>,
+    /// all crates that are no programs
+    pub crates: Vec<Crate>,
 }
 
 impl Prover {
@@ -42,69 +43,69 @@ impl Prover {
         if let Some(fault) = fault {
             plant(&copy.join("src").join(&fault.file), fault)?;
         }
-        self.lend_modules(krate, &copy.join("modules"))?;
+        lend(&self.folder(krate).join("out/incremental"), &copy.join("kept"))?;
         let log = copy.join("log");
         let file = fs::File::create(&log)?;
-        let mut command = Command::new(self.own().join("bin/rattle"));
-        command.arg("check").args(self.words(krate, &copy)).env("TMPDIR", &copy);
+        let mut command = Command::new(self.kit.join("bin/rattle"));
+        command.arg("check").args(self.words(krate)).current_dir(&copy).env("TMPDIR", &copy);
         command.stdin(Stdio::null()).stdout(file.try_clone()?).stderr(file);
         let status = run(command)?;
         let said = String::from_utf8_lossy(&fs::read(&log)?).into_owned();
         fs::remove_dir_all(&copy)?;
-        Ok((outcome(status, &said), first_error(&said, &copy)))
+        Ok((outcome(status, &said), first_error(&said)))
     }
 
-    /// What the kit has for this kind of machine.
-    fn own(&self) -> PathBuf {
-        self.kit.join("on").join(env::consts::ARCH)
+    fn folder(&self, krate: &str) -> PathBuf {
+        self.root.join("crates").join(krate)
     }
 
-    /// Where the last check left the library.
-    fn library(&self, krate: &str) -> PathBuf {
-        let own = self.root.join("target/rlib").join(format!("{krate}.rlib"));
-        let of_kit = self.own().join("rlib").join(format!("{krate}.rlib"));
-        if self.crates.iter().any(|(name, _)| name == krate) {
-            own
-        } else {
-            of_kit
-        }
+    /// Where the last check left the libraries below.
+    fn libraries(&self, krate: &str) -> PathBuf {
+        self.folder(krate).join("out/rlib")
     }
 
-    /// The words of a check, as `rt must-fail` gives them, and the modules to start from.
-    fn words(&self, krate: &str, copy: &Path) -> Vec<String> {
+    /// The words of a check in a copy, as `rt must-fail` gives them: over what the last check of the crate kept.
+    fn words(&self, krate: &str) -> Vec<String> {
         let shown = |path: PathBuf| path.display().to_string();
-        let mut words = vec!["--crate-name".into(), krate.into(), shown(copy.join("src/lib.rt"))];
-        let deps = self.crates.iter().find(|(name, _)| name == krate).map_or(&[][..], |(_, deps)| deps);
-        for name in std::iter::once("std").chain(deps.iter().map(String::as_str)) {
-            words.extend(["--extern".into(), format!("{name}={}", shown(self.library(name)))]);
+        let own = self.crates.iter().find(|c| c.name == krate);
+        let mut words: Vec<String> = vec!["--crate-name".into(), krate.into(), "src/lib.rt".into()];
+        words.extend(["--extern".into(), format!("std={}", shown(self.kit.join("rlibs/std.rlib")))]);
+        for name in own.map_or(&[][..], |c| &c.below) {
+            words.extend(["--extern".into(), format!("{name}={}", shown(self.libraries(name).join(format!("{name}.rlib"))))]);
         }
-        for folder in [self.root.join("target/rlib"), self.own().join("rlib")] {
-            words.extend(["-L".into(), format!("dependency={}", shown(folder))]);
+        words.extend(["-L".into(), format!("dependency={}", shown(self.kit.join("rlibs")))]);
+        for c in &self.crates {
+            words.extend(["-L".into(), format!("dependency={}", shown(self.libraries(&c.name)))]);
         }
-        words.extend(["--antt-project".into(), shown(self.kit.join("logic/antt-project.json"))]);
-        words.extend(["--logic-built".into(), shown(self.own().join("logic-built"))]);
-        words.extend(["--incremental".into(), shown(copy.join("modules"))]);
+        words.extend(["--antt-project".into(), shown(self.kit.join("rattle/logic/antt-project.json"))]);
+        words.extend(["--logic-built".into(), shown(self.kit.join("logic_built"))]);
+        if own.is_some_and(|c| c.is_static) {
+            words.extend(["--crate-type".into(), "staticlib".into()]);
+        }
+        words.extend(["--incremental".into(), "kept".into()]);
         words
-    }
-
-    /// The modules that the last check left, where an incremental check looks for them: in a folder of the prover's build.
-    fn lend_modules(&self, krate: &str, to: &Path) -> io::Result<()> {
-        let library = self.library(krate);
-        let format = fs::read_to_string(library.join("format"))?;
-        let build = format.lines().find_map(|line| line.strip_prefix("rattle-build ")).unwrap_or("").replace('/', "_");
-        copy_folder(&library.join("toolchain/checked"), &to.join(build))
     }
 }
 
+/// Copies what a check kept, modules by links where it can: another check puts a new file in the place of one, and changes none.
+fn lend(from: &Path, to: &Path) -> io::Result<()> {
+    let lent = |from: &Path, to: &Path| from.extension().is_some_and(|e| e == "oantt") && fs::hard_link(from, to).is_ok();
+    each_file(from, to, &|from, to| if lent(from, to) { Ok(()) } else { fs::copy(from, to).map(|_| ()) })
+}
+
 fn copy_folder(from: &Path, to: &Path) -> io::Result<()> {
+    each_file(from, to, &|from, to| fs::copy(from, to).map(|_| ()))
+}
+
+fn each_file(from: &Path, to: &Path, copy: &dyn Fn(&Path, &Path) -> io::Result<()>) -> io::Result<()> {
     fs::create_dir_all(to)?;
     for entry in fs::read_dir(from)? {
         let entry = entry?;
         let (from, to) = (entry.path(), to.join(entry.file_name()));
         if entry.file_type()?.is_dir() {
-            copy_folder(&from, &to)?;
+            each_file(&from, &to, copy)?;
         } else {
-            fs::copy(&from, &to)?;
+            copy(&from, &to)?;
         }
     }
     Ok(())
@@ -149,16 +150,16 @@ fn outcome(status: Option<ExitStatus>, said: &str) -> Outcome {
 }
 
 /// What is said of a proof that no longer fits the code: it names what the code no longer has, or leaves out what is new there.
-const MISFITS: [&str; 4] = ["Need-", "has no field `", "this pattern needs a function", "components but its type has"];
+const MISFITS: [&str; 5] =
+    ["has no field `", "has no `", "is not in scope", "this pattern needs a function", "components but its type has"];
 
 fn is_misfit(error: &str) -> bool {
     MISFITS.iter().any(|words| error.contains(words))
 }
 
 /// The first error that is not of what only waits for another, or what is not proved of a function that has no proof file.
-fn first_error(said: &str, copy: &Path) -> String {
-    let own = errors(said).find(|line| !line.contains("was not admitted"));
+fn first_error(said: &str) -> String {
+    let own = errors(said).find(|line| !line.contains("which was rejected") && !line.contains("was not admitted"));
     let note = || said.lines().find(|line| line.starts_with("note: "));
-    let first = own.or_else(note).or(said.lines().next()).unwrap_or("");
-    first.replace(&format!("{}/", copy.display()), "")
+    own.or_else(note).or(said.lines().next()).unwrap_or("").trim_start_matches("./").to_string()
 }

@@ -31,12 +31,24 @@ pub struct Declared {
     pub constants: HashMap<String, String>,
 }
 
-/// The crates of crates.txt that are no programs, each with what it depends on.
-pub fn crates(root: &Path) -> io::Result<Vec<(String, Vec<String>)>> {
+/// A line of crates.txt: `NAME: LIBRARY ..` or, of a static library, `NAME staticlib: LIBRARY ..`.
+pub struct Crate {
+    pub name: String,
+    pub is_static: bool,
+    pub below: Vec<String>,
+}
+
+/// The crates of crates.txt that are no programs.
+pub fn crates(root: &Path) -> io::Result<Vec<Crate>> {
     let text = fs::read_to_string(root.join("crates.txt"))?;
     let lines = text.lines().filter_map(|line| line.split('#').next()?.split_once(':'));
-    let all = lines.map(|(name, deps)| (name.trim().to_string(), deps.split_whitespace().map(String::from).collect()));
-    Ok(all.filter(|(name, _)| root.join("crates").join(name).join("src/lib.rt").exists()).collect())
+    let all = lines.filter_map(|(head, below)| {
+        let mut words = head.split_whitespace();
+        let name = words.next()?.to_string();
+        let below = below.split_whitespace().map(String::from).collect();
+        Some(Crate { name, is_static: words.any(|word| word == "staticlib"), below })
+    });
+    Ok(all.filter(|c| root.join("crates").join(&c.name).join("src/lib.rt").exists()).collect())
 }
 
 /// The sites of a crate, in the order of its files. What it declares is added.

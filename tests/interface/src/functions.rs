@@ -9,7 +9,7 @@ pub struct Function {
     pub result: String,
 }
 
-const EXPORT: &str = "#[no_mangle] pub extern \"C\" fn ";
+const EXPORT: &str = "#[unsafe(no_mangle)] pub extern \"C\" fn ";
 
 /// What Rattle code exports.
 pub fn exported(text: &str) -> Vec<Function> {

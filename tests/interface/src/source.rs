@@ -50,11 +50,11 @@ pub fn read(texts: &Sources, faults: &mut Vec<String>) -> Source {
 /// Numbers that stand in definitions only: how many bytes a name takes, where a plan has its number of steps, what the verdict
 /// answers for a node that conforms and `nearest` for a spare, what stands for no refusal.
 const DEFINED: [(&str, &str, &str); 5] = [
-    ("NAME", "nameBytes = ", ""),
-    ("PLAN_STEPS", "stepCount ps = getD ps ", " 0"),
-    ("CONFORMS", "oneIf b = cond b ", " 0"),
-    ("FOUND", "oneIf b = cond b ", " 0"),
-    ("NONE", "  refusalNumber (value a) = ", ""),
+    ("NAME", "name_bytes = ", ""),
+    ("PLAN_STEPS", "step_count ps = get_or ps ", " 0"),
+    ("CONFORMS", "one_if b = cond b ", " 0"),
+    ("FOUND", "one_if b = cond b ", " 0"),
+    ("NONE", "  refusal_number (value a) = ", ""),
 ];
 
 /// `pub const NODE_KINDS: usize = 10;`, `pub const NODE_TYPES: usize = NODE_KINDS + MAX_NODES;`
@@ -130,9 +130,9 @@ fn refusals(code: &[Text]) -> Numbers {
     body.split("Refusal::").filter_map(number).collect()
 }
 
-/// `nodeCount cs = getD cs 0 0` is CELL_NODES.
+/// `node_count cs = get_or cs 0 0` is CELL_NODES.
 fn counts(text: &str, places: &mut Numbers) {
-    for (name, n) in text.lines().filter_map(|line| line.split_once("Count cs = getD cs ")) {
+    for (name, n) in text.lines().filter_map(|line| line.split_once("_count cs = get_or cs ")) {
         if let Some(n) = n.strip_suffix(" 0").and_then(decimal) {
             places.insert(format!("CELL_{}S", name.to_uppercase()), n);
         }

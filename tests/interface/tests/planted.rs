@@ -135,9 +135,9 @@ const DEPENDED: [&str; 37] = [
     "pub const RULE_SHAPES:", "pub const NODE_KINDS:", "pub const NODE_TYPES:", "pub const NAME_BYTES:",
     "pub const BREAK_BYTES:", "pub const MAX_BYTES:", "pub const MAX_NODES:", "pub const MAX_LINKS:", "pub const MAX_TYPES:",
     "pub const MAX_LANGS:", "pub const MAX_SHAPES:", "pub const MAX_RULES:", "pub const MAX_FACTS:", "pub const MAX_FORMS:",
-    "pub const MAX_PATHS:", "pub const MAX_ITEMS:", "pub const MAX_NAME:", "pub const MAX_STEPS:", "nodeCount cs =",
-    "shapeCount cs =", "factCount cs =", "pathCount cs =", "ruleCount cs =", "stepCount ps =", "nameBytes =",
-    "  refusalNumber (value a) =", "oneIf b =", "        Refusal::",
+    "pub const MAX_PATHS:", "pub const MAX_ITEMS:", "pub const MAX_NAME:", "pub const MAX_STEPS:", "node_count cs =",
+    "shape_count cs =", "fact_count cs =", "path_count cs =", "rule_count cs =", "step_count ps =", "name_bytes =",
+    "  refusal_number (value a) =", "one_if b =", "        Refusal::",
 ];
 
 /// Each number that callers depend on one more, and each sum; each test of a length against another constant.
@@ -208,7 +208,7 @@ fn change_functions(file: &Text) -> Vec<Change> {
         planter.plant(site.name.end..site.name.end, "x");
         planter.plant(site.result.clone(), other(&file.text[site.result.clone()]).unwrap());
         planter.plant(site.list.end..site.list.end, more);
-        if let Some(exported) = file.text[..site.whole.start].strip_suffix("#[no_mangle]\n") {
+        if let Some(exported) = file.text[..site.whole.start].strip_suffix("#[unsafe(no_mangle)]\n") {
             planter.plant(exported.len()..site.whole.start, "");
         } else {
             planter.plant(site.whole.clone(), "");

@@ -7,6 +7,6 @@ use Rattle.report.specs.Answers.{answer_of}
 use Rattle.validate.proofs.print.Goals as goal
 
 pub slice_bounds-write_all-end : goal.slice_bounds-write_all-end
-slice_bounds-write_all-end c =
+slice_bounds-write_all-end g c =
     let a = c.args in
     sym (length-take-le c.in-Bytes.n a.page.now (subst (λ w. value_or 0 (answer_of w) ≤ length a.page.now) c.in-Bytes.is c.requires))

@@ -4,7 +4,7 @@ use lib.ListN.{length}
 use Rattle.validate.proofs.print_report.Given as goal
 
 abbrev pub invariant-loop-k : goal.invariant-loop-k
-invariant-loop-k l = (l.k ≤ l.parts) × (length l.page ≡ length l.initial.page)
+invariant-loop-k g l = (l.k ≤ l.parts) × (length l.page ≡ length l.initial.page)
 
 abbrev pub decreases-loop-k : goal.decreases-loop-k
-decreases-loop-k l = l.parts - l.k
+decreases-loop-k g l = l.parts - l.k
