@@ -70,7 +70,7 @@ fn files(root: &Path, folder: &str, ending: &str) -> Vec<Text> {
     let mut found = Vec::new();
     for path in paths {
         let name = format!("{folder}/{}", path.file_name().unwrap().to_string_lossy());
-        if path.is_dir() && !name.ends_with("/target") {
+        if path.is_dir() && !name.ends_with("/target") && !name.ends_with("/out") {
             found.extend(files(root, &name, ending));
         } else if path.extension().is_some_and(|e| e == ending) {
             found.push(text(root, &name));
