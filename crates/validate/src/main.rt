@@ -1,7 +1,7 @@
 // The printing program: a book on standard input, its report on standard output.
 #![tactic(auto)]
 
-ghost use Rattle.std.specs.Prelude.{◌≤◌, length};
+ghost use Rattle.std.specs.Prelude.{◌≤◌, IfOk, length};
 ghost use Rattle.model.specs.Answers.{value_or};
 ghost use Rattle.report.specs.Answers.{answer_of};
 
@@ -11,7 +11,7 @@ use plan::PLAN_CELLS;
 use report::{PAGE_BYTES, Page, report_part, report_refusal};
 use runner::WORK_WORDS;
 use std::io;
-use std::io::Read;
+use std::io::{ErrorKind, Read};
 use tables::layout::{CELLS, NAMES, VALUES};
 use tables::reads::rule_count;
 use validation::{Validated, validate};
@@ -49,12 +49,31 @@ fn print_refusal(rt: &impl Print, refusal: Refusal, page: &mut [u8]) -> io::Resu
     print(rt, &page[..], written)
 }
 
+// Fills the book from standard input, until it is full or the input ends: how many bytes came.
+fn read_book(rt: &impl Input, book: &mut [u8]) -> io::Result<usize>
+    ensures { IfOk result (λ n. n ≤ length book.new) }
+{
+    let mut input = rt.reader();
+    let mut n = 0;
+    for _ in 0..u64::MAX {
+        match input.read(&mut book[n..]) {
+            Ok(0) => break,
+            Ok(more) => n += more,
+            Err(e) => {
+                if e.kind() != ErrorKind::Interrupted {
+                    return Err(e);
+                }
+            }
+        }
+    }
+    Ok(n)
+}
+
 // One byte more than a book may have, so that a longer one is seen to be too long.
 const BOOK_BYTES: usize = MAX_BYTES + 1;
 
 fn main(rt: HostRuntime) -> io::Result<()> {
-    let mut book = Vec::new(rt.alloc());
-    rt.reader().take(BOOK_BYTES as u64).read_to_end(&mut book)?;
+    let mut book = [0u8; BOOK_BYTES];
     let mut names = [0u8; NAMES];
     let mut cells = [0u16; CELLS];
     let mut values = [0i64; VALUES];
@@ -63,8 +82,9 @@ fn main(rt: HostRuntime) -> io::Result<()> {
     let mut lists = [0u16; LIST_PLACES];
     let mut lengths = [0u16; LENGTH_PLACES];
     let mut page = [0u8; PAGE_BYTES];
+    let n = read_book(&rt, &mut book)?;
     let answer = validate(
-        &book,
+        &book[..n],
         &mut names,
         &mut cells,
         &mut values,
