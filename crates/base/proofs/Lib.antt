@@ -6,3 +6,4 @@ pub mod Bytes
 pub mod Columns
 pub mod Codes
 pub mod Least
+pub mod Copies

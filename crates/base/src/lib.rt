@@ -1,27 +1,40 @@
 // What every crate above speaks in: tests of the numbers below a bound, values by number, texts as bytes. Definitions (specs/)
 // and their laws (proofs/). Operations: none; for the crates above:
-//   cell              what stands at a place
-//   pick, pick_cell   the first of two numbers, or the second
+//   cell, put   what stands at a place, and a value put there
+//   copy        the first values of a list become those of another
+//   pick        the first of two values, or the second
 #![tactic(auto)]
 
-ghost use Rattle.std.specs.Prelude.{◌≡◌, cond, get_or};
+ghost use Rattle.std.specs.Prelude.{◌≡◌, ◌++◌, cond, drop, get_or, length, set, take};
 
-// What stands at a place, 0 past the end.
-pub fn cell(list: &[u16], i: usize) -> u16
-    ensures { result ≡ get_or list.now i 0 }
+// What stands at a place, the default past the end.
+pub fn cell<T: Copy>(list: &[T], i: usize, default: T) -> T
+    ensures { result ≡ get_or list.now i default }
 {
-    if i < list.len() { list[i] } else { 0 }
+    if i < list.len() { list[i] } else { default }
 }
 
-// The first of two numbers, or the second.
-pub fn pick(first: bool, a: usize, b: usize) -> usize
-    ensures { result ≡ cond first a b }
+// What stands at a place becomes x; nothing changes past the end.
+pub fn put<T: Copy>(list: &mut [T], i: usize, x: T)
+    ensures { list.new ≡ set list.old i x }
 {
-    if first { a } else { b }
+    if i < list.len() {
+        list[i] = x;
+    }
 }
 
-// The same for the numbers of cells.
-pub fn pick_cell(first: bool, a: u16, b: u16) -> u16
+// The first values become those of from, as many as there is room for. Value by value: `copy_from_slice` takes three times as
+// long for a set's sixteen words.
+pub fn copy<T: Copy>(into: &mut [T], from: &[T])
+    ensures { into.new ≡ take (length into.old) from.now ++ drop (length from.now) into.old }
+{
+    for (i, x) in from.iter().enumerate() {
+        put(into, i, *x);
+    }
+}
+
+// The first of two values, or the second.
+pub fn pick<T: Copy>(first: bool, a: T, b: T) -> T
     ensures { result ≡ cond first a b }
 {
     if first { a } else { b }

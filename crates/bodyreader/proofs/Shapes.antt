@@ -21,7 +21,10 @@ use Rattle.model.specs.declared.Counts.{Counts}
 use Rattle.itemreader.specs.Held.{Held}
 use Rattle.leafreader.specs.declared.Ended.{Ended}
 use Rattle.leafreader.specs.Forms.{begun_of, ended_of}
-use Rattle.linereader.specs.declared.LineAnswer.{LineAnswer}
+use Rattle.std.specs.Prelude.{Result, Err, IsErrAnd}
+use Rattle.model.specs.Refusals.{fault_of}
+use Rattle.model.specs.declared.Fault.{Fault}
+use Rattle.itemreader.proofs.Items.{passed_on}
 use Rattle.linereader.specs.Storing.{counted, Done}
 use Rattle.bodyreader.specs.Storing.{shaped, FormHeld}
 
@@ -71,8 +74,8 @@ module _ (ns : List ℕ) (c : Counts) (a : Book) (h : Held ns c a) where
       shape-values = f.values
 
 -- a line that is refused after some of it was stored
-pub done_past : (a : Book) (c : Counts) (x : Read Line) (r : LineAnswer) (k : ℕ) (ns cs cs' : List ℕ) (vs vs' : List ℤ) → x ≡ refused k → r ≡ LineAnswer.No k → drop cell_count cs' ≡ drop cell_count cs → drop value_count vs' ≡ drop value_count vs → Done a c x r ns ns cs cs' vs vs'
-done_past a c x r k ns cs cs' vs vs' e q f g = subst (λ (y : Read Line). Done a c y r ns ns cs cs' vs vs') (sym e) (q, refl, f, g)
+pub done_past : (a : Book) (c : Counts) (x : Read Line) (r : Result (Counts × ℕ) Fault) (e : Fault) (k : ℕ) (ns cs cs' : List ℕ) (vs vs' : List ℤ) → x ≡ refused k → e ≡ fault_of k → IsErrAnd r (λ y. y ≡ e) → drop cell_count cs' ≡ drop cell_count cs → drop value_count vs' ≡ drop value_count vs → Done a c x r ns ns cs cs' vs vs'
+done_past a c x r e k ns cs cs' vs vs' p q h f g = subst (λ (y : Read Line). Done a c y r ns ns cs cs' vs vs') (sym p) (passed_on r e h ∙ ap Err q, refl, f, g)
 
 -- the place of a new shape
 pub shape-place : (n : ℕ) → n < max_shapes → pool_base shapes + n * name_bytes + name_bytes ≤ name_count

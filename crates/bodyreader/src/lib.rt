@@ -10,33 +10,23 @@ ghost use Rattle.model.specs.Limits.{max_shapes, max_forms, max_name};
 ghost use Rattle.grammar.specs.Syntax.{link_l, shape_l, line_family};
 ghost use Rattle.grammar.specs.Reading.{line_at};
 ghost use Rattle.tables.specs.Layout.{cell_count, value_count, name_count};
-ghost use Rattle.itemreader.specs.Answers.{line_words};
+ghost use Rattle.itemreader.specs.Words.{line_words};
 ghost use Rattle.itemreader.specs.Held.{Limits, Held, Kinds, Indexed};
 ghost use Rattle.linereader.specs.Storing.{line_end, line_body, Done, CountsFit};
-ghost use Rattle.bodyreader.specs.Storing.{shaped, FormHeld};
+ghost use Rattle.bodyreader.specs.Storing.{FormHeld};
 
 use formreader::read_form;
-use itemreader::{Head, Item, Pool, line_head, read_new, words};
-use leafreader::{Ended, Form};
+use itemreader::pools::Pools;
+use itemreader::words::{self, Family};
+use itemreader::{Pool, Read, read_head, read_new};
+use leafreader::Ended;
 use linereader::{
-    LineAnswer, MAX_WITHIN, fact_line, line_end, name_line, number_line, put_new, refusal,
-    resource_line, rule_line, text_line, words_line,
+    MAX_WITHIN, fact_line, line_end, name_line, number_line, put_new, resource_line, rule_line,
+    text_line, words_line,
 };
-use model::Counts;
+use model::{Counts, Fault};
 use tables::codes;
 use tables::layout::ROOTS;
-
-// The counts with a shape, with which n entries and items have ended.
-fn with_shape(mut counts: Counts, n: Ended) -> Counts
-    requires { counts.shapes ≤ max_shapes }
-    ensures { result ≡ shaped n counts }
-{
-    counts.shapes += 1;
-    counts.forms = n.forms;
-    counts.paths = n.paths;
-    counts.items = n.items;
-    counts
-}
 
 // The end of a shape line whose name ends at end and whose form ends at last: its closing bracket and its LF, and then its
 // name and its root are stored.
@@ -49,19 +39,23 @@ fn shape_end(
     end: usize,
     n: Ended,
     last: usize,
-) -> LineAnswer
+) -> Read<Counts>
     requires { (at + 1 ≤ end) × (end ≤ length book.now) × (end - (at + 1) ≤ max_name) × (last ≤ length book.now) × (counts.shapes < max_shapes) × (0 < n.forms) × (n.forms ≤ max_forms) × (name_count ≤ length names.old) × (cell_count ≤ length cells.old) × Limits counts }
     ensures { (a : Book) (φ : Shape) (cs : List ℕ) (vs vs' : List ℤ) → Held names.old counts a → FormHeld a φ n cs cells.old vs vs' → Done a counts (line_end book.now a true (shape (slice (at + 1) end book.now) φ) last) result names.old names.new cs cells.new vs vs' }
 {
-    let done = line_end(book, last, true, with_shape(counts, n));
-    let LineAnswer::Next(_, _) = done else {
-        return done;
-    };
     let forms = n.forms;
     let shapes = counts.shapes;
+    let more = Counts {
+        shapes: shapes + 1,
+        forms,
+        paths: n.paths,
+        items: n.items,
+        ..counts
+    };
+    let done = line_end(book, last, true, more)?;
     cells[ROOTS + shapes] = (forms - 1) as u16;
     put_new(names, counts, Pool::Shapes, book, at, end);
-    done
+    Ok(done)
 }
 
 // `(shape N FORM)`.
@@ -73,25 +67,23 @@ fn shape_line(
     counts: Counts,
     book: &[u8],
     at: usize,
-) -> LineAnswer
+) -> Read<Counts>
     requires { (at ≤ length book.now) × (name_count ≤ length names.old) × (cell_count ≤ length cells.old) × (value_count ≤ length values.old) × Limits counts × CountsFit counts × ((a : Book) × Held names.old counts a) × Indexed names.old counts index.now }
     ensures { (a : Book) → Held names.old counts a → Done a counts (line_body book.now a shape_l at) result names.old names.new cells.old cells.new values.old values.new }
 {
-    let new = read_new(names, index, counts, Pool::Shapes, book, at);
-    let Item::Is(_, end) = new else {
-        return LineAnswer::No(refusal(new));
+    let pools = Pools {
+        names: &*names,
+        index,
+        counts,
     };
+    let (_, end) = read_new(pools, Pool::Shapes, book, at)?;
     let n = Ended {
         forms: counts.forms,
         paths: counts.paths,
         items: counts.items,
     };
-    match read_form(
-        cells, values, names, index, counts, book, end, MAX_WITHIN, n, 0,
-    ) {
-        Form::No(k) => LineAnswer::No(k),
-        Form::Is(m, last) => shape_end(names, cells, counts, book, at, end, m, last),
-    }
+    let (m, last) = read_form(cells, values, pools, book, end, MAX_WITHIN, n, 0)?;
+    shape_end(names, cells, counts, book, at, end, m, last)
 }
 
 // What follows the word number k of a line.
@@ -104,7 +96,7 @@ fn read_body(
     k: usize,
     book: &[u8],
     at: usize,
-) -> LineAnswer
+) -> Read<Counts>
     requires { (at ≤ length book.now) × (k < line_words) × (name_count ≤ length names.old) × (cell_count ≤ length cells.old) × (value_count ≤ length values.old) × Limits counts × CountsFit counts × ((a : Book) × Held names.old counts a) × Indexed names.old counts index.now }
     ensures { (a : Book) → Held names.old counts a → Kinds cells.old a → Done a counts (line_body book.now a (get_or line_family.codes k link_l) at) result names.old names.new cells.old cells.new values.old values.new }
 {
@@ -135,10 +127,28 @@ fn read_body(
         words::LINE_NUMBER => number_line(names, cells, values, index, counts, book, at),
         words::LINE_TEXT => text_line(names, cells, values, index, counts, book, at),
         words::LINE_WORDS => words_line(names, cells, values, index, counts, book, at),
-        words::LINE_FACT => fact_line(cells, names, index, counts, book, at),
+        words::LINE_FACT => fact_line(
+            cells,
+            Pools {
+                names: &*names,
+                index,
+                counts,
+            },
+            book,
+            at,
+        ),
         words::LINE_SHAPE => shape_line(names, cells, values, index, counts, book, at),
         // rule
-        _ => rule_line(cells, names, index, counts, book, at),
+        _ => rule_line(
+            cells,
+            Pools {
+                names: &*names,
+                index,
+                counts,
+            },
+            book,
+            at,
+        ),
     }
 }
 
@@ -151,13 +161,12 @@ pub fn read_line(
     counts: Counts,
     book: &[u8],
     at: usize,
-) -> LineAnswer
+) -> Read<Counts>
     requires { (at ≤ length book.now) × (name_count ≤ length names.old) × (cell_count ≤ length cells.old) × (value_count ≤ length values.old) × Limits counts × CountsFit counts × ((a : Book) × Held names.old counts a) × Indexed names.old counts index.now }
     ensures { (a : Book) → Held names.old counts a → Kinds cells.old a → Done a counts (line_at book.now a at) result names.old names.new cells.old cells.new values.old values.new }
 {
-    match line_head(book, at, 1, false) {
-        Head::Bare => LineAnswer::No(2),
-        Head::No(k) => LineAnswer::No(k),
-        Head::Word(k, end) => read_body(names, cells, values, index, counts, k, book, end),
-    }
+    let Some((k, end)) = read_head(Family::Lines, book, at, 1, false)? else {
+        return Err(Fault::Grammar);
+    };
+    read_body(names, cells, values, index, counts, k, book, end)
 }

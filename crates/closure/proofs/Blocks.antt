@@ -1,5 +1,5 @@
 -- Rows closed block by block: the laws of `take_block`, `spread_block`, `close_block`, `pass` and `close`.
-use Prim.Native.Nat.{ℕ, ◌+◌, ◌*◌, ◌/◌, ◌%◌, ◌≤◌, ◌<◌}
+use Prim.Native.Nat.{ℕ, ◌+◌, ◌*◌, ◌/◌, ◌%◌, ◌≤◌, ◌<◌, min}
 use mathlib.Core.Bool.{Bool, true, false, not, ◌&&◌, ◌||◌, and-false, or-false}
 use mathlib.Core.List.{List}
 use mathlib.Core.Logic.{◌⊎◌, inl, inr, ⊎_elim}
@@ -9,6 +9,7 @@ use lib.Bits.{bit_and}
 use lib.Dec.{eqb, leb, ltb}
 use lib.ListN.{length, get_or}
 use borrow.Author.Tests.{eq-eqb, eqb-true, lt-ltb, le-ltb, ltb-true, leb-true, not-true}
+use Rattle.std.specs.Int.{div_ceil}
 use Rattle.base.specs.Bounded.{size}
 use Rattle.base.proofs.Bounded.{some_ext}
 use Rattle.base.proofs.Bools.{bool_cases, and_left, and_right, and_both, or_cases, same_test, never_both, or_left, or_right}
@@ -19,7 +20,7 @@ use Rattle.model.specs.Limits.{max_nodes}
 use Rattle.model.specs.Repeats.{plus}
 use Rattle.model.proofs.Repeats.{plus-contains, plus-least, plus-trans}
 use Rattle.closure.specs.Rows.{Small, rows_of, leads, Within, taken}
-use Rattle.closure.specs.Closing.{gained, by_node, by_block, across, in_row, in_first, Inner, Closing, RowsRoom, Block, Blocked, Busy}
+use Rattle.closure.specs.Closing.{gained, by_node, by_block, across, in_row, in_first, Inner, Closing, RowsRoom, IsBlock, Blocked, Busy}
 use Rattle.closure.proofs.Rows.{rows_ext, leads-node, or_join}
 use Rattle.closure.proofs.Gains.{length-gained, leads-gained, gained_ext, gained-none, gained-more, gained-within, taken-gained}
 use Rattle.closure.proofs.Through.{block_at, block_some, node-low, node-inner, block_low, through-all}
@@ -42,7 +43,7 @@ past_gone rows v left u h = not-true (bit left (u % 64)) (and_right (leads rows 
 past_is : (rows : List ℕ) (v left u : ℕ) → leads rows v u ≡ true → bit left (u % 64) ≡ false → past rows v left u ≡ true
 past_is rows v left u f g = and_both (leads rows v u) (not (bit left (u % 64))) f (ap not g)
 
-module _ (n j e : ℕ) (rows : List ℕ) (room : RowsRoom n rows) (block : Block n (64 * j) e) (closed : Blocked n (64 * j) e rows) (v : ℕ) (lv : v < n) where
+module _ (n j e : ℕ) (rows : List ℕ) (room : RowsRoom n rows) (block : IsBlock n (64 * j) e) (closed : Blocked n (64 * j) e rows) (v : ℕ) (lv : v < n) where
   -- the word of row v that names the block
   named-word : (u : ℕ) → 64 * j ≤ u → u < e → leads rows v u ≡ bit (get_or rows (16 * v + j) 0) (u % 64)
   named-word u au ue = leads-word rows v u ∙ ap (λ (i : ℕ). bit (get_or rows (16 * v + i) 0) (u % 64)) (let z : u / 64 ≡ j = omega (arith, block.least) in z)
@@ -157,7 +158,7 @@ module _ (n j e : ℕ) (rows : List ℕ) (room : RowsRoom n rows) (block : Block
       at u w false q = refl
 
 -- ---- the rows below i and a block
-module _ (n j e : ℕ) (rows : List ℕ) (room : RowsRoom n rows) (block : Block n (64 * j) e) (closed : Blocked n (64 * j) e rows) where
+module _ (n j e : ℕ) (rows : List ℕ) (room : RowsRoom n rows) (block : IsBlock n (64 * j) e) (closed : Blocked n (64 * j) e rows) where
   -- what the rows below i gain
   abbrev pub spread_to : ℕ → ℕ → ℕ → Bool
   spread_to i = in_first i (across (leads rows) (64 * j) e)
@@ -244,7 +245,7 @@ closing_done n a before rows l c =
     c.within ∙ rows_ext n (leads rows) (plus (leads before) n) (length rows) (through-all n (leads before) (leads rows) c.more c.right (λ v u lv lu la. c.low v u lv lu (omega arith)))
     ∙ ap (rows_of n (plus (leads before) n)) c.long
 
-module _ (n a e : ℕ) (before rows : List ℕ) (room : RowsRoom n rows) (block : Block n a e) (c : Closing n a before rows) where
+module _ (n a e : ℕ) (before rows : List ℕ) (room : RowsRoom n rows) (block : IsBlock n a e) (c : Closing n a before rows) where
   -- a node of the block
   module _ (k : ℕ) (ak : a ≤ k) (ke : k < e) {ws : List ℕ} (q : ws ≡ gained rows (by_node (leads rows) k a e)) where
     after : (v w : ℕ) → v < n → w < n → leads ws v w ≡ (leads rows v w || by_node (leads rows) k a e v w)
@@ -287,10 +288,14 @@ module _ (n a e : ℕ) (before rows : List ℕ) (room : RowsRoom n rows) (block 
       gets v w lv lw = leads-gained rows (in_first n (across (leads rows) a e)) q v w (omega (arith, room.few)) (omega (arith, room.words)) ∙ ap (λ (b : Bool). leads rows v w || (b && across (leads rows) a e v w)) (lt-ltb v n lv)
 
 -- ---- the block from a on, as its end is computed
-pub block_of : (n a e : ℕ) → a < n → (e ≤ a + 64) × (e ≤ n) × ((u : ℕ) → u < a + 64 → u < n → u < e) → Block n a e
+pub block_of : (n a e : ℕ) → a < n → e ≡ min (a + 64) n → IsBlock n a e
 block_of n a e l h = record {
-  from = h.2 a (omega arith) l;
-  end = h.1;
-  least = h.0;
-  whole = λ u lu la. h.2 u la lu;
+  from = omega arith;
+  end = omega arith;
+  least = omega arith;
+  whole = λ u lu la. omega arith;
 }
+
+-- as many blocks as n nodes need
+pub blocks_of : (n k : ℕ) → k ≡ div_ceil n 64 → (n ≤ 64 * k) × (64 * k < n + 64)
+blocks_of n k e = (omega arith, omega arith)

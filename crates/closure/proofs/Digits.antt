@@ -6,18 +6,21 @@ use mathlib.Core.Logic.{⊎_elim}
 use mathlib.Core.Path.{◌≡◌, refl, sym, ap, ap₂, ◌∙◌, subst}
 use native.Mathlib.Nat.{div-eq_of_lt, div-eq_of_lt-le, eq-or-lt_of_le, pow-suc}
 use native.Mathlib.Omega.{arith}
-use lib.Bits.{bit_or, bit_and, bit_xor, and_le_l, and_le_r, or_add_and}
+use lib.Bits.{bit_or, bit_and, bit_xor}
 use lib.Count.{count_leading_zeros, leading_top, count_trailing_zeros, trailing_le}
-use lib.Dec.{eqb, ltb}
-use lib.ListN.{get_or}
-use borrow.Author.Tests.{eq-eqb, ltb-true, ltb-false}
+use lib.Dec.{eqb}
+use lib.ListN.{length, get_or, take, drop, length-drop}
+use lib.Seq.{length-take-le}
+use borrow.Author.Tests.{eq-eqb, eqb-true}
 use Rattle.base.proofs.Bounded.{grown}
 use Rattle.base.specs.Bounded.{size}
-use Rattle.base.proofs.Bools.{and_left, never_both}
+use Rattle.base.proofs.Bools.{bool_cases, and_left, never_both}
 use Rattle.nodeset.specs.Words.{bit, has}
 use Rattle.nodeset.proofs.Bits.{bit-bit_or, bit_without, bit_zero, bit_pow}
 use Rattle.nodeset.proofs.Members.{trailing_hit}
-use Rattle.nodeset.proofs.Sets.{shl_one}
+use Rattle.nodeset.proofs.Sets.{shl_one, has-take, has-drop}
+use Rattle.std.specs.List.{list_all}
+use Rattle.std.proofs.lemmas.List.Folds.{list_all_at}
 use Rattle.model.specs.Limits.{max_nodes}
 use Rattle.closure.specs.Rows.{leads}
 
@@ -51,23 +54,27 @@ leading_less x pos small = let (j, e, low, high) = leading_top 64 x pos small in
 pub shifted-digit : (k : ℕ) → k < 64 → bit ((1 * 2 ^ k) % 2 ^ 64) k ≡ true
 shifted-digit k l = ap (λ (x : ℕ). bit x k) (shl_one k l) ∙ bit_pow k k ∙ eq-eqb k k refl
 
--- two words of which nothing is left together
-pub or_zero : (a b : ℕ) → bit_or a b ≡ 0 → (a ≡ 0) × (b ≡ 0)
-or_zero a b e = (omega (arith, or_add_and a b, and_le_l a b, and_le_r a b), omega (arith, or_add_and a b, and_le_l a b, and_le_r a b))
-
 -- word i of row v, in a copy of it
 pub row_word : (rows : List ℕ) (v i m : ℕ) → m < 64 * 16 → m / 64 ≡ i → bit (get_or rows (16 * v + i) 0) (m % 64) ≡ leads rows v m
 row_word rows v i m l e = ap (λ (j : ℕ). bit (get_or rows (16 * v + j) 0) (m % 64)) (sym e) ∙ sym (leads-word rows v m)
 
--- nothing in the words before word i, and nothing in word i
-pub empty-more : (rows : List ℕ) (v i all : ℕ) → (all ≡ 0 → (m : ℕ) → m < 64 * i → leads rows v m ≡ false) → bit_or all (get_or rows (16 * v + i) 0) ≡ 0 → (m : ℕ) → m < 64 * (i + 1) → leads rows v m ≡ false
-empty-more rows v i all h e m l = go (ltb m (64 * i)) refl
-  where
-    go : (b : Bool) → ltb m (64 * i) ≡ b → leads rows v m ≡ false
-    go true f = h (or_zero all (get_or rows (16 * v + i) 0) e).0 m (ltb-true m (64 * i) f)
-    go false f =
-        let k : 64 * i ≤ m = ltb-false m (64 * i) f in
-        leads-word rows v m ∙ ap (λ (j : ℕ). bit (get_or rows (16 * v + j) 0) (m % 64)) (let z : m / 64 ≡ i = omega arith in z) ∙ ap (λ (x : ℕ). bit x (m % 64)) (or_zero all (get_or rows (16 * v + i) 0) e).1 ∙ bit_zero (m % 64)
+-- row v, as it is lent
+module _ (rows : List ℕ) (v : ℕ) (room : 16 * v + 16 ≤ length rows) where
+  abbrev pub row_in : List ℕ
+  row_in = take (16 * v + 16 - 16 * v) (drop (16 * v) rows)
+
+  has_row : (w : ℕ) → w < max_nodes → has row_in w ≡ leads rows v w
+  has_row w l = has-take (drop (16 * v) rows) (16 * v + 16 - 16 * v) w (omega arith) ∙ has-drop rows (16 * v) w ∙ ap (has rows) (let z : 16 * v * 64 + w ≡ max_nodes * v + w = omega arith in z)
+
+  length_row : length row_in ≡ 16
+  length_row = length-take-le (16 * v + 16 - 16 * v) (drop (16 * v) rows) (omega (arith, room, length-drop (16 * v) rows)) ∙ omega arith
+
+  -- nothing in its words
+  pub row_empty : list_all (λ x. eqb x 0) row_in ≡ true → (w : ℕ) → w < max_nodes → leads rows v w ≡ false
+  unfolding has
+  row_empty e w l = sym (has_row w l) ∙ ap (λ (x : ℕ). bit x (w % 64)) (bool_cases (λ b. eqb (get_or row_in (w / 64) 0) 0 ≡ b → get_or row_in (w / 64) 0 ≡ 0) (eqb (get_or row_in (w / 64) 0) 0)
+      (λ _ h. eqb-true (get_or row_in (w / 64) 0) 0 h)
+      (λ _ h. absurd (never_both e (list_all_at (λ x. eqb x 0) row_in (w / 64) 0 (omega (arith, length_row)) h))) refl) ∙ bit_zero (w % 64)
 
 -- a word and one digit more, taken from a word
 pub drop-digit : (x word d : ℕ) → d < 64 → (y : ℕ) → bit (bit_xor x (bit_and x (bit_or word ((1 * 2 ^ d) % 2 ^ 64)))) y ≡ (bit x y && not (bit word y || eqb y d))

@@ -67,7 +67,7 @@ pub record RowsRoom (n : ℕ) (rows : List ℕ) : Type 0 where
   pub words : 16 * n ≤ length rows
 
 -- the nodes from a on and below e, up to 64 of n: all of them below a + 64
-pub record Block (n a e : ℕ) : Type 0 where
+pub record IsBlock (n a e : ℕ) : Type 0 where
   pub from : a < e
   pub end : e ≤ n
   pub least : e ≤ a + 64

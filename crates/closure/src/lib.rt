@@ -11,26 +11,40 @@
 //   close      the rows become those of one or more repetitions
 //   reflect    each node joins its own row
 //   compose    rows gain where a step by one relation and then one by another leads
+//   Relation   the rows of a relation, to read
 #![tactic(auto)]
 
-ghost use Rattle.std.specs.Prelude.{◌≡◌, true, false, ℕ, ◌+◌, ◌*◌, ◌%◌, ◌<◌, ◌≤◌, length};
+mod relation;
+
+ghost use Rattle.std.specs.Prelude.{◌≡◌, true, false, ℕ, ◌+◌, ◌*◌, ◌%◌, ◌<◌, ◌≤◌, eqb, length};
+ghost use Rattle.std.specs.List.{list_all};
 ghost use Rattle.nodeset.specs.Words.{bit, words_of};
 ghost use Rattle.model.specs.Limits.{max_nodes};
 ghost use Rattle.model.specs.Repeats.{plus};
 ghost use Rattle.closure.specs.Rows.{Small, leads, rows_of, Within, or_itself, taken, composed};
-ghost use Rattle.closure.specs.Closing.{gained, given_if, by_node, across, union_of, by_word, in_row, in_first, Inner, Closing, RowsRoom, Block, Blocked, Busy, Named};
+ghost use Rattle.closure.specs.Closing.{gained, given_if, by_node, across, union_of, by_word, in_row, in_first, Inner, Closing, RowsRoom, IsBlock, Blocked, Busy, Named};
 
+pub use crate::relation::Relation;
+use base::cell;
 use model::MAX_NODES;
-use nodeset::{NodeSet, insert, test, word};
+use nodeset::{NodeSet, insert, test};
+
+// A block of n nodes: those from 64 times its number on and below end.
+#[derive(Clone, Copy)]
+struct Block {
+    number: usize,
+    end: usize,
+    n: usize,
+    ghost made: { IsBlock n (64 * number) end },
+}
 
 // Row v takes in the first sixteen words of from.
 fn take_in(rows: &mut [u64], v: usize, from: &[u64])
     requires { (16 * v + 16 ≤ length rows.old) × (16 ≤ length from.now) × Small rows.old }
     ensures { rows.new ≡ taken rows.old v from.now }
 {
-    for i in 0..16 {
-        let x = rows[16 * v + i] | from[i];
-        rows[16 * v + i] = x;
+    for (i, x) in from[..16].iter().enumerate() {
+        rows[16 * v + i] |= *x;
     }
 }
 
@@ -57,6 +71,7 @@ fn row_of(rows: &[u64], v: usize) -> NodeSet
     requires { 16 * v + 16 ≤ length rows.now }
     ensures { result.words ≡ words_of (leads rows.now v) 16 }
 {
+    // word by word: by copy_from_slice this takes twice the time (tried)
     let mut words = [0u64; 16];
     for i in 0..16 {
         words[i] = rows[16 * v + i];
@@ -64,27 +79,34 @@ fn row_of(rows: &[u64], v: usize) -> NodeSet
     NodeSet { words }
 }
 
-// Each row from a number on and below end that has k takes in row k.
-fn take_node(rows: &mut [u64], k: usize, from: usize, end: usize)
-    requires { (k < end) × (from ≤ end) × RowsRoom end rows.old }
-    ensures { rows.new ≡ gained rows.old (by_node (leads rows.old) k from end) }
+// Each row of the block that has k takes in row k.
+fn take_node(rows: &mut [u64], k: usize, block: Block)
+    requires { (k < block.end) × RowsRoom block.n rows.old }
+    ensures { rows.new ≡ gained rows.old (by_node (leads rows.old) k (64 * block.number) block.end) }
 {
     let row = row_of(rows, k);
     let words = row.words;
-    for v in from..end {
+    for v in 64 * block.number..block.end {
         let yes = test(rows, MAX_NODES * v + k);
         take_if(rows, v, &words, yes);
     }
 }
 
-// The rows of a block of n nodes are closed among themselves.
-fn close_block(rows: &mut [u64], from: usize, end: usize, n: usize)
-    requires { RowsRoom n rows.old × Block n from end × Closing n from rows.old rows.old }
-    ensures { Closing n from rows.old rows.new × Inner n from end end (leads rows.new) }
+// The rows of a block are closed among themselves.
+fn close_block(rows: &mut [u64], block: Block)
+    requires { RowsRoom block.n rows.old × Closing block.n (64 * block.number) rows.old rows.old }
+    ensures { Closing block.n (64 * block.number) rows.old rows.new × Inner block.n (64 * block.number) block.end block.end (leads rows.new) }
 {
-    for k in from..end {
-        take_node(rows, k, from, end);
+    for k in 64 * block.number..block.end {
+        take_node(rows, k, block);
     }
+}
+
+// No word is more than 0.
+fn all_zero(words: &[u64]) -> bool
+    ensures { result ≡ list_all (λ x. eqb x 0) words.now }
+{
+    words.iter().all(|x| *x == 0)
 }
 
 // 2 to the power v % 64 where row v leads anywhere, and 0 where it does not.
@@ -92,21 +114,22 @@ fn busy_bit(rows: &[u64], v: usize) -> u64
     requires { 16 * v + 16 ≤ length rows.now }
     ensures { bit result (v % 64) ≡ false → (w : ℕ) → w < max_nodes → leads rows.now v w ≡ false }
 {
-    let mut all: u64 = 0;
-    for i in 0..16 {
-        all = all | rows[16 * v + i];
+    let at = 16 * v;
+    if all_zero(&rows[at..at + 16]) {
+        0
+    } else {
+        1 << (v % 64)
     }
-    if all == 0 { 0 } else { 1 << (v % 64) }
 }
 
 // A bit for each row of the block that leads anywhere.
-fn busy_bits(rows: &[u64], from: usize, end: usize) -> u64
-    requires { (from ≤ end) × RowsRoom end rows.now }
-    ensures { Busy from end result rows.now }
+fn busy_bits(rows: &[u64], block: Block) -> u64
+    requires { RowsRoom block.n rows.now }
+    ensures { Busy (64 * block.number) block.end result rows.now }
 {
     let mut x: u64 = 0;
-    for v in from..end {
-        x = x | busy_bit(rows, v);
+    for v in 64 * block.number..block.end {
+        x |= busy_bit(rows, v);
     }
     x
 }
@@ -122,47 +145,32 @@ fn digit(x: u64, low: bool) -> usize
     63 - (u64::leading_zeros(x) as usize)
 }
 
-// Row v takes in the rows of block j that it has. What is passed over is in a row that is taken in, or empty. Where the numbers go
+// Row v takes in the rows of the block that it has. What is passed over is in a row that is taken in, or empty. Where the numbers go
 // with the relation or against it, the row of the lowest or of the highest has the others; so the two take turns.
-fn take_block(rows: &mut [u64], v: usize, j: usize, end: usize, busy: u64, n: usize)
-    requires { (v < n) × RowsRoom n rows.old × Block n (64 * j) end × Blocked n (64 * j) end rows.old × Busy (64 * j) end busy rows.old }
-    ensures { rows.new ≡ gained rows.old (in_row v (across (leads rows.old) (64 * j) end)) }
+fn take_block(rows: &mut [u64], v: usize, block: Block, busy: u64)
+    requires { (v < block.n) × RowsRoom block.n rows.old × Blocked block.n (64 * block.number) block.end rows.old × Busy (64 * block.number) block.end busy rows.old }
+    ensures { rows.new ≡ gained rows.old (in_row v (across (leads rows.old) (64 * block.number) block.end)) }
 {
-    let mut left = rows[16 * v + j] & busy;
+    let mut left = rows[16 * v + block.number] & busy;
     let mut low = true;
     while 0 < left {
         let d = digit(left, low);
-        let row = row_of(rows, 64 * j + d);
+        let row = row_of(rows, 64 * block.number + d);
         let words = row.words;
         take_row(rows, v, &words);
-        left = left ^ (left & (words[j] | (1 << d)));
+        left = left ^ (left & (words[block.number] | (1 << d)));
         low = !low;
     }
 }
 
-// Each of n rows takes in the rows of block j that it has.
-fn spread_block(rows: &mut [u64], j: usize, end: usize, busy: u64, n: usize)
-    requires { RowsRoom n rows.old × Block n (64 * j) end × Blocked n (64 * j) end rows.old × Busy (64 * j) end busy rows.old }
-    ensures { rows.new ≡ gained rows.old (in_first n (across (leads rows.old) (64 * j) end)) }
+// Each of n rows takes in the rows of the block that it has.
+fn spread_block(rows: &mut [u64], block: Block, busy: u64)
+    requires { RowsRoom block.n rows.old × Blocked block.n (64 * block.number) block.end rows.old × Busy (64 * block.number) block.end busy rows.old }
+    ensures { rows.new ≡ gained rows.old (in_first block.n (across (leads rows.old) (64 * block.number) block.end)) }
 {
-    for v in 0..n {
-        take_block(rows, v, j, end, busy, n);
+    for v in 0..block.n {
+        take_block(rows, v, block, busy);
     }
-}
-
-// How many blocks n nodes need.
-fn block_count(n: usize) -> usize
-    requires { n ≤ max_nodes }
-    ensures { (n ≤ 64 * result) × (64 * result < n + 64) }
-{
-    (n + 63) / 64
-}
-
-// The lesser of two.
-fn least(a: usize, b: usize) -> usize
-    ensures { (result ≤ a) × (result ≤ b) × ((u : ℕ) → u < a → u < b → u < result) }
-{
-    if a < b { a } else { b }
 }
 
 // The rows lead through the nodes of block j too.
@@ -170,11 +178,14 @@ fn pass(rows: &mut [u64], j: usize, n: usize)
     requires { RowsRoom n rows.old × (64 * j < n) × Closing n (64 * j) rows.old rows.old }
     ensures { Closing n (64 * j + 64) rows.old rows.new }
 {
-    let from = 64 * j;
-    let end = least(from + 64, n);
-    close_block(rows, from, end, n);
-    let busy = busy_bits(rows, from, end);
-    spread_block(rows, j, end, busy, n);
+    let block = Block {
+        number: j,
+        end: usize::min(64 * j + 64, n),
+        n,
+    };
+    close_block(rows, block);
+    let busy = busy_bits(rows, block);
+    spread_block(rows, block, busy);
 }
 
 // The rows become those of one or more repetitions.
@@ -182,7 +193,7 @@ pub fn close(rows: &mut [u64], n: usize)
     requires { (n ≤ max_nodes) × (16 * n ≤ length rows.old) × Within n rows.old }
     ensures { rows.new ≡ rows_of n (plus (leads rows.old) n) (length rows.old) }
 {
-    let blocks = block_count(n);
+    let blocks = n.div_ceil(64);
     for j in 0..blocks {
         pass(rows, j, n);
     }
@@ -234,7 +245,7 @@ fn compose_block(into: &mut [u64], rows: &[u64], from: &[u64], j: usize, mask: u
     let mut sum = NodeSet::EMPTY;
     let mut last: u64 = 0;
     for v in 0..n {
-        let x = word(rows, 16 * v + j) & mask;
+        let x = cell(rows, 16 * v + j, 0) & mask;
         sum = union_after(sum, last, from, j, x);
         let words = sum.words;
         take_if(into, v, &words, 0 < x);
@@ -249,7 +260,7 @@ pub fn compose(into: &mut [u64], rows: &[u64], from: &[u64], n: usize)
 {
     let nodes = NodeSet::whole(n);
     let masks = nodes.words;
-    let blocks = block_count(n);
+    let blocks = n.div_ceil(64);
     for j in 0..blocks {
         compose_block(into, rows, from, j, masks[j], n);
     }

@@ -1,5 +1,5 @@
 -- Zeros, one more entry, one more rule.
-use Prim.Native.Nat.{ℕ, suc, ◌+◌, ◌≤◌, ◌<◌}
+use Prim.Native.Nat.{ℕ, zero, suc, ◌+◌, ◌≤◌, ◌<◌}
 use mathlib.Core.Bool.{Bool, true, false, cond}
 use mathlib.Core.List.{List, [], ◌∷◌, ◌++◌}
 use mathlib.Core.Path.{◌≡◌, refl, sym, ap, ap₂, ◌∙◌}
@@ -11,7 +11,7 @@ use lib.ListN.{get_or, length, set, replicate, drop, length-append, get_or-eq_de
 use lib.Seq.{get_or-set_same, get_or-set_other}
 use borrow.Author.Tests.{eqb-true, eqb-false}
 use Rattle.base.specs.Lists.{values}
-use Rattle.base.proofs.Lists.{length-values_from, values_from_snoc, zeros_at}
+use Rattle.base.proofs.Lists.{length-values_from, values_from_snoc}
 use Rattle.model.specs.Limits.{max_rules, max_forms, max_steps}
 use Rattle.tables.specs.Codes as codes
 use Rattle.tables.specs.Layout.{form_count, rule_count, root_at, rule_shape_at, rule_target_at, rule_operand_at}
@@ -21,30 +21,30 @@ use Rattle.plan.specs.Steps.{Step, numbers_of}
 use Rattle.plan.specs.Layout.{plan_count, rule_steps, laid, with_numbers, with_steps, plan_cells}
 use Rattle.plan.proofs.Stores.{store_rule, store-count, store-steps, laid_none}
 use Rattle.translation.specs.Compile.{Part, entry_part, put_at, more, made, target_step, steps_of_rule, steps_to, steps_of, rule_step, plan_of}
-use Rattle.compiler.specs.Stores.{number_in, Added, FormsAdded, rule_stored}
+use Rattle.compiler.specs.declared.Pair.{Pair}
+use Rattle.compiler.specs.Stores.{no_pair, keep_of, break_of, Added, FormsAdded, rule_stored}
 use Rattle.translation.proofs.Whole.{length_to}
 
 pub cleared-laid : (ps : List ℕ) → cleared plan_count 0 ps ≡ laid (drop plan_count ps) [] [] []
 unfolding cleared
 cleared-laid ps = sym (laid_none (drop plan_count ps))
 
--- ---- a store in an array of step numbers
-put-set : (xs : List ℕ) (e x : ℕ) (f : ℕ → ℕ) → e < length xs → ((j : ℕ) → get_or xs j 0 ≡ f j) → (j : ℕ) → get_or (set xs e x) j 0 ≡ put_at f e x j
+-- ---- a store in the array of pairs, seen by one of a pair's numbers
+put-set : (g : Pair → ℕ) (xs : List Pair) (e : ℕ) (x : Pair) (f : ℕ → ℕ) → e < length xs → ((j : ℕ) → g (get_or xs j no_pair) ≡ f j) → (j : ℕ) → g (get_or (set xs e x) j no_pair) ≡ put_at f e (g x) j
 unfolding put_at
-put-set xs e x f l h j = pick (eqb j e) refl
+put-set g xs e x f l h j = pick (eqb j e) refl
   where
-    pick : (b : Bool) → eqb j e ≡ b → get_or (set xs e x) j 0 ≡ cond b x (f j)
-    pick true q = ap (λ (i : ℕ). get_or (set xs e x) i 0) (eqb-true j e q) ∙ get_or-set_same xs e x 0 l
-    pick false q = get_or-set_other xs e j x 0 (eqb-false j e q) ∙ h j
+    pick : (b : Bool) → eqb j e ≡ b → g (get_or (set xs e x) j no_pair) ≡ cond b (g x) (f j)
+    pick true q = ap (λ (i : ℕ). g (get_or (set xs e x) i no_pair)) (eqb-true j e q) ∙ ap g (get_or-set_same xs e x no_pair l)
+    pick false q = ap g (get_or-set_other xs e j x no_pair (eqb-false j e q)) ∙ h j
 
 -- ---- entries: qs has those below e, and rs what compiling entry e made of it
-module _ (cs ps qs rs ks bs : List ℕ) (e n next k m : ℕ) (f : FormsAdded cs ps qs e n bs) (g : (j : ℕ) → get_or ks j 0 ≡ (made cs e).keep j) (r : Added qs rs n (entry_part cs (number_in ks) (number_in bs) n e (entry_at cs [] e)) next k m) where
+module _ (cs ps qs rs : List ℕ) (pairs : List Pair) (e n next : ℕ) (x : Pair) (f : FormsAdded cs ps qs e n pairs) (r : Added qs rs n (entry_part cs (keep_of pairs) (break_of pairs) n e (entry_at cs [] e)) next x.keep x.breaking) where
   abbrev own : Part
   own = entry_part cs (made cs e).keep (made cs e).breaking (length (made cs e).steps) e (entry_at cs [] e)
 
-  same-part : entry_part cs (number_in ks) (number_in bs) n e (entry_at cs [] e) ≡ own
-  unfolding number_in
-  same-part = λ i. entry_part cs (λ j. g j i) (λ j. f.breaks j i) (f.after i) e (entry_at cs [] e)
+  same-part : entry_part cs (keep_of pairs) (break_of pairs) n e (entry_at cs [] e) ≡ own
+  same-part = λ i. entry_part cs (λ j. f.keeps j i) (λ j. f.breaks j i) (f.after i) e (entry_at cs [] e)
 
   next-made : made cs (e + 1) ≡ more (made cs e) e own
   unfolding made
@@ -55,55 +55,56 @@ module _ (cs ps qs rs ks bs : List ℕ) (e n next k m : ℕ) (f : FormsAdded cs 
   steps_append [] ts k ps = ap (λ (m : ℕ). with_steps ps m ts) (let z : k ≡ k + 0 = omega arith in z)
   steps_append (s ∷ ss) ts k ps = steps_append ss ts (k + 1) (with_numbers ps k (numbers_of s)) ∙ ap (λ (m : ℕ). with_steps (with_steps (with_numbers ps k (numbers_of s)) (k + 1) ss) m ts) (let z : k + 1 + length ss ≡ k + suc (length ss) = omega arith in z)
 
-  pub forms-more : e < length bs → FormsAdded cs ps rs (e + 1) next (set bs e m)
+  pub forms-more : e < length pairs → FormsAdded cs ps rs (e + 1) next (set pairs e x)
   unfolding more
   forms-more l = record {
     stored = r.stored ∙ (λ i. with_steps (f.stored i) (f.after i) (same-part i).steps) ∙ ap (λ (i : ℕ). with_steps (with_steps ps 0 (made cs e).steps) i own.steps) (sym (zero-add (length (made cs e).steps))) ∙ sym (steps_append (made cs e).steps own.steps 0 ps) ∙ (λ i. with_steps ps 0 (sym next-made i).steps);
     after = r.after ∙ (λ i. f.after i + length (same-part i).steps) ∙ sym (length-append (made cs e).steps own.steps) ∙ (λ i. length (sym next-made i).steps);
-    breaks = λ j. put-set bs e m (made cs e).breaking l f.breaks j ∙ ap (λ (x : ℕ). put_at (made cs e).breaking e x j) (r.breaks ∙ ap (λ (x : Part). x.breaking) same-part) ∙ (λ i. (sym next-made i).breaking j);
+    keeps = λ j. put-set (λ p. p.keep) pairs e x (made cs e).keep l f.keeps j ∙ ap (λ (y : ℕ). put_at (made cs e).keep e y j) (r.keeps ∙ ap (λ (y : Part). y.keep) same-part) ∙ (λ i. (sym next-made i).keep j);
+    breaks = λ j. put-set (λ p. p.breaking) pairs e x (made cs e).breaking l f.breaks j ∙ ap (λ (y : ℕ). put_at (made cs e).breaking e y j) (r.breaks ∙ ap (λ (y : Part). y.breaking) same-part) ∙ (λ i. (sym next-made i).breaking j);
   }
 
-  pub keeps-more : e < length ks → (j : ℕ) → get_or (set ks e k) j 0 ≡ (made cs (e + 1)).keep j
-  unfolding more
-  keeps-more l j = put-set ks e k (made cs e).keep l g j ∙ ap (λ (x : ℕ). put_at (made cs e).keep e x j) (r.keeps ∙ ap (λ (x : Part). x.keep) same-part) ∙ (λ i. (sym next-made i).keep j)
+-- no entry has steps
+none-at : (n j : ℕ) → get_or (replicate n no_pair) j no_pair ≡ no_pair
+none-at zero j = refl
+none-at (suc n) zero = refl
+none-at (suc n) (suc j) = none-at n j
 
-pub forms-none : (cs ps bs : List ℕ) → ((j : ℕ) → get_or bs j 0 ≡ 0) → FormsAdded cs ps ps 0 0 bs
+pub forms-none : (cs ps : List ℕ) (n : ℕ) (pairs : List Pair) → n ≡ 0 → pairs ≡ replicate max_forms no_pair → FormsAdded cs ps ps 0 n pairs
 unfolding made with_steps
-forms-none cs ps bs h = record { stored = refl; after = refl; breaks = h }
+forms-none cs ps n pairs z e =
+    let at : (j : ℕ) → get_or pairs j no_pair ≡ no_pair = λ j. ap (λ (l : List Pair). get_or l j no_pair) e ∙ none-at max_forms j in
+    record { stored = refl; after = z; keeps = λ j. ap (λ (p : Pair). p.keep) (at j); breaks = λ j. ap (λ (p : Pair). p.breaking) (at j) }
 
-pub keeps-none : (cs : List ℕ) (j : ℕ) → get_or (replicate max_forms 0) j 0 ≡ (made cs 0).keep j
-unfolding made
-keeps-none cs j = zeros_at max_forms j
+-- ---- targets by their codes; xs: the numbers of the target's step
+module _ (cs : List ℕ) (r code a : ℕ) (ec : code ≡ rule_target_at cs r) (ea : a ≡ rule_operand_at cs r) (xs : List ℕ) where
+  abbrev Target : Type 0
+  Target = xs ≡ numbers_of (target_step (rule_at cs r).target)
 
--- ---- targets by their codes
-module _ (cs ps qs : List ℕ) (r n code a : ℕ) (ec : code ≡ rule_target_at cs r) (ea : a ≡ rule_operand_at cs r) where
-  abbrev Stored : Type 0
-  Stored = qs ≡ with_numbers ps n (numbers_of (target_step (rule_at cs r).target))
-
-  target_is : (i : ℕ) (s : Step) → code ≡ i → s ≡ target_step (target_of i a) → qs ≡ with_numbers ps n (numbers_of s) → Stored
+  target_is : (i : ℕ) (s : Step) → code ≡ i → s ≡ target_step (target_of i a) → xs ≡ numbers_of s → Target
   unfolding rule_at
-  target_is i s z x q = q ∙ ap (λ (s : Step). with_numbers ps n (numbers_of s)) (x ∙ (λ t. target_step (target_of ((sym z ∙ ec) t) (ea t))))
+  target_is i s z x q = q ∙ ap numbers_of (x ∙ (λ t. target_step (target_of ((sym z ∙ ec) t) (ea t))))
 
-  pub target-node : code ≡ codes.target_node → qs ≡ with_numbers ps n (numbers_of (Step.is a)) → Stored
+  pub target-node : code ≡ codes.target_node → xs ≡ numbers_of (Step.is a) → Target
   unfolding target_step target_of
   target-node z q = target_is codes.target_node (Step.is a) z refl q
 
-  pub target-subjects : code ≡ codes.target_subjects → qs ≡ with_numbers ps n (numbers_of (Step.from a)) → Stored
+  pub target-subjects : code ≡ codes.target_subjects → xs ≡ numbers_of (Step.from a) → Target
   unfolding target_step target_of
   target-subjects z q = target_is codes.target_subjects (Step.from a) z refl q
 
-  pub target-objects : code ≡ codes.target_objects → qs ≡ with_numbers ps n (numbers_of (Step.into a)) → Stored
+  pub target-objects : code ≡ codes.target_objects → xs ≡ numbers_of (Step.into a) → Target
   unfolding target_step target_of
   target-objects z q = target_is codes.target_objects (Step.into a) z refl q
 
-  pub target_class_lem : codes.target_class ≤ code → qs ≡ with_numbers ps n (numbers_of (Step.typed a)) → Stored
+  pub target_class_lem : codes.target_class ≤ code → xs ≡ numbers_of (Step.typed a) → Target
   unfolding target_step target_of
   target_class_lem l q = target_is code (Step.typed a) refl (rw get_or-eq_default) q
 
 -- ---- rules
-pub rule_law : (cs ps p1 p2 : List ℕ) (r n x b b' y : ℕ) → p1 ≡ with_numbers ps n (numbers_of (target_step (rule_at cs r).target)) → p2 ≡ with_numbers p1 (n + 1) (numbers_of (Step.both x b)) → x ≡ n → b ≡ b' → y ≡ n + 1 → set p2 (rule_steps + r) y ≡ rule_stored cs ps r n b'
+pub rule_law : (cs ps p1 p2 : List ℕ) (r n n2 x b b' y : ℕ) → p1 ≡ with_numbers ps n (numbers_of (target_step (rule_at cs r).target)) → p2 ≡ with_numbers p1 n2 (numbers_of (Step.both x b)) → n2 ≡ n + 1 → x ≡ n → b ≡ b' → y ≡ n2 → set p2 (rule_steps + r) y ≡ rule_stored cs ps r n b'
 unfolding rule_stored with_steps
-rule_law cs ps p1 p2 r n x b b' y f g ex eb ey = λ i. set ((g ∙ (λ t. with_numbers (f t) (n + 1) (numbers_of (Step.both (ex t) (eb t))))) i) (rule_steps + r) (ey i)
+rule_law cs ps p1 p2 r n n2 x b b' y f g e2 ex eb ey = λ i. set ((g ∙ (λ t. with_numbers (f t) (e2 t) (numbers_of (Step.both (ex t) (eb t))))) i) (rule_steps + r) ((ey ∙ e2) i)
 
 pub rule_next : (cs : List ℕ) (r n : ℕ) → n ≡ length (steps_to cs r) → n + 2 ≡ length (steps_to cs (r + 1))
 rule_next cs r n e = ap (λ (k : ℕ). k + 2) e ∙ sym (length_to cs r) ∙ ap (λ (k : ℕ). length (steps_to cs k)) (sym (add-one r))

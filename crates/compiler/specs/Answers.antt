@@ -1,18 +1,11 @@
 -- What compiling answers, and what it leaves in the lent plan.
 use Rattle.std.specs.Prelude.{ℕ, List, ◌++◌, Bool, true, ◌&&◌, leb, ℤ, length, take, drop}
-use Rattle.model.specs.Answers.{Answer, value, refusal_of, checked, unless_refused}
+use Rattle.model.specs.Answers.{Answer, checked, unless_refused}
 use Rattle.tables.specs.Layout.{cell_count}
 use Rattle.tables.specs.Sizes.{long_enough}
 use Rattle.tables.specs.WellFormed.{well_formed}
 use Rattle.plan.specs.Layout.{plan_count}
 use Rattle.translation.specs.Compile.{steps_of, plan_of}
-use Rattle.compiler.specs.declared.Compiled.{Compiled}
-use Rattle.compiler.specs.declared.Compiled.TheVariants.{Steps, Refused}
-
--- each case of the answer: the number of steps, or the refusal
-abbrev pub answer_of : Compiled → Answer ℕ
-answer_of (Steps n) = value n
-answer_of (Refused r) = refusal_of r
 
 module _ (ns cs : List ℕ) (vs : List ℤ) (ps : List ℕ) where
   -- tables and plan are long enough. A longer table counts up to its limit.

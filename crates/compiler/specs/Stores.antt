@@ -6,10 +6,18 @@ use Rattle.tables.specs.Decode.{rule_at}
 use Rattle.plan.specs.Steps.{Step}
 use Rattle.plan.specs.Layout.{plan_count, rule_steps, with_numbers, with_steps}
 use Rattle.translation.specs.Compile.{Part, made, target_step}
+use Rattle.compiler.specs.declared.Pair.{Pair}
 
--- the number at j, 0 past the end
-unfoldable pub number_in : List ℕ → ℕ → ℕ
-number_in xs j = get_or xs j 0
+-- before an entry has steps
+abbrev pub no_pair : Pair
+no_pair = record { keep = 0; breaking = 0 }
+
+-- the number of entry j's keeping step, and of its breaking one; 0 past the end
+abbrev pub keep_of : List Pair → ℕ → ℕ
+keep_of ps j = (get_or ps j no_pair).keep
+
+abbrev pub break_of : List Pair → ℕ → ℕ
+break_of ps j = (get_or ps j no_pair).breaking
 
 -- qs is ps with two steps from n on, given by their numbers; next is the next step's number, k and m those of the two
 pub record TwoAdded (ps qs : List ℕ) (n : ℕ) (xs ys : List ℕ) (next k m : ℕ) : Type 0 where
@@ -25,11 +33,12 @@ pub record Added (ps qs : List ℕ) (n : ℕ) (x : Part) (next k m : ℕ) : Type
   pub keeps : k ≡ x.keep
   pub breaks : m ≡ x.breaking
 
--- qs is ps with the steps of the entries below e; n is the next step's number, and breaking has each entry's breaking step
-pub record FormsAdded (cs ps qs : List ℕ) (e n : ℕ) (breaking : List ℕ) : Type 0 where
+-- qs is ps with the steps of the entries below e; n is the next step's number, and pairs has each entry's two
+pub record FormsAdded (cs ps qs : List ℕ) (e n : ℕ) (pairs : List Pair) : Type 0 where
   pub stored : qs ≡ with_steps ps 0 (made cs e).steps
   pub after : n ≡ length (made cs e).steps
-  pub breaks : (j : ℕ) → get_or breaking j 0 ≡ (made cs e).breaking j
+  pub keeps : (j : ℕ) → keep_of pairs j ≡ (made cs e).keep j
+  pub breaks : (j : ℕ) → break_of pairs j ≡ (made cs e).breaking j
 
 -- ps with the two steps of rule r from n on, and its step's number; b is the step of the shape's breaks
 unfoldable pub rule_stored : List ℕ → List ℕ → ℕ → ℕ → ℕ → List ℕ

@@ -1,5 +1,5 @@
 -- The items of a list and the triples of the tables, looked at one by one.
-use Prim.Native.Nat.{ℕ, zero, suc, ◌+◌, ◌≤◌, ◌<◌}
+use Prim.Native.Nat.{ℕ, zero, suc, ◌+◌, ◌-◌, ◌≤◌, ◌<◌}
 use mathlib.Core.List.{List, [], ◌∷◌}
 use mathlib.Core.Bool.{Bool, true, false, not, cond, ◌&&◌, ◌||◌, or-false, or_comm, not-not}
 use mathlib.Core.Option.{Option, or_else}
@@ -9,6 +9,8 @@ use native.Mathlib.Omega.{arith}
 use lib.Dec.{eqb, ltb}
 use lib.ListN.{get_or, replicate}
 use borrow.Author.Tests.{eq-eqb, ne_eqb, eqb-true, eqb-false, ltb-true, ltb-false}
+use Rattle.std.specs.Prelude as std
+use Rattle.std.specs.List.{list_any, range_with_len}
 use Rattle.base.specs.Bounded.{some}
 use Rattle.base.proofs.Bools.{and_left, and_right, bool_cases}
 use Rattle.base.proofs.Bounded.{every-at, some-none, some_ext}
@@ -28,16 +30,8 @@ use Rattle.plan.proofs.Complements.{not-closed}
 use Rattle.model.specs.Limits.{max_nodes, max_links}
 use Rattle.model.specs.Shapes.{only_listed}
 use Rattle.conditions.specs.Pairs.{link_words, unlisted}
-use Rattle.conditions.specs.Searches.{first, before, found, nothing}
-use Rattle.conditions.proofs.Searches.{kept, first_found}
-
-pub some_miss : (p : ℕ → Bool) (i : ℕ) → some p i ≡ false → p i ≡ false → some p (i + 1) ≡ false
-unfolding some
-some_miss p i e h = ap (some p) (add-one i) ∙ ap₂ (λ (a b : Bool). a || b) h e
-
-pub some_zero : (p : ℕ → Bool) → some p 0 ≡ false
-unfolding some
-some_zero p = refl
+use Rattle.conditions.specs.Searches.{first, before, found, nothing, fact_found}
+use Rattle.conditions.proofs.Searches.{some_fact, none-of, kept, first_found}
 
 -- x is one of f i, f (i + 1), .., n of them
 member-values : (f : ℕ → ℕ) (i n x : ℕ) → member x (values_from f i n) ≡ some (λ k. eqb x (f (i + k))) n
@@ -51,6 +45,12 @@ module _ (cs : List ℕ) where
   pub listed-some : (i n x : ℕ) → some (λ k. eqb x (item_at cs (i + k))) n ≡ member x (items_at cs i n)
   unfolding items_at
   listed-some i n x = sym (member-values (item_at cs) i n x)
+
+  -- x is among the items from i on, looked at one by one
+  pub any-member : (i n x : ℕ) → list_any (λ k. eqb x (item_at cs k)) (range_with_len i n) ≡ member x (items_at cs i n)
+  unfolding items_at member values_from
+  any-member i zero x = refl
+  any-member i (suc n) x = ap (λ (k : ℕ). eqb x (item_at cs i) || list_any (λ k. eqb x (item_at cs k)) (range_with_len k n)) (add-one i) ∙ ap (λ (b : Bool). eqb x (item_at cs i) || b) (any-member (suc i) n x)
 
   -- the set of the links of a list, gathered one after the other
   module _ (i : ℕ) where
@@ -87,6 +87,13 @@ module _ (cs : List ℕ) where
 
     pub unlisted-keeps : nothing (first (unlisted cs listed v) (fact_count cs)) ≡ only_listed (triples_at cs) listed v
     unlisted-keeps = kept (first (unlisted cs listed v) (fact_count cs)) (only_listed (triples_at cs) listed v) (unlisted-breaks ∙ sym (not-closed (triples_at cs) listed v))
+
+    -- the same of what the code found, read off
+    pub closed-kept : (o : std.Option ℕ) {t : Bool} → fact_found o ≡ first (unlisted cs listed v) (fact_count cs) → std.is_some o ≡ not t → t ≡ only_listed (triples_at cs) listed v
+    closed-kept o e h = none-of (fact_found o) (some_fact o) h ∙ ap nothing e ∙ unlisted-keeps
+
+    pub closed-broken : (o : std.Option ℕ) → fact_found o ≡ first (unlisted cs listed v) (fact_count cs) → std.is_some o ≡ some_unlisted (triples_at cs) listed v
+    closed-broken o e = some_fact o ∙ ap found e ∙ unlisted-breaks
 
   -- it matters only which predicates of the triples are listed
   module _ (p q : ℕ → Bool) (v : ℕ) (e : (i : ℕ) → i < fact_count cs → p (predicate_at cs i) ≡ q (predicate_at cs i)) where
@@ -179,3 +186,11 @@ module _ (cs index : List ℕ) (t : Tables cs index) (listed : ℕ → Bool) (v 
   pub sought_done : {next : ℕ} {answer : Option ℕ} → next ≡ 0 → Sought cs listed v next answer → answer ≡ first (unlisted cs listed v) (fact_count cs)
   unfolding first or_else
   sought_done {next} {answer} e s = ap (λ (k : ℕ). or_else (first (unlisted cs listed v) k) answer) (sym e) ∙ s.rest
+
+-- a number less one, which 0 has not
+pub before-is : (n : ℕ) (o : std.Option ℕ) → std.SomeIff o (1 ≤ n) (n - 1) → fact_found o ≡ before n
+unfolding before
+before-is zero std.None h = refl
+before-is zero (std.Some i) h = absurd (let z : 1 ≤ 0 = h.0 in omega arith)
+before-is (suc n) std.None h = absurd (h (omega arith))
+before-is (suc n) (std.Some i) h = ap (λ (k : ℕ). Option.some k) (h.1 ∙ (let e : suc n - 1 ≡ n = omega arith in e))

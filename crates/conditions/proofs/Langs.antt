@@ -8,10 +8,12 @@ use native.Mathlib.Omega.{arith}
 use lib.Dec.{eqb, ltb}
 use lib.IntN.{ℤ}
 use borrow.Author.Tests.{eq-eqb, eqb-true, lt-ltb}
+use Rattle.std.specs.Prelude as std
 use Rattle.base.specs.Bounded.{◌⇒◌}
 use Rattle.base.proofs.Bools.{bool_cases, same_test, and_left}
 use Rattle.nodeset.specs.Words.{has, words_of}
-use Rattle.nodeset.proofs.Sets.{has_of, words_of_ext}
+use Rattle.nodeset.proofs.Sets.{has_of}
+use Rattle.model.specs.declared.NodeNo.{NodeNo}
 use Rattle.model.specs.Graph.{language_of, holds, holds₂}
 use Rattle.model.specs.Shapes.{same_lang, unlike_langs}
 use Rattle.model.specs.Limits.{max_nodes}
@@ -20,9 +22,9 @@ use Rattle.tables.specs.Layout.{node_count, kind_at, lang_at}
 use Rattle.tables.specs.Decode.{term_at}
 use Rattle.plan.specs.Conditions.{some_pair, clash}
 use Rattle.plan.proofs.Complements.{not-clash}
-use Rattle.conditions.specs.Searches.{first_pair, among, found, nothing}
+use Rattle.conditions.specs.Searches.{first_pair, among, found, nothing, pair_found}
 use Rattle.conditions.proofs.Terms.{lang_test}
-use Rattle.conditions.proofs.Searches.{pair_ext, pair-breaks, pair_keeps}
+use Rattle.conditions.proofs.Searches.{some-pair, none-of, pair_ext, pair-breaks, pair_keeps}
 use Rattle.conditions.proofs.Listing.{ordered, ordered-first}
 
 lang-turn : (o p : Option ℕ) → holds₂ eqb o p ≡ holds₂ eqb p o
@@ -57,6 +59,13 @@ module _ (cs : List ℕ) (vs : List ℤ) where
   pub lang-breaks : (w : ℕ → Bool) → found (first_clash w) ≡ some_pair (node_count cs) w w (clash (term_at cs vs))
   lang-breaks w = pair-breaks (node_count cs) w w (clash (term_at cs vs))
 
+  -- the same of what the code found, read off
+  pub onelang-kept : (w : ℕ → Bool) (o : std.Option (NodeNo × NodeNo)) {t : Bool} → pair_found o ≡ first_clash w → std.is_some o ≡ not t → t ≡ unlike_langs (term_at cs vs) (node_count cs) w
+  onelang-kept w o e h = none-of (pair_found o) (some-pair o) h ∙ ap nothing e ∙ lang-keeps w
+
+  pub onelang-broken : (w : ℕ → Bool) (o : std.Option (NodeNo × NodeNo)) → pair_found o ≡ first_clash w → std.is_some o ≡ some_pair (node_count cs) w w (clash (term_at cs vs))
+  onelang-broken w o e = some-pair o ∙ ap found e ∙ lang-breaks w
+
   -- those that have no language need not be looked at
   alike-only : (x y : ℕ) → x < node_count cs → y < node_count cs → alike x y ≡ true → eqb (kind_at cs x) codes.node_words ≡ true
   alike-only x y l k t = and_left (eqb (kind_at cs x) codes.node_words) (eqb (kind_at cs y) codes.node_words && eqb (lang_at cs x) (lang_at cs y)) (lang_test cs vs x y l k ∙ t)
@@ -87,12 +96,3 @@ module _ (cs : List ℕ) (vs : List ℤ) where
 -- the words of the nodes that have a language
 pub has-tagged : (cs : List ℕ) {ws : List ℕ} → node_count cs ≤ max_nodes → ws ≡ words_of (λ m. ltb m (node_count cs) && eqb (kind_at cs m) codes.node_words) 16 → (a : ℕ → Bool) (x : ℕ) → x < node_count cs → (a x && has ws x) ≡ (a x && eqb (kind_at cs x) codes.node_words)
 has-tagged cs few e a x l = ap (λ (b : Bool). a x && b) (has_of (λ m. ltb m (node_count cs) && eqb (kind_at cs m) codes.node_words) 16 e x (omega arith) ∙ ap (λ (b : Bool). b && eqb (kind_at cs x) codes.node_words) (lt-ltb x (node_count cs) l))
-
--- of all nodes, those that have a language
-pub all_langs : (cs ws : List ℕ) (n : ℕ) → n ≡ node_count cs → ws ≡ words_of (λ m. ltb m n) 16 → words_of (λ m. ltb m (node_count cs) && (has ws m && eqb (kind_at cs m) codes.node_words)) 16 ≡ words_of (λ m. ltb m (node_count cs) && eqb (kind_at cs m) codes.node_words) 16
-all_langs cs ws n e f = words_of_ext (λ m. ltb m (node_count cs) && (has ws m && eqb (kind_at cs m) codes.node_words)) (λ m. ltb m (node_count cs) && eqb (kind_at cs m) codes.node_words) 16 (λ m l.
-    ap (λ (b : Bool). ltb m (node_count cs) && (b && eqb (kind_at cs m) codes.node_words)) (has_of (λ m. ltb m n) 16 f m l ∙ ap (ltb m) e) ∙ twice (ltb m (node_count cs)) (eqb (kind_at cs m) codes.node_words))
-  where
-    twice : (a b : Bool) → (a && (a && b)) ≡ (a && b)
-    twice true b = refl
-    twice false b = refl

@@ -7,7 +7,8 @@ use mathlib.Core.Option.{Option}
 use mathlib.Core.Path.{◌≡◌, refl, sym, ap, ap₂, ◌∙◌, subst}
 use native.Mathlib.Omega.{arith}
 use lib.Dec.{eqb, ltb}
-use lib.ListN.{get_or, set, length}
+use lib.ListN.{get_or, set, take, length}
+use Rattle.std.proofs.lemmas.List.{get_or-take, length-take-le}
 use lib.Seq.{get_or-set_same, get_or-set_other}
 use borrow.Author.Tests.{eqb-true, eqb-false, ne_eqb, lt-ltb, le-ltb, ltb-true, ltb-false, not-true}
 use Rattle.base.specs.Bounded.{◌⇒◌, every}
@@ -84,6 +85,15 @@ module _ (p : ℕ → Bool) (n : ℕ) where
     rising = g.rising;
     all = λ y k h. g.all y (omega arith) h;
   }
+
+-- the places that are used, by themselves
+pub listed-alone : {p : ℕ → Bool} {n : ℕ} (xs : List ℕ) {count : ℕ} → count ≤ length xs → MembersListed p n xs count → MembersListed p n (take count xs) (length (take count xs))
+listed-alone {p} {n} xs {count} room s = subst (MembersListed p n (take count xs)) (sym (length-take-le count xs room)) (record {
+  few = s.few;
+  inside = λ j l. let t = s.inside j l in (omega (arith, t.0, get_or-take count xs j 0 l), ap p (get_or-take count xs j 0 l) ∙ t.1);
+  rising = λ i j a l. omega (arith, s.rising i j a l, get_or-take count xs i 0 (omega arith), get_or-take count xs j 0 l);
+  all = λ x l h. let t = s.all x l h in (t.0, t.1, get_or-take count xs t.0 0 t.1 ∙ t.2);
+})
 
 -- a set taken twice
 pub listed-once : {p : ℕ → Bool} {n : ℕ} {xs : List ℕ} {count : ℕ} → MembersListed (λ m. p m && p m) n xs count → MembersListed p n xs count

@@ -1,5 +1,5 @@
--- A search that goes from member to member of a set, and what it has seen.
-use Prim.Native.Nat.{ℕ, ◌+◌, ◌≤◌, ◌<◌, zero-le}
+-- A search that goes from member to member of a set, and what it has seen; sets that are gathered.
+use Prim.Native.Nat.{ℕ, ◌+◌, ◌*◌, ◌≤◌, ◌<◌, zero-le}
 use mathlib.Core.Bool.{Bool, true, false, ◌&&◌, ◌||◌, and-true, and-false, or-false}
 use mathlib.Core.List.{List}
 use mathlib.Core.Path.{◌≡◌, refl, sym, ap, ap₂, ◌∙◌, subst}
@@ -12,8 +12,8 @@ use Rattle.base.proofs.Bools.{bool_cases}
 use Rattle.base.proofs.Bounded.{every-at, every-all, every_more}
 use Rattle.base.specs.Least.{next_from}
 use Rattle.base.proofs.Least.{Next, next-found}
-use Rattle.nodeset.specs.Words.{has, words_of}
-use Rattle.nodeset.proofs.Sets.{words_of_ext, has_of, length_of, zeros}
+use Rattle.nodeset.specs.Words.{has, words_of, nodes_of}
+use Rattle.nodeset.proofs.Sets.{words_of_ext, has_of, length_of, zeros, ltb-more}
 
 -- the search stands at i, which is a member or n, and q holds of all members before it
 pub record Passed (p q : ℕ → Bool) (n i : ℕ) : Type 0 where
@@ -89,3 +89,35 @@ module _ (p t : ℕ → Bool) (n : ℕ) where
 
   pub gathered-all : {ws : List ℕ} {x : ℕ} → Gathered ws x → n ≤ x → ws ≡ words_of (up_to n) 16
   gathered-all {ws} {x} s l = s.words ∙ ap (λ (k : ℕ). words_of (up_to k) 16) (let e : x ≡ n = omega (arith, s.within) in e)
+
+-- x joins words of p, where b
+pub grown : {ws : List ℕ} (p q : ℕ → Bool) (k x : ℕ) (b : Bool) → ws ≡ words_of p k → ((m : ℕ) → m < 64 * k → (p m || (b && eqb m x)) ≡ q m) → words_of (λ m. has ws m || (b && eqb m x)) (length ws) ≡ words_of q k
+grown {ws} p q k x b e h =
+    ap (words_of (λ m. has ws m || (b && eqb m x))) (length_of p k e)
+    ∙ words_of_ext (λ m. has ws m || (b && eqb m x)) q k (λ m l. ap (λ (a : Bool). a || (b && eqb m x)) (has_of p k e m l) ∙ h m l)
+
+-- ---- the nodes that have a property, gathered node by node
+module _ (p : ℕ → Bool) where
+  pub nodes-none : replicate 16 0 ≡ nodes_of p 0
+  unfolding nodes_of
+  nodes-none = zeros 16 ∙ words_of_ext (λ m. false) (λ v. ltb v 0 && p v) 16 (λ m l. ap (λ (b : Bool). b && p m) (sym (le-ltb m 0 (omega arith))))
+
+  pub nodes-more : {ws : List ℕ} (i : ℕ) (b : Bool) → ws ≡ nodes_of p i → b ≡ p i → words_of (λ m. has ws m || (b && eqb m i)) (length ws) ≡ nodes_of p (i + 1)
+  unfolding nodes_of
+  nodes-more i b e f = grown (λ v. ltb v i && p v) (λ v. ltb v (i + 1) && p v) 16 i b e (λ m l. here m (eqb m i) refl ∙ ap (λ (a : Bool). a && p m) (sym (ltb-more m i)))
+    where
+      with_i : (a x : Bool) → ((a && x) || x) ≡ ((a || true) && x)
+      with_i true true = refl
+      with_i true false = refl
+      with_i false x = refl
+
+      here : (m : ℕ) (d : Bool) → eqb m i ≡ d → ((ltb m i && p m) || (b && d)) ≡ ((ltb m i || d) && p m)
+      here m true q = ap (λ (x : Bool). (ltb m i && p m) || x) (and-true b ∙ f ∙ ap p (sym (eqb-true m i q))) ∙ with_i (ltb m i) (p m)
+      here m false q = ap (λ (x : Bool). (ltb m i && p m) || x) (and-false b) ∙ or-false (ltb m i && p m) ∙ ap (λ (x : Bool). x && p m) (sym (or-false (ltb m i)))
+
+  pub nodes-length : {ws : List ℕ} (i : ℕ) → ws ≡ nodes_of p i → 16 ≡ length ws
+  unfolding nodes_of
+  nodes-length i e = sym (length_of (λ v. ltb v i && p v) 16 e)
+
+  pub nodes_done : {ws : List ℕ} (i n : ℕ) → i ≡ n → ws ≡ nodes_of p i → ws ≡ nodes_of p n
+  nodes_done i n e f = f ∙ ap (nodes_of p) e

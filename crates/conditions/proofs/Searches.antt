@@ -9,6 +9,7 @@ use native.Mathlib.Nat.{eq-or-lt_of_le, le_of_suc-le-suc}
 use native.Mathlib.Omega.{arith}
 use lib.Dec.{ltb}
 use borrow.Author.Tests.{ltb-true, ltb-false}
+use Rattle.std.specs.Prelude as std
 use Rattle.base.specs.Bounded.{◌⇒◌, some}
 use Rattle.base.proofs.Bools.{bool_cases, never_both, not_implies}
 use Rattle.base.proofs.Bounded.{some_at, some_witness, some_ext, some-none, some_and, not-every}
@@ -17,7 +18,10 @@ use Rattle.base.proofs.Least.{Next, next-found}
 use Rattle.model.specs.Shapes.{subset, none_shared, all_pairs}
 use Rattle.plan.specs.Conditions.{in_one, some_in_one, some_shared, some_pair}
 use Rattle.plan.proofs.Complements.{not_equal, not-apart, not_pairs}
-use Rattle.conditions.specs.Searches.{first, first_row, first_pair, among, first_in_one, found, nothing}
+use Rattle.model.specs.declared.NodeNo.{NodeNo}
+use Rattle.conditions.specs.declared.Side.{Side}
+use Rattle.conditions.specs.declared.Side.TheVariants.{SecondLacks, FirstLacks}
+use Rattle.conditions.specs.Searches.{first, first_row, first_pair, among, first_in_one, found, nothing, node_found, pair_found, side_found, fact_found}
 
 pub nothing-not : {A : Type 0} (o : Option A) → nothing o ≡ not (found o)
 nothing-not Option.none = refl
@@ -26,6 +30,28 @@ nothing-not (Option.some x) = refl
 -- nothing is found where the contrary of what is found fails
 pub kept : {A : Type 0} (o : Option A) (b : Bool) → found o ≡ not b → nothing o ≡ b
 kept o b e = nothing-not o ∙ ap not e ∙ not-not b
+
+-- ---- what a caller reads off: something was found, nothing was
+pub some_node : (o : std.Option NodeNo) → std.is_some o ≡ found (node_found o)
+some_node (std.Some v) = refl
+some_node std.None = refl
+
+pub some-pair : (o : std.Option (NodeNo × NodeNo)) → std.is_some o ≡ found (pair_found o)
+some-pair (std.Some p) = refl
+some-pair std.None = refl
+
+pub some_side : (o : std.Option Side) → std.is_some o ≡ found (side_found o)
+some_side (std.Some (SecondLacks v)) = refl
+some_side (std.Some (FirstLacks v)) = refl
+some_side std.None = refl
+
+pub some_fact : (o : std.Option ℕ) → std.is_some o ≡ found (fact_found o)
+some_fact (std.Some i) = refl
+some_fact std.None = refl
+
+-- o is what was found, s says that something was, b that nothing was
+pub none-of : {A : Type 0} (o : Option A) {s b : Bool} → s ≡ found o → s ≡ not b → b ≡ nothing o
+none-of o {b = b} e h = sym (nothing-not o ∙ ap not (sym e ∙ h) ∙ not-not b)
 
 -- ---- one number
 module _ (p : ℕ → Bool) where
@@ -151,7 +177,7 @@ pair_ext r s n h = ⊎_elim
     })))
     (search_pair r n)
 
--- ---- kept and broken conditions on two sets
+-- ---- kept and broken conditions on two sets: nothing was found, something was
 module _ (n : ℕ) (a b : ℕ → Bool) where
   -- one set in the other: nothing of it is outside
   pub outside_keeps : nothing (first (λ x. a x && not (b x)) n) ≡ subset n a b
@@ -186,3 +212,20 @@ module _ (n : ℕ) (a b : ℕ → Bool) where
 
     pub pair_keeps : (g : ℕ → ℕ → Bool) → ((x y : ℕ) → not (g x y) ≡ f x y) → nothing (first_pair (among a b f) n) ≡ all_pairs n a b g
     pair_keeps g h = kept (first_pair (among a b f) n) (all_pairs n a b g) (pair-breaks ∙ sym (not_pairs n a b g f h))
+
+-- ---- the same of what the code found, read off
+module _ (n : ℕ) (a b : ℕ → Bool) where
+  pub subset-kept : (o : std.Option NodeNo) {t : Bool} → node_found o ≡ first (λ x. a x && not (b x)) n → std.is_some o ≡ not t → t ≡ subset n a b
+  subset-kept o e h = none-of (node_found o) (some_node o) h ∙ ap nothing e ∙ outside_keeps n a b
+
+  pub apart_kept : (o : std.Option NodeNo) {t : Bool} → node_found o ≡ first (λ x. a x && b x) n → std.is_some o ≡ not t → t ≡ none_shared n a b
+  apart_kept o e h = none-of (node_found o) (some_node o) h ∙ ap nothing e ∙ shared_keeps n a b
+
+  pub apart-broken : (o : std.Option NodeNo) → node_found o ≡ first (λ x. a x && b x) n → std.is_some o ≡ some_shared n a b
+  apart-broken o e = some_node o ∙ ap found e ∙ shared-breaks n a b
+
+  pub equal-kept : (o : std.Option Side) {t : Bool} → side_found o ≡ first_in_one n a b → std.is_some o ≡ not t → t ≡ (subset n a b && subset n b a)
+  equal-kept o e h = none-of (side_found o) (some_side o) h ∙ ap nothing e ∙ one-keeps n a b
+
+  pub equal-broken : (o : std.Option Side) → side_found o ≡ first_in_one n a b → std.is_some o ≡ some_in_one n a b
+  equal-broken o e = some_side o ∙ ap found e ∙ one-breaks n a b

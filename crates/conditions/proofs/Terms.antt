@@ -1,7 +1,7 @@
 -- What is asked of a node's term, by the code of its kind; and the test that a form entry is, by its code.
 use Prim.Native.Nat.{ℕ, zero, suc, ◌+◌, ◌≤◌, ◌<◌}
 use mathlib.Core.List.{List, [], ◌∷◌}
-use mathlib.Core.Bool.{Bool, true, false, not, cond, ◌&&◌, ◌||◌, and-false, or-false, or-true, not-not}
+use mathlib.Core.Bool.{Bool, true, false, not, cond, ◌&&◌, ◌||◌, and-false, or-false, not-not}
 use mathlib.Core.Option.{Option}
 use mathlib.Core.Path.{◌≡◌, refl, sym, ap, ap₂, ◌∙◌}
 use native.Mathlib.Omega.{arith}
@@ -12,17 +12,17 @@ use mir.Syntax.{w64}
 use mir.Val.{to_z, of_z}
 use mir.Facts.{to_z-of_z}
 use lib.ListN.{get_or, get_or-map, get_or-eq_default}
-use borrow.Author.Tests.{ne_eqb, lt-ltb, le-ltb}
+use borrow.Author.Tests.{eqb-true, eqb-false, ne_eqb, lt-ltb, le-ltb}
 use Rattle.base.specs.Numbered.{below}
-use Rattle.base.proofs.Bools.{not_and, not_or}
+use Rattle.base.proofs.Bools.{bool_cases, not_and}
 use Rattle.model.specs.Graph.{Term, iri, blank_node, numeric, plain, tagged, value_of, datatype_of, language_of, holds}
-use Rattle.model.specs.Shapes.{Shape, an_iri, a_blank, a_literal, is_kind, node_kind, datatype, satisfies, conforms, same_lang}
+use Rattle.model.specs.Shapes.{Shape, Test, an_iri, a_blank, a_literal, is_kind, node_kind, datatype, language_in, min_inclusive, min_exclusive, max_inclusive, max_exclusive, satisfies, conforms, same_lang}
 use Rattle.tables.specs.Codes as codes
 use Rattle.tables.specs.Layout.{node_count, kind_at, type_at, lang_at, number_at, limit_at, form_code_at, form_first_at, form_second_at, form_third_at, form_fourth_at}
 use Rattle.tables.specs.Entries.{entry_of}
-use Rattle.tables.specs.Decode.{term_of, term_at, graph_at, kind_of, shape_of, entry_at, shape_at}
+use Rattle.tables.specs.Decode.{term_of, term_at, graph_at, kind_of, items_at, shape_of, entry_at, shape_at}
 use Rattle.tables.proofs.Decode.{shape-number}
-use Rattle.plan.specs.Conditions.{lacks, other_kind, fails_test}
+use Rattle.plan.specs.Conditions.{lacks, fails_test}
 use Rattle.plan.specs.Sets.{test_of}
 use Rattle.plan.proofs.Complements.{not-satisfies}
 
@@ -78,31 +78,6 @@ at_literal (suc (suc (suc zero))) = refl
 at_literal (suc (suc (suc (suc zero)))) = refl
 at_literal (suc (suc (suc (suc (suc k))))) = sym (ap (λ (t : Bool). ltb 1 (suc (suc (suc (suc (suc k))))) && t) (le-ltb (suc (suc (suc (suc (suc k))))) 5 (omega arith)) ∙ and-false (ltb 1 (suc (suc (suc (suc (suc k)))))))
 
--- the contraries
-at-not_iri : (k : ℕ) → get_or (false ∷ true ∷ true ∷ true ∷ true ∷ []) k false ≡ (ltb 0 k && ltb k 5)
-at-not_iri zero = refl
-at-not_iri (suc zero) = refl
-at-not_iri (suc (suc zero)) = refl
-at-not_iri (suc (suc (suc zero))) = refl
-at-not_iri (suc (suc (suc (suc zero)))) = refl
-at-not_iri (suc (suc (suc (suc (suc k))))) = sym (ap (λ (t : Bool). ltb 0 (suc (suc (suc (suc (suc k))))) && t) (le-ltb (suc (suc (suc (suc (suc k))))) 5 (omega arith)) ∙ and-false (ltb 0 (suc (suc (suc (suc (suc k)))))))
-
-at-not_blank : (k : ℕ) → get_or (true ∷ false ∷ true ∷ true ∷ true ∷ []) k true ≡ not (eqb k 1)
-at-not_blank zero = refl
-at-not_blank (suc zero) = refl
-at-not_blank (suc (suc zero)) = refl
-at-not_blank (suc (suc (suc zero))) = refl
-at-not_blank (suc (suc (suc (suc zero)))) = refl
-at-not_blank (suc (suc (suc (suc (suc k))))) = sym (ap not (other k 1 (omega arith)))
-
-at-not_literal : (k : ℕ) → get_or (true ∷ true ∷ false ∷ false ∷ false ∷ []) k true ≡ (ltb k 2 || ltb 4 k)
-at-not_literal zero = refl
-at-not_literal (suc zero) = refl
-at-not_literal (suc (suc zero)) = refl
-at-not_literal (suc (suc (suc zero))) = refl
-at-not_literal (suc (suc (suc (suc zero)))) = refl
-at-not_literal (suc (suc (suc (suc (suc k))))) = sym (ap (λ (t : Bool). ltb (suc (suc (suc (suc (suc k))))) 2 || t) (lt-ltb 4 (suc (suc (suc (suc (suc k))))) (omega arith)) ∙ or-true (ltb (suc (suc (suc (suc (suc k))))) 2))
-
 -- a term lacks an attribute, or f holds of it
 lacks-not : {A : Type 0} (f : A → Bool) (o : Option A) → lacks f o ≡ not (holds (λ x. not (f x)) o)
 unfolding lacks holds
@@ -142,11 +117,6 @@ module _ (cs : List ℕ) (vs : List ℤ) (v : ℕ) (l : v < node_count cs) where
   unfolding satisfies holds datatype_of
   datatype_test t k d e f = sym (term_by (λ a. holds (eqb t) (datatype_of a)) ∙ at_literals (eqb t (type_at cs v)) (eqb t 0) (kind_at cs v) ∙ ap₂ (λ (k d : ℕ). ((eqb k codes.node_number || eqb k codes.node_text) && eqb t d) || (eqb k codes.node_words && eqb t 0)) (sym e) (sym f))
 
-  pub datatype_fails : (t k d : ℕ) → k ≡ kind_at cs v → d ≡ type_at cs v → (((not (eqb k codes.node_number) && not (eqb k codes.node_text)) || not (eqb t d)) && (not (eqb k codes.node_words) || not (eqb t 0))) ≡ fails_test (datatype t) (term_at cs vs v)
-  datatype_fails t k d e f =
-      sym (not_or ((eqb k codes.node_number || eqb k codes.node_text) && eqb t d) (eqb k codes.node_words && eqb t 0) ∙ ap₂ (λ (x y : Bool). x && y) (not_and (eqb k codes.node_number || eqb k codes.node_text) (eqb t d) ∙ ap (λ (x : Bool). x || not (eqb t d)) (not_or (eqb k codes.node_number) (eqb k codes.node_text))) (not_and (eqb k codes.node_words) (eqb t 0)))
-      ∙ ap not (datatype_test t k d e f) ∙ not-satisfies (datatype t) (term_at cs vs v)
-
   -- its kind; k is the code that was read
   module _ (k : ℕ) (e : k ≡ kind_at cs v) {j : ℕ} where
     pub kind_iri : j ≡ codes.kind_thing → (eqb k codes.node_thing || ltb codes.node_words k) ≡ satisfies (node_kind (kind_of j)) (term_at cs vs v)
@@ -160,18 +130,6 @@ module _ (cs : List ℕ) (vs : List ℤ) (v : ℕ) (l : v < node_count cs) where
     pub kind_literal_lem : codes.kind_literal ≤ j → (ltb codes.node_blank k && ltb k codes.node_unknown) ≡ satisfies (node_kind (kind_of j)) (term_at cs vs v)
     unfolding satisfies is_kind kind_of
     kind_literal_lem q = sym (ap (λ (x : Rattle.model.specs.Shapes.Kind). is_kind x (term_at cs vs v)) (get_or-eq_default (an_iri ∷ a_blank ∷ []) a_literal q) ∙ term_by (is_kind a_literal) ∙ at_literal (kind_at cs v) ∙ ap (λ (k : ℕ). ltb codes.node_blank k && ltb k codes.node_unknown) (sym e))
-
-    pub kind-not_iri : j ≡ codes.kind_thing → (ltb codes.node_thing k && ltb k codes.node_unknown) ≡ fails_test (node_kind (kind_of j)) (term_at cs vs v)
-    unfolding fails_test other_kind is_kind kind_of
-    kind-not_iri q = sym (ap (λ (j : ℕ). fails_test (node_kind (kind_of j)) (term_at cs vs v)) q ∙ term_by (other_kind an_iri) ∙ at-not_iri (kind_at cs v) ∙ ap (λ (k : ℕ). ltb codes.node_thing k && ltb k codes.node_unknown) (sym e))
-
-    pub kind-not_blank : j ≡ codes.kind_blank → not (eqb k codes.node_blank) ≡ fails_test (node_kind (kind_of j)) (term_at cs vs v)
-    unfolding fails_test other_kind is_kind kind_of
-    kind-not_blank q = sym (ap (λ (j : ℕ). fails_test (node_kind (kind_of j)) (term_at cs vs v)) q ∙ term_by (other_kind a_blank) ∙ at-not_blank (kind_at cs v) ∙ ap (λ (k : ℕ). not (eqb k codes.node_blank)) (sym e))
-
-    pub kind-not_literal : codes.kind_literal ≤ j → (ltb k codes.node_number || ltb codes.node_words k) ≡ fails_test (node_kind (kind_of j)) (term_at cs vs v)
-    unfolding fails_test other_kind is_kind kind_of
-    kind-not_literal q = sym (ap (λ (x : Rattle.model.specs.Shapes.Kind). other_kind x (term_at cs vs v)) (get_or-eq_default (an_iri ∷ a_blank ∷ []) a_literal q) ∙ term_by (other_kind a_literal) ∙ at-not_literal (kind_at cs v) ∙ ap (λ (k : ℕ). ltb k codes.node_number || ltb codes.node_words k) (sym e))
 
 -- ---- the terms of two nodes
 module _ (cs : List ℕ) (vs : List ℤ) (x y : ℕ) (l : x < node_count cs) (m : y < node_count cs) where
@@ -201,6 +159,26 @@ module _ (cs : List ℕ) (vs : List ℤ) (e v : ℕ) where
       ∙ ap (λ (s : Shape). conforms (graph_at cs vs) s v) (sym (shape-number cs e vs))
 
   -- the same of the test that the entry is, and of what fails it
-  pub fails_by : (n : ℕ) → form_code_at cs e ≡ n → holds (λ t. fails_test t (term_at cs vs v)) (test_of cs (entry_of n (form_first_at cs e) (form_second_at cs e) (form_third_at cs e) (form_fourth_at cs e) (limit_at vs e))) ≡ holds (λ t. fails_test t (term_at cs vs v)) (test_of cs (entry_at cs vs e))
+  fails_by : (n : ℕ) → form_code_at cs e ≡ n → holds (λ t. fails_test t (term_at cs vs v)) (test_of cs (entry_of n (form_first_at cs e) (form_second_at cs e) (form_third_at cs e) (form_fourth_at cs e) (limit_at vs e))) ≡ holds (λ t. fails_test t (term_at cs vs v)) (test_of cs (entry_at cs vs e))
   unfolding entry_at
   fails_by n q = ap (λ (k : ℕ). holds (λ t. fails_test t (term_at cs vs v)) (test_of cs (entry_of k (form_first_at cs e) (form_second_at cs e) (form_third_at cs e) (form_fourth_at cs e) (limit_at vs e)))) (sym q)
+
+  -- a test that does not hold is broken
+  abbrev Broken : Type 0
+  Broken = not (conforms (graph_at cs vs) (shape_at cs vs e) v) ≡ holds (λ t. fails_test t (term_at cs vs v)) (test_of cs (entry_at cs vs e))
+
+  broken_case : (n : ℕ) → (form_code_at cs e ≡ n → Broken) → ((form_code_at cs e ≡ n → ⊥) → Broken) → Broken
+  broken_case n f g = bool_cases (λ t. eqb (form_code_at cs e) n ≡ t → Broken) (eqb (form_code_at cs e) n) (λ _ h. f (eqb-true (form_code_at cs e) n h)) (λ _ h. g (eqb-false (form_code_at cs e) n h)) refl
+
+  pub test-broken : codes.form_kind ≤ form_code_at cs e → form_code_at cs e ≤ codes.form_below → Broken
+  unfolding entry_of shape_of conforms graph_at test_of holds
+  test-broken a b =
+      let x = limit_at vs e in
+      let not-met : (t : Test) → not (satisfies t (term_at cs vs v)) ≡ fails_test t (term_at cs vs v) = λ t. not-satisfies t (term_at cs vs v) in
+      broken_case codes.form_kind (λ q. ap not (sym (entry_by_lem codes.form_kind q)) ∙ not-met (node_kind (kind_of (form_first_at cs e))) ∙ fails_by codes.form_kind q)
+      (λ n6. broken_case codes.form_datatype (λ q. ap not (sym (entry_by_lem codes.form_datatype q)) ∙ not-met (datatype (form_first_at cs e)) ∙ fails_by codes.form_datatype q)
+      (λ n7. broken_case codes.form_lang (λ q. ap not (sym (entry_by_lem codes.form_lang q)) ∙ not-met (language_in (items_at cs (form_first_at cs e) (form_second_at cs e))) ∙ fails_by codes.form_lang q)
+      (λ n8. broken_case codes.form_from (λ q. ap not (sym (entry_by_lem codes.form_from q)) ∙ not-met (min_inclusive x) ∙ fails_by codes.form_from q)
+      (λ n9. broken_case codes.form_above (λ q. ap not (sym (entry_by_lem codes.form_above q)) ∙ not-met (min_exclusive x) ∙ fails_by codes.form_above q)
+      (λ n10. broken_case codes.form_to (λ q. ap not (sym (entry_by_lem codes.form_to q)) ∙ not-met (max_inclusive x) ∙ fails_by codes.form_to q)
+      (λ n11. let q : form_code_at cs e ≡ codes.form_below = omega arith in ap not (sym (entry_by_lem codes.form_below q)) ∙ not-met (max_exclusive x) ∙ fails_by codes.form_below q))))))

@@ -2,14 +2,10 @@
 use Rattle.std.specs.Prelude.{ℕ, zero, suc, ◌≤◌, ◌<◌, Bool, true, false, cond, ◌&&◌, List, ◌≡◌, get_or}
 use Rattle.std.proofs.Math.Option.{Option, map, or_else}
 use Rattle.plan.specs.Conditions.{in_one}
-use Rattle.conditions.specs.declared.Found.{Found}
-use Rattle.conditions.specs.declared.Found.TheVariants.{Node, NoNode}
-use Rattle.conditions.specs.declared.FoundPair.{FoundPair}
-use Rattle.conditions.specs.declared.FoundPair.TheVariants.{Pair, NoPair}
-use Rattle.conditions.specs.declared.FoundSide.{FoundSide}
-use Rattle.conditions.specs.declared.FoundSide.TheVariants.{SecondLacks, FirstLacks, NoSide}
-use Rattle.conditions.specs.declared.FoundFact.{FoundFact}
-use Rattle.conditions.specs.declared.FoundFact.TheVariants.{Fact, NoFact}
+use Rattle.std.specs.Prelude as std
+use Rattle.model.specs.declared.NodeNo.{NodeNo}
+use Rattle.conditions.specs.declared.Side.{Side}
+use Rattle.conditions.specs.declared.Side.TheVariants.{SecondLacks, FirstLacks}
 
 -- the first number below n that has p
 unfoldable pub first : (ℕ → Bool) → ℕ → Option ℕ
@@ -48,22 +44,22 @@ nothing Option.none = true
 nothing (Option.some x) = false
 
 -- ---- what each answer of a search says was found
-abbrev pub node_found : Found → Option ℕ
-node_found (Node v) = Option.some v.0
-node_found NoNode = Option.none
+abbrev pub node_found : std.Option NodeNo → Option ℕ
+node_found (std.Some v) = Option.some v.0
+node_found std.None = Option.none
 
-abbrev pub pair_found : FoundPair → Option (ℕ × ℕ)
-pair_found (Pair x y) = Option.some (x.0, y.0)
-pair_found NoPair = Option.none
+abbrev pub pair_found : std.Option (NodeNo × NodeNo) → Option (ℕ × ℕ)
+pair_found (std.Some p) = Option.some (p.0.0, p.1.0)
+pair_found std.None = Option.none
 
-abbrev pub side_found : FoundSide → Option (ℕ × Bool)
-side_found (SecondLacks v) = Option.some (v.0, true)
-side_found (FirstLacks v) = Option.some (v.0, false)
-side_found NoSide = Option.none
+abbrev pub side_found : std.Option Side → Option (ℕ × Bool)
+side_found (std.Some (SecondLacks v)) = Option.some (v.0, true)
+side_found (std.Some (FirstLacks v)) = Option.some (v.0, false)
+side_found std.None = Option.none
 
-abbrev pub fact_found : FoundFact → Option ℕ
-fact_found (Fact i) = Option.some i
-fact_found NoFact = Option.none
+abbrev pub fact_found : std.Option ℕ → Option ℕ
+fact_found (std.Some i) = Option.some i
+fact_found std.None = Option.none
 
 -- the first count places of a list have the members of p below n, lowest first
 pub record MembersListed (p : ℕ → Bool) (n : ℕ) (xs : List ℕ) (count : ℕ) : Type 0 where

@@ -1,17 +1,17 @@
 -- The laws of tallies: which of them move, and how far.
 use Prim.Native.Nat.{ℕ, ◌≤◌, ◌<◌, ◌+◌, min}
-use mathlib.Core.List.{List, ◌++◌, append-nil}
+use mathlib.Core.List.{List, ◌++◌}
 use mathlib.Core.Bool.{Bool, true, cond}
 use mathlib.Core.Path.{◌≡◌, refl, sym, ap, ◌∙◌}
 use native.Mathlib.Omega.{arith}
 use lib.Dec.{eqb}
 use lib.ListN.{length, length-set, get_or, set, take, drop, take-append-drop}
 use lib.Seq.{set_out, get_or-set_same, get_or-set_other, get_or-take, take-set-lt, drop-set-lt, length-take-le}
-use borrow.Author.Tests.{eq-eqb, ne_eqb, eqb-true, eqb-false}
+use borrow.Author.Tests.{eqb-true, eqb-false}
 use Rattle.base.proofs.Bools.{bool_cases}
 use Rattle.nodeset.specs.Words.{stored}
 use Rattle.nodeset.proofs.Stores.{stored-whole}
-use Rattle.consoles.specs.Tallies.{console_count, no_tallies, greatest, one_more, counted}
+use Rattle.consoles.specs.Tallies.{console_count, greatest, one_more, counted}
 
 -- ---- which tallies move
 pub counted-length : (c : ℕ) (ts : List ℕ) → length (counted c ts) ≡ length ts
@@ -44,13 +44,12 @@ one_more-fits t l =
     (λ e. let n = eqb-false t greatest e in omega (arith, n, l))
 
 -- ---- for the code
-pub at-greatest : (t : ℕ) → t ≡ greatest → t ≡ one_more t
+pub saturates : (t : ℕ) {r : ℕ} → r ≡ min (t + 1) greatest → t ≤ greatest → r ≡ one_more t
 unfolding one_more
-at-greatest t e = ap (λ (m : Bool). cond m t (t + 1)) (sym (eq-eqb t greatest e))
-
-pub below-greatest : (t : ℕ) → (t ≡ greatest → ⊥) → t + 1 ≡ one_more t
-unfolding one_more
-below-greatest t n = ap (λ (m : Bool). cond m t (t + 1)) (sym (ne_eqb t greatest n))
+saturates t {r} e l =
+    bool_cases (λ b. eqb t greatest ≡ b → r ≡ cond b t (t + 1)) (eqb t greatest)
+    (λ _ q. let f = eqb-true t greatest q in omega (arith, e, f))
+    (λ _ q. let n = eqb-false t greatest q in omega (arith, e, n, l)) refl
 
 -- the console's tally written anew
 pub counted-at : (c : ℕ) (ts : List ℕ) {t : ℕ} → t ≡ one_more (get_or ts c 0) → set ts c t ≡ counted c ts
@@ -67,12 +66,6 @@ pub given_after : (c : ℕ) (ts : List ℕ) {given : Bool} → given ≡ true �
 given_after c ts e = ap (λ (g : Bool). cond g (counted c ts) ts) (sym e)
 
 -- ---- lent tallies, of which the first eight count
--- what is loaded
-pub loaded : (ts : List ℕ) → console_count ≤ length ts → stored no_tallies (take console_count ts) ≡ take console_count ts
-loaded ts l =
-    let e : length (take console_count ts) ≡ console_count = length-take-le console_count ts l in
-    stored-whole no_tallies (take console_count ts) (omega (arith, e)) ∙ ap (λ (n : ℕ). take console_count ts ++ drop n no_tallies) e ∙ append-nil (take console_count ts)
-
 -- the first eight of us, stored where ts stood, are us where the two agree past them
 stored-front : (ts us : List ℕ) → console_count ≤ length ts → length us ≡ length ts → drop console_count us ≡ drop console_count ts → stored ts (take console_count us) ≡ us
 stored-front ts us l n d =

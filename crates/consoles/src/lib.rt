@@ -6,9 +6,11 @@
 //   load, store           tallies that a caller lends: the first eight of them by value, and tallies over the first eight
 #![tactic(auto)]
 
-ghost use Rattle.std.specs.Prelude.{◌≡◌, cond, ◌≤◌, ltb, length, take, set};
+ghost use Rattle.std.specs.Prelude.{◌≡◌, cond, ◌≤◌, ltb, length, take};
 ghost use Rattle.nodeset.specs.Words.{stored};
 ghost use Rattle.consoles.specs.Tallies.{console_count, one_more, counted};
+
+use base::copy;
 
 // The consoles are 0 to 7.
 pub const CONSOLES: usize = 8;
@@ -30,10 +32,7 @@ pub fn is_console(console: usize) -> bool
 fn one_more(tally: u32) -> u32
     ensures { result ≡ one_more tally }
 {
-    if tally == 4294967295 {
-        return 4294967295;
-    }
-    tally + 1
+    tally.saturating_add(1)
 }
 
 impl Tallies {
@@ -51,31 +50,13 @@ impl Tallies {
     }
 }
 
-// Number i becomes x; nothing changes past the end.
-fn put(into: &mut [u32], i: usize, x: u32)
-    ensures { into.new ≡ set into.old i x }
-{
-    if i < into.len() {
-        into[i] = x;
-    }
-}
-
-// The first numbers become those of from, as many as there is room for.
-fn copy(into: &mut [u32], from: &[u32])
-    ensures { into.new ≡ stored into.old from.now }
-{
-    for i in 0..from.len() {
-        put(into, i, from[i]);
-    }
-}
-
 // The first eight of lent tallies.
 pub fn load(tallies: &[u32]) -> Tallies
     requires { console_count ≤ length tallies.now }
     ensures { result.counts ≡ take console_count tallies.now }
 {
     let mut counts = [0u32; 8];
-    copy(&mut counts, &tallies[..CONSOLES]);
+    counts.copy_from_slice(&tallies[..CONSOLES]);
     Tallies { counts }
 }
 

@@ -4,9 +4,9 @@ use mathlib.Core.List.{List}
 use mathlib.Core.Bool.{Bool, true, false, cond, ◌&&◌, ◌||◌, and-true}
 use mathlib.Core.Path.{◌≡◌, refl, ap, ◌∙◌}
 use native.Mathlib.Omega.{arith}
-use lib.Dec.{eqb, leb}
+use lib.Dec.{eqb, ltb, leb}
 use lib.ListN.{replicate, length-replicate}
-use borrow.Author.Tests.{eqb-false}
+use borrow.Author.Tests.{eqb-false, lt-ltb}
 use Rattle.base.proofs.Bools.{bool_cases}
 use Rattle.base.proofs.Bounded.{some_ext, some_eq}
 use Rattle.nodeset.specs.Words.{has, words_of, with}
@@ -14,7 +14,7 @@ use Rattle.nodeset.proofs.Sets.{words_of_ext, has_of, has_zeros, single}
 use Rattle.model.specs.Paths.{self, along}
 use Rattle.model.specs.Limits.{max_nodes}
 use Rattle.model.specs.Shapes.{within, at_most, unbounded}
-use Rattle.tables.specs.Layout.{no_number}
+use Rattle.tables.specs.Layout.{no_number, path_count}
 use Rattle.tables.specs.WellFormed as tables
 use Rattle.tables.specs.Decode.{path_at, end_at, upper_of}
 use Rattle.paths.specs.Images.{image, with_image, converse_if}
@@ -42,6 +42,11 @@ end_in_lem cs p = bool_cases (λ b. eqb p no_number ≡ b → end_in cs (cond b 
 pub end-ok : (cs : List ℕ) (p : ℕ) → tables.end_number_ok cs p ≡ true → end_known cs (end_for p) ≡ true
 unfolding end_known end_for
 end-ok cs p h = bool_cases (λ b. eqb p no_number ≡ b → end_known cs (cond b Itself (Path p)) ≡ true) (eqb p no_number) (λ _ _. refl) (λ _ q. end_below cs p (eqb-false p no_number q) h) refl
+
+-- a path entry of the tables, as its number was read
+pub path-ok : (cs : List ℕ) {p i : ℕ} → p ≡ i → i < path_count cs → end_known cs (Path p) ≡ true
+unfolding end_known
+path-ok cs {p} {i} e l = ap (λ (k : ℕ). ltb k (path_count cs)) e ∙ lt-ltb i (path_count cs) l
 
 -- LO and HI
 pub between_law : (lo hi k : ℕ) → (leb lo k && (eqb hi no_number || leb k hi)) ≡ within lo (upper_of hi) k

@@ -20,31 +20,38 @@ use Rattle.model.specs.Limits.{max_forms, max_paths}
 use Rattle.grammar.specs.Syntax.{low, high, path, form, count_c, form_of, form_family}
 use Rattle.grammar.specs.Reading.{Read, got, refused, Readers, Begun, form_begun, after, space_at, arg_at, body_at, bracket_at, true_at, no_readers, deeper, readers_at}
 use Rattle.stores.specs.Entries.{path_cells}
-use Rattle.itemreader.specs.declared.Head.{Head}
-use Rattle.itemreader.specs.Answers.{head_at, words_of, rest_at}
+use Rattle.std.specs.Prelude.{Some, None, Result, Ok, Err}
+use Rattle.model.specs.Refusals.{fault_of}
+use Rattle.model.specs.declared.Fault.{Fault}
+use Rattle.itemreader.specs.Answers.{Head, head_at, rest_at}
+use Rattle.itemreader.specs.Words.{words_of}
 use Rattle.itemreader.proofs.Heads.{bracket-bare, bracket_refused, bracket-word, rest_got, rest_refused}
 use Rattle.pathreader.proofs.Paths.{Got}
 use Rattle.leafreader.specs.declared.Ended.{Ended}
 use Rattle.leafreader.specs.Forms.{FormRead, FormsWithin, children_of, form_body}
-use Rattle.leafreader.specs.declared.Form.{Form}
 use Rattle.formreader.specs.declared.Front.{Front}
 use Rattle.formreader.specs.declared.Opening.{Opening}
 use Rattle.formreader.specs.Frames.{Quantifier, times, quantify, code_of, low_of, high_of, both, either, negated, along, Fronted, OpenRead, Opened}
 
 -- ---- answers
-module _ (s : List ℕ) (a : Book) (R : Readers) (b : Begun) (x : Read Shape) (n : Begun) (cs cs' : List ℕ) (vs vs' : List ℤ) (r : Opening) (p : OpenRead s a R b x n cs cs' vs vs' r) where
-  pub whole_read : (f : Form) → r ≡ Opening.Whole f → FormRead x n cs cs' vs vs' f
-  whole_read f e = rw e at p
+module _ (s : List ℕ) (a : Book) (R : Readers) (b : Begun) (x : Read Shape) (n : Begun) (cs cs' : List ℕ) (vs vs' : List ℤ) (o : Opening) (p : OpenRead s a R b x n cs cs' vs vs' (Ok o)) where
+  pub whole_read : (m : Ended) (next : ℕ) → o ≡ Opening.Whole m next → FormRead x n cs cs' vs vs' (Ok (m, next))
+  whole_read m next e = rw e at p
 
-  pub part_read : (front : Front) → r ≡ Opening.Part front → Fronted s a R b x n.paths cs cs' vs vs' front
+  pub part_read : (front : Front) → o ≡ Opening.Part front → Fronted s a R b x n.paths cs cs' vs vs' front
   part_read front e = rw e at p
 
-module _ (left up len : ℕ) (n : Ended) (r : Opening) (p : Opened left up len n r) where
-  pub whole-within : (f : Form) → r ≡ Opening.Whole f → FormsWithin n.forms up len f
-  whole-within f e = rw e at p
+module _ (left up len : ℕ) (n : Ended) (o : Opening) (p : Opened left up len n (Ok o)) where
+  pub whole-within : (m : Ended) (next : ℕ) → o ≡ Opening.Whole m next → FormsWithin n.forms up len (Ok (m, next))
+  whole-within m next e = rw e at p
 
-  pub part-within : (front : Front) → r ≡ Opening.Part front → (0 < left) × (n.forms + up < max_forms) × (front.paths ≤ max_paths) × (front.next ≤ len)
+  pub part-within : (front : Front) → o ≡ Opening.Part front → (0 < left) × (n.forms + up < max_forms) × (front.paths ≤ max_paths) × (front.next ≤ len)
   part-within front e = rw e at p
+
+-- a fault
+module _ (s : List ℕ) (a : Book) (R : Readers) (b : Begun) (n : Begun) (cs cs' : List ℕ) (vs vs' : List ℤ) {x : Read Shape} where
+  pub fault_read : {r : Result Opening Fault} (k : ℕ) → x ≡ refused k → r ≡ Err (fault_of k) → OpenRead s a R b x n cs cs' vs vs' r
+  fault_read k e q = rw (q, e) (record { answer = refl; stored = tt })
 
 -- ---- the PATH of count and all
 pub path_fronted : (s : List ℕ) (a : Book) (R : Readers) (b : Begun) (at n m next : ℕ) (cs mid : List ℕ) (vs : List ℤ) (q : Quantifier) (code lo hi : ℕ) → code ≡ code_of q → lo ≡ low_of q → hi ≡ high_of q → Got path_entries path_cells (arg_at s a R path b at) n m next cs mid
@@ -113,18 +120,23 @@ module _ (s : List ℕ) (a : Book) (b : Begun) (at m : ℕ) (q : b.forms ≡ m) 
   pub form_unspaced : (left : ℕ) → (get_or s at 0 ≡ 32 → ⊥) → arg_at s a (readers_at s a left) form b at ≡ refused 2
   form_unspaced left n = form_arg left ∙ rw (ne_eqb (get_or s at 0) 32 n)
 
-  module _ (z : get_or s at 0 ≡ 32) (left : ℕ) (h : Head) (e : h ≡ head_at s (words_of form_family) (eqb left 0) (leb max_forms m) (at + 1)) where
+  module _ (z : get_or s at 0 ≡ 32) (left : ℕ) where
+    abbrev head : Head
+    head = head_at s (words_of form_family) (eqb left 0) (leb max_forms m) (at + 1)
+
     form_bracket : arg_at s a (readers_at s a left) form b at ≡ bracket_at s a form_family (inner s a left) (eqb left 0) (leb max_forms m) (λ c. true) (true_at s a (leb max_forms m) (at + 1)) (form_begun b) (at + 1)
     form_bracket = form_arg left ∙ rw (eq-eqb (get_or s at 0) 32 z)
 
-    pub form_bare : h ≡ Head.Bare → arg_at s a (readers_at s a left) form b at ≡ true_at s a (leb max_forms m) (at + 1)
-    form_bare f = form_bracket ∙ bracket-bare s a form_family (inner s a left) (eqb left 0) (leb max_forms m) (λ c. true) (true_at s a (leb max_forms m) (at + 1)) (form_begun b) (at + 1) (sym e ∙ f)
+    pub form_bare : Ok None ≡ head → arg_at s a (readers_at s a left) form b at ≡ true_at s a (leb max_forms m) (at + 1)
+    form_bare e = form_bracket ∙ bracket-bare s a form_family (inner s a left) (eqb left 0) (leb max_forms m) (λ c. true) (true_at s a (leb max_forms m) (at + 1)) (form_begun b) (at + 1) (sym e)
 
-    pub form_head_refused : (k : ℕ) → h ≡ Head.No k → arg_at s a (readers_at s a left) form b at ≡ refused k
-    form_head_refused k f = form_bracket ∙ bracket_refused s a form_family (inner s a left) (eqb left 0) (leb max_forms m) (λ c. true) (true_at s a (leb max_forms m) (at + 1)) (form_begun b) (at + 1) k (sym e ∙ f)
+    pub form_head_refused : (f : Fault) → Err f ≡ head → (k : ℕ) × (arg_at s a (readers_at s a left) form b at ≡ refused k) × (f ≡ fault_of k)
+    form_head_refused f e =
+        let (k, x, w) = bracket_refused s a form_family (inner s a left) (eqb left 0) (leb max_forms m) (λ c. true) (true_at s a (leb max_forms m) (at + 1)) (form_begun b) (at + 1) f (sym e) in
+        (k, form_bracket ∙ x, w)
 
-    pub form_word_lem : (k stop : ℕ) → 0 < left → h ≡ Head.Word k stop → arg_at s a (readers_at s a left) form b at ≡ form_body s a (left - 1) k (form_begun b) stop
-    form_word_lem k stop l f = form_bracket ∙ ((bracket-word s a form_family (inner s a left) (eqb left 0) (leb max_forms m) (λ c. true) (true_at s a (leb max_forms m) (at + 1)) (form_begun b) (at + 1) k stop (sym e ∙ f)).1 ∙ ap (λ (R : Readers). body_at s a form_family R (λ c. true) (get_or form_family.codes k form_family.other) (form_begun b) stop) (deeper left l))
+    pub form_word_lem : (k stop : ℕ) → 0 < left → Ok (Some (k, stop)) ≡ head → arg_at s a (readers_at s a left) form b at ≡ form_body s a (left - 1) k (form_begun b) stop
+    form_word_lem k stop l e = form_bracket ∙ ((bracket-word s a form_family (inner s a left) (eqb left 0) (leb max_forms m) (λ c. true) (true_at s a (leb max_forms m) (at + 1)) (form_begun b) (at + 1) k stop (sym e)).1 ∙ ap (λ (R : Readers). body_at s a form_family R (λ c. true) (get_or form_family.codes k form_family.other) (form_begun b) stop) (deeper left l))
       where
         deeper : (left : ℕ) → 0 < left → inner s a left ≡ readers_at s a (left - 1)
         deeper zero l = absurd (omega arith)

@@ -1,5 +1,6 @@
 -- Forms with FORMs within, by what stands before these; and what reading so far answers and leaves in the cells and values.
-use Rattle.std.specs.Prelude.{ℕ, ◌+◌, ◌-◌, ◌<◌, ◌≤◌, ◌≡◌, List, [], ◌∷◌, true, cond, eqb, ℤ}
+use Rattle.std.specs.Prelude.{ℕ, ◌+◌, ◌-◌, ◌<◌, ◌≤◌, ◌≡◌, List, [], ◌∷◌, true, cond, eqb, ℤ, Result, Ok, Err}
+use Rattle.model.specs.declared.Fault.{Fault}
 use Rattle.model.specs.Paths.{Path}
 use Rattle.model.specs.Shapes.{Upper, Shape, conj, disj, neg, count, for_all}
 use Rattle.model.specs.Books.{Book}
@@ -86,14 +87,16 @@ pub record Fronted (s : List ℕ) (a : Book) (R : Readers) (b : Begun) (x : Read
   pub values : vs' ≡ vs
 
 -- the answer r and the tables after opening x
-abbrev pub OpenRead : List ℕ → Book → Readers → Begun → Read Shape → Begun → List ℕ → List ℕ → List ℤ → List ℤ → Opening → Type 0
-OpenRead s a R b x n cs cs' vs vs' (Opening.Whole r) = FormRead x n cs cs' vs vs' r
-OpenRead s a R b x n cs cs' vs vs' (Opening.Part front) = Fronted s a R b x n.paths cs cs' vs vs' front
+abbrev pub OpenRead : List ℕ → Book → Readers → Begun → Read Shape → Begun → List ℕ → List ℕ → List ℤ → List ℤ → Result Opening Fault → Type 0
+OpenRead s a R b x n cs cs' vs vs' (Err f) = FormRead x n cs cs' vs vs' (Err f)
+OpenRead s a R b x n cs cs' vs vs' (Ok (Opening.Whole m next)) = FormRead x n cs cs' vs vs' (Ok (m, next))
+OpenRead s a R b x n cs cs' vs vs' (Ok (Opening.Part front)) = Fronted s a R b x n.paths cs cs' vs vs' front
 
 -- a form within its limits; or, where one is open, a bracket to open, room for its entry, and a position in a text of a length
-abbrev pub Opened : ℕ → ℕ → ℕ → Ended → Opening → Type 0
-Opened left up len n (Opening.Whole r) = FormsWithin n.forms up len r
-Opened left up len n (Opening.Part front) = (0 < left) × (n.forms + up < max_forms) × (front.paths ≤ max_paths) × (front.next ≤ len)
+abbrev pub Opened : ℕ → ℕ → ℕ → Ended → Result Opening Fault → Type 0
+Opened left up len n (Err f) = Unit {0}
+Opened left up len n (Ok (Opening.Whole m next)) = FormsWithin n.forms up len (Ok (m, next))
+Opened left up len n (Ok (Opening.Part front)) = (0 < left) × (n.forms + up < max_forms) × (front.paths ≤ max_paths) × (front.next ≤ len)
 
 -- the entry of a form with one FORM within, which ended right before it
 abbrev pub put_child : Front → ℕ → List ℕ → List ℕ

@@ -15,7 +15,6 @@ use Rattle.base.proofs.Bools.{and_left, and_right, and_both}
 use Rattle.text.specs.Items.{edge, item_len, item_end, name_byte, is_name}
 use Rattle.text.specs.Decimals.{number_of, positive_of, negative_of, bound_of, is_mag, value_from, digit}
 use Rattle.text.specs.Pool.{index_of, first_from}
-use Rattle.text.specs.declared.Found.{Found}
 use Rattle.text.proofs.Places.{index_nothing}
 use Rattle.text.specs.Spans.{Span}
 use Rattle.text.proofs.Spans.{span_split, span_head, span_length, span_whole}
@@ -34,6 +33,7 @@ use Rattle.grammar.specs.Cases.{Case, edges}
 use Rattle.grammar.proofs.Leaves.{fresh_nothing, nothing_fresh}
 use Rattle.grammar.proofs.Rows.{line_placed}
 use Rattle.grammar.proofs.Books.{refused_after}
+use Rattle.std.specs.Prelude.{Option, Some, None}
 
 -- ---- computed
 pub edges_hold : map (λ (c : Case). reading c.text) edges ≡ map (λ (c : Case). c.answer) edges
@@ -43,11 +43,11 @@ edges_hold = refl
 -- ---- a full pool
 -- a new name is refused by 7 exactly where its pool has no room; the capacities are those of document 01
 module _ (s : List ℕ) (above : Book) (p : Pool) (at : ℕ) where
-  room-cases : (w : List ℕ) (e : ℕ) (known room : Bool) (f : Found) → well_named p w ≡ known → index_of (names p above) w ≡ f → cond known (unknown s above f (cond room (got w e) (refused 7))) (refused 2) ≡ refused 7 → (known ≡ true) × (f ≡ Found.Nothing) × (room ≡ false)
+  room-cases : (w : List ℕ) (e : ℕ) (known room : Bool) (f : Option ℕ) → well_named p w ≡ known → index_of (names p above) w ≡ f → cond known (unknown s above f (cond room (got w e) (refused 7))) (refused 2) ≡ refused 7 → (known ≡ true) × (f ≡ None) × (room ≡ false)
   room-cases w e false room f i j q = absurd (let z : ◌≡◌ {A = ℕ} 2 7 = cc in omega arith)
-  room-cases w e true room (Found.At k) i j q = absurd (let z : ◌≡◌ {A = ℕ} 6 7 = cc in omega arith)
-  room-cases w e true true Found.Nothing i j q = absurd (let z : ◌≡◌ {A = ℕ} 0 1 = cc in omega arith)
-  room-cases w e true false Found.Nothing i j q = (refl, refl, refl)
+  room-cases w e true room (Some k) i j q = absurd (let z : ◌≡◌ {A = ℕ} 6 7 = cc in omega arith)
+  room-cases w e true true None i j q = absurd (let z : ◌≡◌ {A = ℕ} 0 1 = cc in omega arith)
+  room-cases w e true false None i j q = (refl, refl, refl)
 
   pub full_pool : (new_at s above p at ≡ refused 7) ↔ ((new_name above p (item s above at) ≡ true) × (capacity p ≤ length (names p above)))
   unfolding new_at new_name has_room
@@ -59,7 +59,7 @@ module _ (s : List ℕ) (above : Book) (p : Pool) (at : ℕ) where
         λ q.
             let a = and_left (well_named p (item s above at)) (not (anyb (eql (item s above at)) (names p above))) q.0 in
             let b = not-true (anyb (eql (item s above at)) (names p above)) (and_right (well_named p (item s above at)) (not (anyb (eql (item s above at)) (names p above))) q.0) in
-            ap₂ (λ (b : Bool) (f : Found). cond b (unknown s above f (cond (has_room above p) (got (item s above at) (item_end s at)) (refused 7))) (refused 2)) a ((index_nothing (names p above) (item s above at)).1 (fresh_nothing (names p above) (item s above at) b))
+            ap₂ (λ (b : Bool) (f : Option ℕ). cond b (unknown s above f (cond (has_room above p) (got (item s above at) (item_end s at)) (refused 7))) (refused 2)) a ((index_nothing (names p above) (item s above at)).1 (fresh_nothing (names p above) (item s above at) b))
             ∙ ap (λ (b : Bool). cond b (got (item s above at) (item_end s at)) (refused 7)) (le-ltb (length (names p above)) (capacity p) q.1),
       )
 
@@ -80,7 +80,7 @@ module _ (s : List ℕ) (above : Book) (at : ℕ) where
       (ap₂ (λ (b : Bool) (r : Read Name). and_then (cond b r (refused 2)) (λ a next. and_then (args_at s above (readers_at s above max_within) ks (after (new p) a (begun_above above)) next) (λ xs last. got (a, xs) last))) (eq-eqb (get_or s (item_end s (at + 1)) 0) 32 sp) ((full_pool s above p (item_end s (at + 1) + 1)).1 (n, f))) in
       ap (λ (r : Read Line). and_then r (λ l next. cond (eqb (get_or s next 0) 10) (got l (next + 1)) (refused 2)))
       (ap₂ (λ (b : Bool) (v : List ℕ). cond b (headed s above line_family (readers_at s above max_within) false false (line_room s above) (begun_above above) (index_of (map line_family.word line_family.codes) v) (item_end s (at + 1))) (refused 2)) (eq-eqb (get_or s at 0) 40 o) w
-      ∙ ap (λ (f : Found). headed s above line_family (readers_at s above max_within) false false (line_room s above) (begun_above above) f (item_end s (at + 1))) found
+      ∙ ap (λ (f : Option ℕ). headed s above line_family (readers_at s above max_within) false false (line_room s above) (begun_above above) f (item_end s (at + 1))) found
       ∙ ap (λ (d : LineCode). body_at s above line_family (readers_at s above max_within) (line_room s above) d (begun_above above) (item_end s (at + 1))) back
       ∙ ap (λ (r : Read (Args (line_family.slots c))). and_then r (λ xs next. close_at s above (line_room s above c) (line_family.build c xs) next)) args)
 

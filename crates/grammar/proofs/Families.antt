@@ -12,7 +12,6 @@ use borrow.Author.Tests.{eqb-true, eq-eqb, ne_eqb}
 use Rattle.base.specs.Lists.{allb}
 use Rattle.text.specs.Items.{edge, item_end}
 use Rattle.text.specs.Pool.{index_of}
-use Rattle.text.specs.declared.Found.{Found}
 use Rattle.text.specs.Spans.{Span}
 use Rattle.text.proofs.Spans.{span_join, span_byte, span_head, span_split, span_one}
 use Rattle.text.proofs.Words.{plain, word-ends, word-item, item_span}
@@ -23,6 +22,7 @@ use Rattle.grammar.specs.Reading.{Read, got, refused, and_then, Begun, Readers, 
 use Rattle.grammar.proofs.Exact.{Edge, never_refused, passes, fails, one_of, thens, got_value, got_next, ends_of_lem}
 use Rattle.grammar.proofs.Leaves.{Pools}
 use Rattle.grammar.proofs.Args.{Fit, proper, write_args, AllGood, Exacts, args_edge, args_sound, args_complete}
+use Rattle.std.specs.Prelude.{Option, Some, None}
 
 -- within a list the default does not matter
 within_list : {A : Type 0} (l : List A) (k : ℕ) (d e : A) → k < length l → get_or l k d ≡ get_or l k e
@@ -32,10 +32,10 @@ within_list (x ∷ l) (suc k) d e h = within_list l k d e (omega arith)
 
 -- code c of a family has a number, by which its word is found, and its list stands last
 abbrev pub Placed : {A : Type 0} (F : Family A) → F.Code → Type 0
-Placed F c = (k : ℕ) × (index_of (map F.word F.codes) (F.word c) ≡ Found.At k) × (get_or F.codes k F.other ≡ c) × (allb plain (F.word c) ≡ true) × (proper (F.slots c) ≡ true)
+Placed F c = (k : ℕ) × (index_of (map F.word F.codes) (F.word c) ≡ Some k) × (get_or F.codes k F.other ≡ c) × (allb plain (F.word c) ≡ true) × (proper (F.slots c) ≡ true)
 
 -- the word of the number that was found
-pub word_of : {A : Type 0} (F : Family A) (w : List ℕ) (k : ℕ) → index_of (map F.word F.codes) w ≡ Found.At k → w ≡ F.word (get_or F.codes k F.other)
+pub word_of : {A : Type 0} (F : Family A) (w : List ℕ) (k : ℕ) → index_of (map F.word F.codes) w ≡ Some k → w ≡ F.word (get_or F.codes k F.other)
 word_of F w k e =
     let f = (index_at (map F.word F.codes) w k).0 e in
     sym f.1 ∙ within_list (map F.word F.codes) k [] (F.word F.other) f.0 ∙ get_or-map F.word F.codes k F.other
@@ -66,10 +66,10 @@ module _ (s : List ℕ) (above : Book) (N : Pools above) {A : Type 0} (F : Famil
       let q = passes (room c) 7 (got (F.build c xs) (m + 1)) p.1 in
       (xs, got_value q.1, q.0, span_join u.0 (subst (λ (k : ℕ). Span s m k (41 ∷ [])) (got_next q.1) (span_byte s m 40 (eqb-true (get_or s m 0) 41 p.0))), u.1)
 
-  head_sound : (at : ℕ) → at ≤ length s → get_or s at 0 ≡ 40 → (r : Found) → index_of (map F.word F.codes) (slice (at + 1) (item_end s (at + 1)) s) ≡ r → (x : A) (nx : ℕ)
+  head_sound : (at : ℕ) → at ≤ length s → get_or s at 0 ≡ 40 → (r : Option ℕ) → index_of (map F.word F.codes) (slice (at + 1) (item_end s (at + 1)) s) ≡ r → (x : A) (nx : ℕ)
       → headed s above F R deep full room n r (item_end s (at + 1)) ≡ got x nx → Opened x at nx
-  head_sound at h o Found.Nothing i x nx e = absurd (never_refused e)
-  head_sound at h o (Found.At k) i x nx e =
+  head_sound at h o None i x nx e = absurd (never_refused e)
+  head_sound at h o (Some k) i x nx e =
       let c = get_or F.codes k F.other in
       let p = fails deep 4 (cond full (refused 7) (body_at s above F R room (get_or F.codes k F.other) n (item_end s (at + 1)))) e in
       let q = fails full 7 (body_at s above F R room (get_or F.codes k F.other) n (item_end s (at + 1))) p.1 in
@@ -121,7 +121,7 @@ module _ (s : List ℕ) (above : Book) (N : Pools above) {A : Type 0} (F : Famil
       let (k, found, back, solid, _) = placed c in
       ap (λ (b : Bool). cond b (headed s above F R deep full room n (index_of (map F.word F.codes) (slice (at + 1) (item_end s (at + 1)) s)) (item_end s (at + 1))) bare) (eq-eqb (get_or s at 0) 40 h.1)
       ∙ ap₂ (λ (w : List ℕ) (j : ℕ). headed s above F R deep full room n (index_of (map F.word F.codes) w) j) (word-item (F.word c) sp.0 solid (ends_of_lem s mid e)) (word-ends (F.word c) sp.0 solid (ends_of_lem s mid e))
-      ∙ ap (λ (r : Found). headed s above F R deep full room n r mid) found
+      ∙ ap (λ (r : Option ℕ). headed s above F R deep full room n r mid) found
       ∙ ap₂ (λ (a b : Bool). cond a (refused 4) (cond b (refused 7) (body_at s above F R room (get_or F.codes k F.other) n mid))) sh be
       ∙ ap (λ (c : F.Code). body_at s above F R room c n mid) back
       ∙ body_complete c sh mid nx xs sp.1 q ro

@@ -15,9 +15,6 @@ use Rattle.base.proofs.Bytes.{eql_true, eql-refl}
 use Rattle.text.specs.Items.{item_end}
 use Rattle.text.specs.Decimals.{number_of, bound_of, decimal}
 use Rattle.text.specs.Pool.{index_of}
-use Rattle.text.specs.declared.Found.{Found}
-use Rattle.text.specs.declared.Number.{Number}
-use Rattle.text.specs.declared.Bound.{Bound}
 use Rattle.text.proofs.Items.{item_end-from}
 use Rattle.text.proofs.Places.{index_at, index_nothing}
 use Rattle.text.proofs.Inverse.{number_range, number-not, bound-over, bound-not}
@@ -36,13 +33,17 @@ use Rattle.grammar.specs.Reading.{Read, got, refused, and_then, Begun, known, un
 use Rattle.grammar.proofs.Leaves.{used_only, fresh_nothing, nothing_fresh}
 use Rattle.grammar.proofs.GroundsLocal.{stop-item, Settled, settled_got, settled_refused, settled-lower, settled-cond, settled-byte, settled-item, settled_then}
 use Rattle.grammar.specs.Grounds.{PathSlot, NameSlot, an_item, words, Fits, Waits, item, Item, is_true, is-link, Ground, misfit, value_range, low_range, high_range, undefined, repeated, pool_full, items-full, forms-full, paths-full}
+use Rattle.std.specs.Prelude.{Option, Some, None}
+use Rattle.std.specs.Prelude.{Result, Ok, Err, ℤ}
+use Rattle.text.specs.declared.NumberError.{NumberError}
+use Rattle.text.specs.declared.NumberError.TheVariants.{Malformed, Range}
 
 -- a name that is found is one of those
-found-any : (ws : List (List ℕ)) (w : List ℕ) (k : ℕ) → index_of ws w ≡ Found.At k → anyb (eql w) ws ≡ true
+found-any : (ws : List (List ℕ)) (w : List ℕ) (k : ℕ) → index_of ws w ≡ Some k → anyb (eql w) ws ≡ true
 found-any ws w k e = bool_cases (λ b. anyb (eql w) ws ≡ b → b ≡ true) (anyb (eql w) ws) (λ _ _. refl)
     (λ _ f. let i = (index_at ws w k).0 e in absurd (fresh_nothing ws w f k i.0 i.1)) refl
 
-pub found_none : (ws : List (List ℕ)) (w : List ℕ) → index_of ws w ≡ Found.Nothing → anyb (eql w) ws ≡ false
+pub found_none : (ws : List (List ℕ)) (w : List ℕ) → index_of ws w ≡ None → anyb (eql w) ws ≡ false
 found_none ws w e = nothing_fresh ws w ((index_nothing ws w).0 e)
 
 -- a test of an item that fails
@@ -65,9 +66,9 @@ space_item s above start q w i =
 module _ {s : List ℕ} {above : Book} {start q o : ℕ} {k : Slot} {ks : List Slot} {n : Begun} (W : Waits s above start q (k ∷ ks) n o) (sp : get_or s q 0 ≡ 32) where
   -- ---- a name of the pool; spelt: what fits there is a well made name
   module _ (pool : Pool) (N : NameSlot k pool) (spelt : Fits above k (item_at s (q + 1)) → well_named pool (item_at s (q + 1)) ≡ true) (bare : get_or s (q + 1) 0 ≡ 40 → words k ≡ []) where
-    known-settled : well_named pool (item_at s (q + 1)) ≡ true → (f : Found) → index_of (names pool above) (item_at s (q + 1)) ≡ f → Settles s above start (item_end s (q + 1)) (λ t. known t above f (item_end s (q + 1)))
-    known-settled w (Found.At a) e = settled_got a (item_end s (q + 1))
-    known-settled w Found.Nothing e = settled_refused (q + 1) (undefined W N (item_at s (q + 1)) (sp, refl) w (found_none (names pool above) (item_at s (q + 1)) e)) (stop-item s (q + 1))
+    known-settled : well_named pool (item_at s (q + 1)) ≡ true → (f : Option ℕ) → index_of (names pool above) (item_at s (q + 1)) ≡ f → Settles s above start (item_end s (q + 1)) (λ t. known t above f (item_end s (q + 1)))
+    known-settled w (Some a) e = settled_got a (item_end s (q + 1))
+    known-settled w None e = settled_refused (q + 1) (undefined W N (item_at s (q + 1)) (sp, refl) w (found_none (names pool above) (item_at s (q + 1)) e)) (stop-item s (q + 1))
 
     pub name_settled : Settles s above start (item_end s (q + 1)) (λ t. used_at t above pool (q + 1))
     unfolding used_at
@@ -102,10 +103,10 @@ module _ {s : List ℕ} {above : Book} {start q o : ℕ} {ks : List Slot} {n : B
   room_settled w = settled-cond (has_room above pool) (λ _. settled_got (item_at s (q + 1)) (item_end s (q + 1)))
       (λ e. settled_refused (q + 1) (pool_full W (item_at s (q + 1)) (sp, refl) w (ltb-false (length (names pool above)) (capacity pool) e)) (stop-item s (q + 1)))
 
-  unknown-settled : well_named pool (item_at s (q + 1)) ≡ true → (f : Found) → index_of (names pool above) (item_at s (q + 1)) ≡ f → Settles s above start (item_end s (q + 1)) (λ t. unknown t above f (cond (has_room above pool) (got (item_at s (q + 1)) (item_end s (q + 1))) (refused 7)))
+  unknown-settled : well_named pool (item_at s (q + 1)) ≡ true → (f : Option ℕ) → index_of (names pool above) (item_at s (q + 1)) ≡ f → Settles s above start (item_end s (q + 1)) (λ t. unknown t above f (cond (has_room above pool) (got (item_at s (q + 1)) (item_end s (q + 1))) (refused 7)))
   unfolding new_name
-  unknown-settled w (Found.At a) e = settled_refused (q + 1) (repeated W (item_at s (q + 1)) (sp, refl) w (found-any (names pool above) (item_at s (q + 1)) a e)) (stop-item s (q + 1))
-  unknown-settled w Found.Nothing e = room_settled (and_both (well_named pool (item_at s (q + 1))) (not (anyb (eql (item_at s (q + 1))) (names pool above))) w (ap not (found_none (names pool above) (item_at s (q + 1)) e)))
+  unknown-settled w (Some a) e = settled_refused (q + 1) (repeated W (item_at s (q + 1)) (sp, refl) w (found-any (names pool above) (item_at s (q + 1)) a e)) (stop-item s (q + 1))
+  unknown-settled w None e = room_settled (and_both (well_named pool (item_at s (q + 1))) (not (anyb (eql (item_at s (q + 1))) (names pool above))) w (ap not (found_none (names pool above) (item_at s (q + 1)) e)))
 
   pub new_settled : Settles s above start (item_end s (q + 1)) (λ t. new_at t above pool (q + 1))
   unfolding new_at
@@ -113,30 +114,30 @@ module _ {s : List ℕ} {above : Book} {start q o : ℕ} {ks : List Slot} {n : B
       (settled-cond (well_named pool (item_at s (q + 1))) (λ w. unknown-settled w (index_of (names pool above) (item_at s (q + 1))) refl) (λ w. settled_refused (q + 1) (misfit W (item_at s (q + 1)) (sp, refl) (λ f. never_both f w) (λ _. refl)) (stop-item s (q + 1))))
 
 -- ---- kinds, numbers, bounds
-kind-not : (w : List ℕ) → index_of (map write_kind (an_iri ∷ a_blank ∷ a_literal ∷ [])) w ≡ Found.Nothing → (k : Kind) → w ≡ write_kind k → ⊥
+kind-not : (w : List ℕ) → index_of (map write_kind (an_iri ∷ a_blank ∷ a_literal ∷ [])) w ≡ None → (k : Kind) → w ≡ write_kind k → ⊥
 kind-not w e an_iri i = (index_nothing (map write_kind (an_iri ∷ a_blank ∷ a_literal ∷ [])) w).0 e 0 (omega arith) (sym i)
 kind-not w e a_blank i = (index_nothing (map write_kind (an_iri ∷ a_blank ∷ a_literal ∷ [])) w).0 e 1 (omega arith) (sym i)
 kind-not w e a_literal i = (index_nothing (map write_kind (an_iri ∷ a_blank ∷ a_literal ∷ [])) w).0 e 2 (omega arith) (sym i)
 
 -- two: it is no decimal; three: it is one above 1,024
-bound-cases : (s : List ℕ) (above : Book) (start q : ℕ) → (((x : ℕ) → item_at s (q + 1) ≡ decimal x → ⊥) → Ground s above start 2 (q + 1)) → ((x : ℕ) → item_at s (q + 1) ≡ decimal x → max_count < x → Ground s above start 3 (q + 1)) → (r : Bound) → bound_of (item_at s (q + 1)) ≡ r → Settles s above start (item_end s (q + 1)) (λ t. bounded t above r (item_end s (q + 1)))
-bound-cases s above start q two three Bound.Not e = settled_refused (q + 1) (two ((bound-not (item_at s (q + 1))).0 e)) (stop-item s (q + 1))
-bound-cases s above start q two three Bound.Over e = let (x, i, r) = (bound-over (item_at s (q + 1))).0 e in settled_refused (q + 1) (three x i r) (stop-item s (q + 1))
-bound-cases s above start q two three (Bound.Value x) e = settled_got x (item_end s (q + 1))
+bound-cases : (s : List ℕ) (above : Book) (start q : ℕ) → (((x : ℕ) → item_at s (q + 1) ≡ decimal x → ⊥) → Ground s above start 2 (q + 1)) → ((x : ℕ) → item_at s (q + 1) ≡ decimal x → max_count < x → Ground s above start 3 (q + 1)) → (r : Result ℕ NumberError) → bound_of (item_at s (q + 1)) ≡ r → Settles s above start (item_end s (q + 1)) (λ t. bounded t above r (item_end s (q + 1)))
+bound-cases s above start q two three (Err Malformed) e = settled_refused (q + 1) (two ((bound-not (item_at s (q + 1))).0 e)) (stop-item s (q + 1))
+bound-cases s above start q two three (Err Range) e = let (x, i, r) = (bound-over (item_at s (q + 1))).0 e in settled_refused (q + 1) (three x i r) (stop-item s (q + 1))
+bound-cases s above start q two three (Ok x) e = settled_got x (item_end s (q + 1))
 
 module _ {s : List ℕ} {above : Book} {start q o : ℕ} {ks : List Slot} {n : Begun} where
-  kind-cases : Waits s above start q (kind_word ∷ ks) n o → get_or s q 0 ≡ 32 → (f : Found) → index_of (map write_kind (an_iri ∷ a_blank ∷ a_literal ∷ [])) (item_at s (q + 1)) ≡ f → Settles s above start (item_end s (q + 1)) (λ t. kind_numbered t above f (item_end s (q + 1)))
-  kind-cases W sp (Found.At k) e = settled_got (get_or (an_iri ∷ a_blank ∷ a_literal ∷ []) k a_literal) (item_end s (q + 1))
-  kind-cases W sp Found.Nothing e = settled_refused (q + 1) (misfit W (item_at s (q + 1)) (sp, refl) (λ f. kind-not (item_at s (q + 1)) e f.0 f.1) (λ _. refl)) (stop-item s (q + 1))
+  kind-cases : Waits s above start q (kind_word ∷ ks) n o → get_or s q 0 ≡ 32 → (f : Option ℕ) → index_of (map write_kind (an_iri ∷ a_blank ∷ a_literal ∷ [])) (item_at s (q + 1)) ≡ f → Settles s above start (item_end s (q + 1)) (λ t. kind_numbered t above f (item_end s (q + 1)))
+  kind-cases W sp (Some k) e = settled_got (get_or (an_iri ∷ a_blank ∷ a_literal ∷ []) k a_literal) (item_end s (q + 1))
+  kind-cases W sp None e = settled_refused (q + 1) (misfit W (item_at s (q + 1)) (sp, refl) (λ f. kind-not (item_at s (q + 1)) e f.0 f.1) (λ _. refl)) (stop-item s (q + 1))
 
   pub kind-settled : Waits s above start q (kind_word ∷ ks) n o → get_or s q 0 ≡ 32 → Settles s above start (item_end s (q + 1)) (λ t. kind_at t above (q + 1))
   unfolding kind_at
   kind-settled W sp = settled-item (q + 1) (λ t w e. kind_numbered t above (index_of (map write_kind (an_iri ∷ a_blank ∷ a_literal ∷ [])) w) e) (kind-cases W sp (index_of (map write_kind (an_iri ∷ a_blank ∷ a_literal ∷ [])) (item_at s (q + 1))) refl)
 
-  value-cases : Waits s above start q (value ∷ ks) n o → get_or s q 0 ≡ 32 → (r : Number) → number_of (item_at s (q + 1)) ≡ r → Settles s above start (item_end s (q + 1)) (λ t. valued t above r (item_end s (q + 1)))
-  value-cases W sp Number.Not e = settled_refused (q + 1) (misfit W (item_at s (q + 1)) (sp, refl) (λ f. (number-not (item_at s (q + 1))).0 e f.0 f.1) (λ _. refl)) (stop-item s (q + 1))
-  value-cases W sp Number.Range e = let (z, i, r) = (number_range (item_at s (q + 1))).0 e in settled_refused (q + 1) (value_range W z (sp, i) r) (stop-item s (q + 1))
-  value-cases W sp (Number.Value x) e = settled_got x (item_end s (q + 1))
+  value-cases : Waits s above start q (value ∷ ks) n o → get_or s q 0 ≡ 32 → (r : Result ℤ NumberError) → number_of (item_at s (q + 1)) ≡ r → Settles s above start (item_end s (q + 1)) (λ t. valued t above r (item_end s (q + 1)))
+  value-cases W sp (Err Malformed) e = settled_refused (q + 1) (misfit W (item_at s (q + 1)) (sp, refl) (λ f. (number-not (item_at s (q + 1))).0 e f.0 f.1) (λ _. refl)) (stop-item s (q + 1))
+  value-cases W sp (Err Range) e = let (z, i, r) = (number_range (item_at s (q + 1))).0 e in settled_refused (q + 1) (value_range W z (sp, i) r) (stop-item s (q + 1))
+  value-cases W sp (Ok x) e = settled_got x (item_end s (q + 1))
 
   pub value-settled : Waits s above start q (value ∷ ks) n o → get_or s q 0 ≡ 32 → Settles s above start (item_end s (q + 1)) (λ t. value_at t above (q + 1))
   unfolding value_at

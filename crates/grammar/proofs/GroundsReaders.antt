@@ -13,7 +13,6 @@ use Rattle.base.specs.Bytes.{bytes, eql}
 use Rattle.base.proofs.Bools.{never_both}
 use Rattle.text.specs.Items.{edge, item_end}
 use Rattle.text.specs.Pool.{index_of}
-use Rattle.text.specs.declared.Found.{Found}
 use Rattle.text.proofs.Items.{item_end-from, item_end-edge}
 use Rattle.text.specs.Spans.{Span}
 use Rattle.text.proofs.Spans.{span_byte, span_join}
@@ -38,6 +37,7 @@ use Rattle.grammar.proofs.GroundsLocal.{stop_open, stop-item, stop-past, settled
 use Rattle.grammar.specs.Grounds.{PathSlot, a_path, an_end, any, a-subject, a-type, a-link, words, Fits, path_bracket, form_bracket, target-bracket, Waits, line, inner, next, Opening, Bracket, is-bracket, Ground, no_line, no-line-word, no_space, misfit, no_word, no_close, no_end, nesting, forms-full, paths-full, facts_full, rules-full}
 use Rattle.grammar.proofs.Grounds.{waits-inside}
 use Rattle.grammar.proofs.GroundsLeaves.{found_none, other_item, Settles, item_at, name_settled, name_check, link-settled, new_settled, kind-settled, value-settled, low-settled, high-settled, true_settled, list_settled}
+use Rattle.std.specs.Prelude.{Option, Some, None}
 
 -- where PATH or END is wanted, the words are those of paths
 path_words_lem : {k : Slot} → PathSlot k → words k ≡ map path_family.word path_family.codes
@@ -125,9 +125,9 @@ module _ (s : List ℕ) (above : Book) (start : ℕ) where
       (four : deep ≡ true → (c : F.Code) → Opening s above start p (F.word c) → Ground s above start 4 p)
       (seven : deep ≡ false → full ≡ true → (c : F.Code) → Opening s above start p (F.word c) → Ground s above start 7 p)
       (body : deep ≡ false → full ≡ false → (c : F.Code) → Opening s above start p (F.word c) → Settles s above start (item_end s (p + 1)) (λ t. body_at t above F (Q t) room c n (item_end s (p + 1)))) where
-    head-settled : get_or s p 0 ≡ 40 → (f : Found) → index_of (map F.word F.codes) (item_at s (p + 1)) ≡ f → Settles s above start (item_end s (p + 1)) (λ t. headed t above F (Q t) deep full room n f (item_end s (p + 1)))
-    head-settled b Found.Nothing e = settled_refused p (two (item_at s (p + 1)) (b, refl) (found_none (map F.word F.codes) (item_at s (p + 1)) e)) (stop_open s p b)
-    head-settled b (Found.At k) e =
+    head-settled : get_or s p 0 ≡ 40 → (f : Option ℕ) → index_of (map F.word F.codes) (item_at s (p + 1)) ≡ f → Settles s above start (item_end s (p + 1)) (λ t. headed t above F (Q t) deep full room n f (item_end s (p + 1)))
+    head-settled b None e = settled_refused p (two (item_at s (p + 1)) (b, refl) (found_none (map F.word F.codes) (item_at s (p + 1)) e)) (stop_open s p b)
+    head-settled b (Some k) e =
         let w = word_of F (item_at s (p + 1)) k e in
         settled-cond deep (λ i. settled_refused p (four i (get_or F.codes k F.other) (b, w)) (stop_open s p b))
         (λ i. settled-cond full (λ j. settled_refused p (seven i j (get_or F.codes k F.other) (b, w)) (stop_open s p b))

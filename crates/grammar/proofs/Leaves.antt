@@ -17,9 +17,6 @@ use Rattle.base.proofs.Bytes.{eql_true, eql-refl}
 use Rattle.text.specs.Items.{edge, is_name}
 use Rattle.text.specs.Decimals.{number_of, bound_of, decimal, signed, digit}
 use Rattle.text.specs.Pool.{index_of, first_from}
-use Rattle.text.specs.declared.Found.{Found}
-use Rattle.text.specs.declared.Number.{Number}
-use Rattle.text.specs.declared.Bound.{Bound}
 use Rattle.text.specs.Spans.{Span}
 use Rattle.text.proofs.Spans.{span_join, span_byte, span_head, span_split, span_none, span_nothing}
 use Rattle.text.proofs.Words.{plain, names-plain}
@@ -34,6 +31,10 @@ use Rattle.grammar.specs.Writing.{name_of, write_kind, write_upper, spaced}
 use Rattle.grammar.specs.Valid.{reserved, well_named, new_name}
 use Rattle.grammar.specs.Reading.{Read, got, refused, and_then, known, unknown, used_at, new_at, subject_at, literal_type_at, kind_numbered, kind_at, valued, value_at, bounded, low_at, high_at, list_at}
 use Rattle.grammar.proofs.Exact.{Exact, Edge, never_refused, passes, one_of, thens, got_value, got_next, edge_of, item_exact, check_exact, exact_as}
+use Rattle.std.specs.Prelude.{Option, Some, None}
+use Rattle.std.specs.Prelude.{Result, Ok, Err}
+use Rattle.text.specs.declared.NumberError.{NumberError}
+use Rattle.text.specs.declared.NumberError.TheVariants.{Malformed, Range}
 
 -- the names of each pool are well made and differ
 pub record Pools (above : Book) : Type 0 where
@@ -83,13 +84,13 @@ upper_plain (at_most n) = decimal-plain n
 upper_plain unbounded = refl
 
 module _ (s : List ℕ) (above : Book) where
-  known_at : (r : Found) (e k nx : ℕ) → known s above r e ≡ got k nx → (r ≡ Found.At k) × (e ≡ nx)
-  known_at (Found.At j) e k nx q = (ap Found.At (got_value q), got_next q)
-  known_at Found.Nothing e k nx q = absurd (never_refused q)
+  known_at : (r : Option ℕ) (e k nx : ℕ) → known s above r e ≡ got k nx → (r ≡ Some k) × (e ≡ nx)
+  known_at (Some j) e k nx q = (ap Some (got_value q), got_next q)
+  known_at None e k nx q = absurd (never_refused q)
 
-  unknown-at : (r : Found) (y : Read Name) (n : Name) (nx : ℕ) → unknown s above r y ≡ got n nx → (r ≡ Found.Nothing) × (y ≡ got n nx)
-  unknown-at (Found.At j) y n nx q = absurd (never_refused q)
-  unknown-at Found.Nothing y n nx q = (refl, q)
+  unknown-at : (r : Option ℕ) (y : Read Name) (n : Name) (nx : ℕ) → unknown s above r y ≡ got n nx → (r ≡ None) × (y ≡ got n nx)
+  unknown-at (Some j) y n nx q = absurd (never_refused q)
+  unknown-at None y n nx q = (refl, q)
 
   -- ---- a name that is defined above
   -- what is accepted is one of the pool's names
@@ -108,7 +109,7 @@ module _ (s : List ℕ) (above : Book) where
         (used_only p)
         (λ k d e.
         let l : k < length (names p above) = ltb-true k (length (names p above)) d in
-        ap₂ (λ (b : Bool) (r : Found). cond b (known s above r e) (refused 2)) (N.named p k l) ((index_at (names p above) (name_of above p k) k).1 (l, refl, λ j h q. N.distinct p j k h l q)))
+        ap₂ (λ (b : Bool) (r : Option ℕ). cond b (known s above r e) (refused 2)) (N.named p k l) ((index_at (names p above) (name_of above p k) k).1 (l, refl, λ j h q. N.distinct p j k h l q)))
         (λ k d. named-plain p (name_of above p k) (N.named p k (ltb-true k (length (names p above)) d)))
 
   -- ---- a new name
@@ -123,7 +124,7 @@ module _ (s : List ℕ) (above : Book) where
       (i, got_next v.1, subst (λ (m : Name). (new_name above p m && has_room above p) ≡ true) i (and_both (new_name above p w) (has_room above p) (and_both (well_named p w) (not (anyb (eql w) (names p above))) t.0 (ap not (nothing_fresh (names p above) w ((index_nothing (names p above) w).0 u.0)))) v.0)))
       (λ n d e.
       let a = and_left (new_name above p n) (has_room above p) d in
-      ap₂ (λ (b : Bool) (r : Found). cond b (unknown s above r (cond (has_room above p) (got n e) (refused 7))) (refused 2)) (and_left (well_named p n) (not (anyb (eql n) (names p above))) a) ((index_nothing (names p above) n).1 (fresh_nothing (names p above) n (not-true (anyb (eql n) (names p above)) (and_right (well_named p n) (not (anyb (eql n) (names p above))) a))))
+      ap₂ (λ (b : Bool) (r : Option ℕ). cond b (unknown s above r (cond (has_room above p) (got n e) (refused 7))) (refused 2)) (and_left (well_named p n) (not (anyb (eql n) (names p above))) a) ((index_nothing (names p above) n).1 (fresh_nothing (names p above) n (not-true (anyb (eql n) (names p above)) (and_right (well_named p n) (not (anyb (eql n) (names p above))) a))))
       ∙ ap (λ (b : Bool). cond b (got n e) (refused 7)) (and_right (new_name above p n) (has_room above p) d))
       (λ n d. named-plain p n (and_left (well_named p n) (not (anyb (eql n) (names p above))) (and_left (new_name above p n) (has_room above p) d)))
 
@@ -138,8 +139,8 @@ module _ (s : List ℕ) (above : Book) where
     literal_type_exact = exact_as (λ t. (defined above types t && not (eqb t lang_string)) ≡ true) (λ t q. and_both (defined above types t) (not (eqb t lang_string)) q.0 q.1) (λ t q. (and_left (defined above types t) (not (eqb t lang_string)) q, and_right (defined above types t) (not (eqb t lang_string)) q)) (check_exact (λ t. not (eqb t lang_string)) 2 (used_exact N types))
 
   -- ---- kinds, numbers, counts
-  kind-at : (w : List ℕ) (r : Found) → r ≡ index_of (map write_kind (an_iri ∷ a_blank ∷ a_literal ∷ [])) w → (e : ℕ) (k : Kind) (nx : ℕ) → kind_numbered s above r e ≡ got k nx → (w ≡ write_kind k) × (e ≡ nx)
-  kind-at w (Found.At j) r e k nx q =
+  kind-at : (w : List ℕ) (r : Option ℕ) → r ≡ index_of (map write_kind (an_iri ∷ a_blank ∷ a_literal ∷ [])) w → (e : ℕ) (k : Kind) (nx : ℕ) → kind_numbered s above r e ≡ got k nx → (w ≡ write_kind k) × (e ≡ nx)
+  kind-at w (Some j) r e k nx q =
       let f = (index_at (map write_kind (an_iri ∷ a_blank ∷ a_literal ∷ [])) w j).0 (sym r) in
       (sym f.1 ∙ three j f.0 ∙ ap write_kind (got_value q), got_next q)
     where
@@ -148,7 +149,7 @@ module _ (s : List ℕ) (above : Book) where
       three (suc zero) l = refl
       three (suc (suc zero)) l = refl
       three (suc (suc (suc j))) l = absurd (omega arith)
-  kind-at w Found.Nothing r e k nx q = absurd (never_refused q)
+  kind-at w None r e k nx q = absurd (never_refused q)
 
   pub kind_exact : Exact s (Edge s) (kind_at s above) write_kind (λ k. true ≡ true)
   unfolding kind_at
@@ -161,24 +162,24 @@ module _ (s : List ℕ) (above : Book) where
   unfolding value_at
   value_exact = item_exact s (λ w e. valued s above (number_of w) e) signed (λ x. in_range x ≡ true)
       (λ w e x nx q. let u = value-at (number_of w) e x nx q in let v = (number-value w x).0 u.0 in (v.0, u.1, v.1))
-      (λ x d e. ap (λ (r : Number). valued s above r e) ((number-value (signed x) x).1 (refl, d)))
+      (λ x d e. ap (λ (r : Result ℤ NumberError). valued s above r e) ((number-value (signed x) x).1 (refl, d)))
       (λ x d. signed-plain x)
     where
-      value-at : (r : Number) (e : ℕ) (x : ℤ) (nx : ℕ) → valued s above r e ≡ got x nx → (r ≡ Number.Value x) × (e ≡ nx)
-      value-at Number.Not e x nx q = absurd (never_refused q)
-      value-at Number.Range e x nx q = absurd (never_refused q)
-      value-at (Number.Value y) e x nx q = (ap Number.Value (got_value q), got_next q)
+      value-at : (r : Result ℤ NumberError) (e : ℕ) (x : ℤ) (nx : ℕ) → valued s above r e ≡ got x nx → (r ≡ Ok x) × (e ≡ nx)
+      value-at (Err Malformed) e x nx q = absurd (never_refused q)
+      value-at (Err Range) e x nx q = absurd (never_refused q)
+      value-at (Ok y) e x nx q = (ap Ok (got_value q), got_next q)
 
-  bound_at : (r : Bound) (e n nx : ℕ) → bounded s above r e ≡ got n nx → (r ≡ Bound.Value n) × (e ≡ nx)
-  bound_at Bound.Not e n nx q = absurd (never_refused q)
-  bound_at Bound.Over e n nx q = absurd (never_refused q)
-  bound_at (Bound.Value m) e n nx q = (ap Bound.Value (got_value q), got_next q)
+  bound_at : (r : Result ℕ NumberError) (e n nx : ℕ) → bounded s above r e ≡ got n nx → (r ≡ Ok n) × (e ≡ nx)
+  bound_at (Err Malformed) e n nx q = absurd (never_refused q)
+  bound_at (Err Range) e n nx q = absurd (never_refused q)
+  bound_at (Ok m) e n nx q = (ap Ok (got_value q), got_next q)
 
   pub low_exact : Exact s (Edge s) (low_at s above) decimal (λ n. leb n max_count ≡ true)
   unfolding low_at
   low_exact = item_exact s (λ w e. bounded s above (bound_of w) e) decimal (λ n. leb n max_count ≡ true)
       (λ w e n nx q. let u = bound_at (bound_of w) e n nx q in let v = (bound-value w n).0 u.0 in (v.0, u.1, le-leb n max_count v.1))
-      (λ n d e. ap (λ (r : Bound). bounded s above r e) ((bound-value (decimal n) n).1 (refl, leb-true n max_count d)))
+      (λ n d e. ap (λ (r : Result ℕ NumberError). bounded s above r e) ((bound-value (decimal n) n).1 (refl, leb-true n max_count d)))
       (λ n d. decimal-plain n)
 
   high-at : (w : List ℕ) (e : ℕ) (u : Upper) (nx : ℕ) → cond (eql w (bytes "*")) (got unbounded e) (and_then (bounded s above (bound_of w) e) (λ n next. got (at_most n) next)) ≡ got u nx → (w ≡ write_upper u) × (e ≡ nx) × (upper_ok u ≡ true)
@@ -195,7 +196,7 @@ module _ (s : List ℕ) (above : Book) where
 
   high-gives : (u : Upper) → upper_ok u ≡ true → (e : ℕ) → cond (eql (write_upper u) (bytes "*")) (got unbounded e) (and_then (bounded s above (bound_of (write_upper u)) e) (λ n next. got (at_most n) next)) ≡ got u e
   unfolding write_upper upper_ok eql
-  high-gives (at_most n) d e = ap₂ (λ (b : Bool) (r : Bound). cond b (got unbounded e) (and_then (bounded s above r e) (λ n next. got (at_most n) next))) (no-star n) ((bound-value (decimal n) n).1 (refl, leb-true n max_count d))
+  high-gives (at_most n) d e = ap₂ (λ (b : Bool) (r : Result ℕ NumberError). cond b (got unbounded e) (and_then (bounded s above r e) (λ n next. got (at_most n) next))) (no-star n) ((bound-value (decimal n) n).1 (refl, leb-true n max_count d))
   high-gives unbounded d e = refl
 
   pub high_exact : Exact s (Edge s) (high_at s above) write_upper (λ u. upper_ok u ≡ true)

@@ -5,9 +5,6 @@ use Rattle.base.specs.Bytes.{bytes, eql}
 use Rattle.text.specs.Items.{item_end}
 use Rattle.text.specs.Decimals.{number_of, bound_of}
 use Rattle.text.specs.Pool.{index_of}
-use Rattle.text.specs.declared.Found.{Found}
-use Rattle.text.specs.declared.Number.{Number}
-use Rattle.text.specs.declared.Bound.{Bound}
 use Rattle.model.specs.Limits.{max_bytes, max_depth, max_rules, max_facts, max_forms, max_paths, max_items}
 use Rattle.model.specs.Answers.{Answer, refusal}
 use Rattle.model.specs.Graph.{iri, lang_string}
@@ -20,6 +17,10 @@ use Rattle.model.specs.Valid.{has_room, is_resource}
 use Rattle.grammar.specs.Writing.{write_kind}
 use Rattle.grammar.specs.Valid.{well_named}
 use Rattle.grammar.specs.Syntax.{Slot, used, new, subject, literal_type, kind_word, value, low, high, path, end, form, target, list, Arg, Args, Family, path_family, form_family, target_family, LineCode, link_l, type_l, lang_l, thing_l, blank_l, number_l, text_l, words_l, fact_l, shape_l, rule_l, line_family}
+use Rattle.std.specs.Prelude.{Option, Some, None}
+use Rattle.std.specs.Prelude.{Result, Ok, Err}
+use Rattle.text.specs.declared.NumberError.{NumberError}
+use Rattle.text.specs.declared.NumberError.TheVariants.{Malformed, Range}
 
 -- how many brackets may be open together within a line's own
 abbrev pub max_within : ℕ
@@ -79,9 +80,9 @@ module _ (s : List ℕ) (above : Book) where
   item at = slice at (item_end s at) s
 
   -- ---- single items
-  abbrev pub known : Found → ℕ → Read ℕ
-  known (Found.At k) next = got k next
-  known Found.Nothing next = refused 5
+  abbrev pub known : Option ℕ → ℕ → Read ℕ
+  known (Some k) next = got k next
+  known None next = refused 5
 
   unfoldable pub used_at : Pool → ℕ → Read ℕ
   used_at p at = cond (well_named p (item at)) (known (index_of (names p above) (item at)) (item_end s at)) (refused 2)
@@ -92,32 +93,32 @@ module _ (s : List ℕ) (above : Book) where
   unfoldable pub literal_type_at : ℕ → Read ℕ
   literal_type_at at = and_then (used_at types at) (λ t next. cond (not (eqb t lang_string)) (got t next) (refused 2))
 
-  abbrev pub unknown : Found → Read Name → Read Name
-  unknown (Found.At k) r = refused 6
-  unknown Found.Nothing r = r
+  abbrev pub unknown : Option ℕ → Read Name → Read Name
+  unknown (Some k) r = refused 6
+  unknown None r = r
 
   unfoldable pub new_at : Pool → ℕ → Read Name
   new_at p at = cond (well_named p (item at)) (unknown (index_of (names p above) (item at)) (cond (has_room above p) (got (item at) (item_end s at)) (refused 7))) (refused 2)
 
-  abbrev pub kind_numbered : Found → ℕ → Read Kind
-  kind_numbered (Found.At k) next = got (get_or (an_iri ∷ a_blank ∷ a_literal ∷ []) k a_literal) next
-  kind_numbered Found.Nothing next = refused 2
+  abbrev pub kind_numbered : Option ℕ → ℕ → Read Kind
+  kind_numbered (Some k) next = got (get_or (an_iri ∷ a_blank ∷ a_literal ∷ []) k a_literal) next
+  kind_numbered None next = refused 2
 
   unfoldable pub kind_at : ℕ → Read Kind
   kind_at at = kind_numbered (index_of (map write_kind (an_iri ∷ a_blank ∷ a_literal ∷ [])) (item at)) (item_end s at)
 
-  abbrev pub valued : Number → ℕ → Read ℤ
-  valued Number.Not next = refused 2
-  valued Number.Range next = refused 3
-  valued (Number.Value x) next = got x next
+  abbrev pub valued : Result ℤ NumberError → ℕ → Read ℤ
+  valued (Err Malformed) next = refused 2
+  valued (Err Range) next = refused 3
+  valued (Ok x) next = got x next
 
   unfoldable pub value_at : ℕ → Read ℤ
   value_at at = valued (number_of (item at)) (item_end s at)
 
-  abbrev pub bounded : Bound → ℕ → Read ℕ
-  bounded Bound.Not next = refused 2
-  bounded Bound.Over next = refused 3
-  bounded (Bound.Value n) next = got n next
+  abbrev pub bounded : Result ℕ NumberError → ℕ → Read ℕ
+  bounded (Err Malformed) next = refused 2
+  bounded (Err Range) next = refused 3
+  bounded (Ok n) next = got n next
 
   unfoldable pub low_at : ℕ → Read ℕ
   low_at at = bounded (bound_of (item at)) (item_end s at)
@@ -167,9 +168,9 @@ module _ (s : List ℕ) (above : Book) where
     body_at room c n at = and_then (args_at R (F.slots c) n at) (λ xs next. close_at (room c) (F.build c xs) next)
 
     -- deep: no bracket may be opened here; full: no entry may begin here
-    abbrev pub headed : (deep full : Bool) → (F.Code → Bool) → Begun → Found → ℕ → Read A
-    headed deep full room n Found.Nothing at = refused 2
-    headed deep full room n (Found.At k) at = cond deep (refused 4) (cond full (refused 7) (body_at room (get_or F.codes k F.other) n at))
+    abbrev pub headed : (deep full : Bool) → (F.Code → Bool) → Begun → Option ℕ → ℕ → Read A
+    headed deep full room n None at = refused 2
+    headed deep full room n (Some k) at = cond deep (refused 4) (cond full (refused 7) (body_at room (get_or F.codes k F.other) n at))
 
     -- a bracket of the family; or, where none opens, what bare reads
     unfoldable pub bracket_at : (deep full : Bool) → (F.Code → Bool) → (bare : Read A) → Begun → ℕ → Read A

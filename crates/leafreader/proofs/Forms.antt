@@ -1,6 +1,6 @@
 -- FORM: answers, the closing bracket, and what is stored.
 use Prim.Native.Nat.{ℕ, ◌+◌, ◌-◌, ◌<◌, ◌≤◌}
-use mathlib.Core.Path.{◌≡◌, sym, ap, ◌∙◌}
+use mathlib.Core.Path.{◌≡◌, refl, sym, ap, ◌∙◌}
 use mathlib.Core.List.{List, [], ◌∷◌}
 use mathlib.Core.Bool.{Bool, true, false, cond}
 use native.Mathlib.Omega.{arith}
@@ -27,12 +27,15 @@ use Rattle.stores.specs.Entries.{put_form, put_items, path_cells, end_cells, end
 use Rattle.itemreader.specs.Answers.{rest_at}
 use Rattle.itemreader.proofs.Heads.{rest-none, rest_got}
 use Rattle.leafreader.specs.declared.Ended.{Ended}
-use Rattle.leafreader.specs.declared.Form.{Form}
-use Rattle.leafreader.specs.Forms.{begun_of, ended_of, form_ended, FormRead, Closes, closed_form, FormsWithin, children_of, form_body, put_item, ListShape, EndShape, PathShape, end_number}
+use Rattle.std.specs.Prelude.{Ok, Err}
+use Rattle.model.specs.Refusals.{fault_of}
+use Rattle.model.specs.declared.Fault.{Fault}
+use Rattle.itemreader.proofs.Items.{ok_pair}
+use Rattle.leafreader.specs.Forms.{Form, begun_of, ended_of, form_ended, FormRead, Closes, closed_form, FormsWithin, children_of, form_body, put_item, ListShape, EndShape, PathShape, end_number}
 
 -- ---- answers
 module _ {n : Begun} {cs cs' : List ℕ} {vs vs' : List ℤ} {r : Form} where
-  pub form_no : {x : Read Shape} (k : ℕ) → x ≡ refused k → r ≡ Form.No k → FormRead x n cs cs' vs vs' r
+  pub form_no : {x : Read Shape} (k : ℕ) → x ≡ refused k → r ≡ Err (fault_of k) → FormRead x n cs cs' vs vs' r
   form_no k e q = rw e (record { answer = q; stored = tt })
 
   pub form_is_lem : {x y : Read Shape} → x ≡ y → FormRead y n cs cs' vs vs' r → FormRead x n cs cs' vs vs' r
@@ -62,14 +65,14 @@ module _ (s : List ℕ) (at : ℕ) (l : Ended) where
   unfolding closed_form close_at
   closed_form_lem a {φ} {n} {cs} {cs'} {vs} {vs'} {r} put other c q w = go (eqb (get_or s at 0) 41) q w
     where
-      go : (t : Bool) → r ≡ cond t (Form.Is (form_ended l) (at + 1)) (Form.No 2) → cs' ≡ cond t put other → FormRead (cond t (got φ (at + 1)) (refused 2)) n cs cs' vs vs' r
-      go true q w = record { answer = q ∙ ap (λ (m : Ended). Form.Is m (at + 1)) (sym c.ended); stored = (w ∙ c.cells, c.values) }
+      go : (t : Bool) → r ≡ cond t (Ok (form_ended l, at + 1)) (Err Fault.Grammar) → cs' ≡ cond t put other → FormRead (cond t (got φ (at + 1)) (refused 2)) n cs cs' vs vs' r
+      go true q w = record { answer = q ∙ ap (λ (m : Ended). Ok (m, at + 1)) (sym c.ended); stored = (w ∙ c.cells, c.values) }
       go false q w = record { answer = q; stored = tt }
 
   pub closed-within : (e up : ℕ) → e ≤ l.forms → l.forms + up < max_forms → l.paths ≤ max_paths → l.items ≤ max_items → FormsWithin e up (length s) (closed_form s at l)
   unfolding closed_form
   closed-within e up h k p i =
-      bool_cases (λ t. FormsWithin e up (length s) (cond t (Form.Is (form_ended l) (at + 1)) (Form.No 2))) (eqb (get_or s at 0) 41)
+      bool_cases (λ t. FormsWithin e up (length s) (cond t (Ok (form_ended l, at + 1)) (Err Fault.Grammar))) (eqb (get_or s at 0) 41)
       (λ y. let z = eqb-true (get_or s at 0) 41 y in let w : at < length s = inside s at (λ x. omega arith) in (omega arith, omega arith, p, i, omega arith))
       (λ y. tt)
 
@@ -133,23 +136,20 @@ pub record GotForm (x : Read Shape) (n : Begun) (l : Ended) (next : ℕ) (cs cs'
   pub cells : cs' ≡ shape_cells n tree cs
   pub values : vs' ≡ shape_values n tree vs
 
-module _ {n : Begun} {cs cs' : List ℕ} {vs vs' : List ℤ} {r : Form} where
-  pub form_got : {x : Read Shape} (l : Ended) (next : ℕ) → FormRead x n cs cs' vs vs' r → r ≡ Form.Is l next → GotForm x n l next cs cs' vs vs'
-  form_got {x} l next p q = go x p
+module _ {n : Begun} {cs cs' : List ℕ} {vs vs' : List ℤ} where
+  pub form_got : {x : Read Shape} (l : Ended) (next : ℕ) → FormRead x n cs cs' vs vs' (Ok (l, next)) → GotForm x n l next cs cs' vs vs'
+  form_got {x} l next p = go x p
     where
-      go : (x : Read Shape) → FormRead x n cs cs' vs vs' r → GotForm x n l next cs cs' vs vs'
-      go (got φ last) p = let e : last ≡ next = cc in record { tree = φ; is = ap (got φ) e; ended = cc; cells = p.stored.0; values = p.stored.1 }
+      go : (x : Read Shape) → FormRead x n cs cs' vs vs' (Ok (l, next)) → GotForm x n l next cs cs' vs vs'
+      go (got φ last) p = let e = ok_pair l (ended_of (after form φ n)) next last p.answer in record { tree = φ; is = ap (got φ) (sym e.1); ended = e.0; cells = p.stored.0; values = p.stored.1 }
       go (refused k) p = let z : ◌≡◌ {A = ℕ} 0 1 = cc in absurd (omega arith)
 
-  pub form_refused : {x : Read Shape} (k : ℕ) → FormRead x n cs cs' vs vs' r → r ≡ Form.No k → x ≡ refused k
-  form_refused {x} k p q = go x p
+  pub form_refused : {x : Read Shape} {f : Fault} → FormRead x n cs cs' vs vs' (Err f) → (k : ℕ) × (x ≡ refused k) × (f ≡ fault_of k)
+  form_refused {x} {f} p = go x p
     where
-      go : (x : Read Shape) → FormRead x n cs cs' vs vs' r → x ≡ refused k
+      go : (x : Read Shape) → FormRead x n cs cs' vs vs' (Err f) → (k : ℕ) × (x ≡ refused k) × (f ≡ fault_of k)
       go (got φ last) p = let z : ◌≡◌ {A = ℕ} 0 1 = cc in absurd (omega arith)
-      go (refused j) p = cc
-
-pub within-is : (e up len : ℕ) (r : Form) (m : Ended) (next : ℕ) → FormsWithin e up len r → r ≡ Form.Is m next → (e < m.forms) × (m.forms + up ≤ max_forms) × (m.paths ≤ max_paths) × (m.items ≤ max_items) × (next ≤ len)
-within-is e up len r m next g q = rw q at g
+      go (refused j) p = let e = p.answer in (j, refl, cc)
 
 -- ---- words by their numbers
 pub body_is : (s : List ℕ) (a : Book) (left code k : ℕ) (b : Begun) (at : ℕ) → code ≡ k → form_body s a left code b at ≡ form_body s a left k b at

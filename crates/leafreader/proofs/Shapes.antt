@@ -15,7 +15,7 @@ use Rattle.encoding.specs.Flatten.{kind_code}
 use Rattle.tables.specs.Codes as codes
 use Rattle.stores.specs.Entries.{put_form, path_cells, test_cells, shape_cells, test_values, shape_values}
 use Rattle.leafreader.specs.declared.Ended.{Ended}
-use Rattle.leafreader.specs.declared.Form.{Form}
+use Rattle.std.specs.Prelude.{Ok}
 use Rattle.leafreader.specs.Forms.{begun_of, ended_of, form_ended, FormRead, Closes, put_item, UsedShape, ListShape, ValueShape, EndShape, PathShape}
 use Rattle.leafreader.proofs.Forms.{ended_eq}
 
@@ -34,9 +34,9 @@ module _ (n : Ended) (cs : List ℕ) (vs : List ℤ) where
   unfolding form_entries shape_paths list_items test_items shape_cells test_cells shape_values test_values
   kind_closes k = record { ended = one_ended (test (node_kind k)) n n refl refl (omega arith) (omega arith); cells = refl; values = refl }
 
-  pub true_read : {x : Read Shape} {cs' : List ℕ} (next : ℕ) → x ≡ got top next → cs' ≡ put_form n.forms codes.form_true 0 0 0 0 cs → FormRead x (begun_of n) cs cs' vs vs (Form.Is (form_ended n) next)
+  pub true_read : {x : Read Shape} {cs' : List ℕ} (next : ℕ) → x ≡ got top next → cs' ≡ put_form n.forms codes.form_true 0 0 0 0 cs → FormRead x (begun_of n) cs cs' vs vs (Ok (form_ended n, next))
   unfolding form_entries shape_paths list_items shape_cells shape_values
-  true_read next e w = rw e (record { answer = ap (λ (m : Ended). Form.Is m next) (sym (one_ended top n n refl refl (omega arith) (omega arith))); stored = (w, refl) })
+  true_read next e w = rw e (record { answer = ap (λ (m : Ended). Ok (m, next)) (sym (one_ended top n n refl refl (omega arith) (omega arith))); stored = (w, refl) })
 
   -- ---- a path
   pub onelang_closes : (m : ℕ) (e : Path) (mid : List ℕ) → n.paths + path_entries e ≡ m → mid ≡ path_cells n.paths e cs → Closes (unique_lang e) (begun_of n) cs vs vs (record { forms = n.forms; paths = m; items = n.items }) (put_form n.forms codes.form_onelang (m - 1) 0 0 0 mid)

@@ -1,5 +1,5 @@
 -- What reading a FORM answers and leaves in the cells and values, for what the grammar's reading gives.
-use Rattle.std.specs.Prelude.{ℕ, ◌+◌, ◌-◌, ◌<◌, ◌≤◌, ◌≡◌, List, [], ◌∷◌, Bool, true, cond, eqb, length, get_or, ℤ}
+use Rattle.std.specs.Prelude.{ℕ, ◌+◌, ◌-◌, ◌<◌, ◌≤◌, ◌≡◌, List, [], ◌∷◌, Bool, true, cond, eqb, length, get_or, ℤ, Result, Ok, Err}
 use Rattle.model.specs.Paths.{Path, End}
 use Rattle.model.specs.Shapes.{Shape}
 use Rattle.model.specs.Books.{Book}
@@ -9,10 +9,14 @@ use Rattle.grammar.specs.Syntax.{Slot, Arg, form, form_family}
 use Rattle.grammar.specs.Reading.{Read, got, refused, Readers, Begun, after, arg_at, body_at, readers_at}
 use Rattle.tables.specs.Layout.{no_number}
 use Rattle.stores.specs.Entries.{put_form, put_items, put_value, path_cells, end_cells, end_operand, shape_cells, shape_values}
-use Rattle.itemreader.specs.declared.Item.{Item}
-use Rattle.itemreader.specs.Answers.{item_of, rest_at}
+use Rattle.model.specs.Refusals.{fault_of}
+use Rattle.model.specs.declared.Fault.{Fault}
+use Rattle.itemreader.specs.Answers.{Item, item_of, rest_at}
 use Rattle.leafreader.specs.declared.Ended.{Ended}
-use Rattle.leafreader.specs.declared.Form.{Form}
+
+-- what has ended with a form that was read, and the position after it; or the fault
+abbrev pub Form : Type 0
+Form = Result (Ended × ℕ) Fault
 
 -- the counts that the code holds
 abbrev pub begun_of : Ended → Begun
@@ -27,8 +31,8 @@ form_ended n = record { forms = n.forms + 1; paths = n.paths; items = n.items }
 
 -- the counts after a form that was read, where n have ended before it, and the position after it; or the refusal
 abbrev pub form_answer : Begun → Read Shape → Form
-form_answer n (got φ next) = Form.Is (ended_of (after form φ n)) next
-form_answer n (refused k) = Form.No k
+form_answer n (got φ next) = Ok (ended_of (after form φ n), next)
+form_answer n (refused k) = Err (fault_of k)
 
 -- its entries in the cells, and its numbers among the values; a refusal leaves both free
 abbrev pub FormStored : Read Shape → Begun → List ℕ → List ℕ → List ℤ → List ℤ → Type 0
@@ -48,12 +52,12 @@ pub record Closes (φ : Shape) (n : Begun) (cs : List ℕ) (vs vs' : List ℤ) (
 
 -- what a closing bracket gives, where l have ended before its own entry
 unfoldable pub closed_form : List ℕ → ℕ → Ended → Form
-closed_form s at l = cond (eqb (get_or s at 0) 41) (Form.Is (form_ended l) (at + 1)) (Form.No 2)
+closed_form s at l = cond (eqb (get_or s at 0) 41) (Ok (form_ended l, at + 1)) (Err Fault.Grammar)
 
 -- more than e form entries with room for up more, other entries within their limits, and a position in a text of a length
 abbrev pub FormsWithin : ℕ → ℕ → ℕ → Form → Type 0
-FormsWithin e up len (Form.Is m next) = (e < m.forms) × (m.forms + up ≤ max_forms) × (m.paths ≤ max_paths) × (m.items ≤ max_items) × (next ≤ len)
-FormsWithin e up len (Form.No k) = Unit {0}
+FormsWithin e up len (Ok (m, next)) = (e < m.forms) × (m.forms + up ≤ max_forms) × (m.paths ≤ max_paths) × (m.items ≤ max_items) × (next ≤ len)
+FormsWithin e up len (Err f) = Unit {0}
 
 -- how many FORMs stand within the bracket of a word
 abbrev pub children_of : ℕ → ℕ

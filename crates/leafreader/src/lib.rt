@@ -9,15 +9,17 @@ ghost use Rattle.model.specs.Books.{Book, links};
 ghost use Rattle.model.specs.Limits.{max_forms, max_paths, max_items};
 ghost use Rattle.grammar.specs.Syntax.{used, value, path, end, list};
 ghost use Rattle.grammar.specs.Reading.{Readers, Begun, true_at, readers_at};
-ghost use Rattle.tables.specs.Layout.{cell_count, value_count, name_count};
+ghost use Rattle.tables.specs.Layout.{cell_count, value_count};
 ghost use Rattle.stores.specs.Entries.{put_form};
-ghost use Rattle.itemreader.specs.Answers.{pool_of, Below, form_words, rest_at};
-ghost use Rattle.itemreader.specs.Held.{Limits, Held, Indexed};
+ghost use Rattle.itemreader.specs.Answers.{pool_of, Below, rest_at};
+ghost use Rattle.itemreader.specs.Words.{form_words};
+ghost use Rattle.itemreader.specs.Held.{Held};
 ghost use Rattle.leafreader.specs.Forms.{begun_of, FormRead, closed_form, FormsWithin, children_of, form_body, put_item, ItemForm, UsedShape, ListShape, ValueShape, EndShape, PathShape, end_number};
 
-use base::pick_cell;
-use itemreader::{Item, Pool, Value, read_kind, read_list, read_used, read_value, words};
-use model::{Counts, MAX_FORMS};
+use base::pick;
+use itemreader::pools::Pools;
+use itemreader::{Pool, Read, read_kind, read_list, read_used, read_value, words};
+use model::{Fault, MAX_FORMS};
 use pathreader::{read_end, read_path};
 use tables::codes;
 use tables::layout::{
@@ -31,13 +33,6 @@ pub struct Ended {
     pub forms: usize,
     pub paths: usize,
     pub items: usize,
-}
-
-// What has ended with a form that was read, and the position after it; or the number of a refusal.
-#[derive(Clone, Copy)]
-pub enum Form {
-    Is(Ended, usize),
-    No(u8),
 }
 
 // Form entry e.
@@ -71,124 +66,107 @@ pub fn close_form(
     second: u16,
     third: u16,
     fourth: u16,
-) -> Form
+) -> Read<Ended>
     requires { (n.forms < max_forms) × (cell_count ≤ length cells.old) }
     ensures value { result ≡ closed_form book.now at n }
     ensures new_cells { cells.new ≡ cond (eqb (get_or book.now at 0) 41) (put_form n.forms code first second third fourth cells.old) cells.old }
     ensures cells_unchanged { drop cell_count cells.new ≡ drop cell_count cells.old }
 {
     if byte(book, at) != 41 {
-        return Form::No(2);
+        return Err(Fault::Grammar);
     }
     let forms = n.forms;
     put_form(cells, forms, code, first, second, third, fourth);
-    Form::Is(
+    Ok((
         Ended {
             forms: forms + 1,
-            paths: n.paths,
-            items: n.items,
+            ..n
         },
         at + 1,
-    )
+    ))
 }
 
 // A form whose last item was read: its number is the form's only operand, or the second.
 fn item_form(
     cells: &mut [u16],
     book: &[u8],
-    item: Item,
+    item: Read<usize>,
     n: Ended,
     up: usize,
     code: u16,
     first: u16,
     lone: bool,
-) -> Form
+) -> Read<Ended>
     requires { (n.forms + up < max_forms) × (n.paths ≤ max_paths) × (n.items ≤ max_items) × (cell_count ≤ length cells.old) × Below 65536 (length book.now) item }
     ensures item_form { ItemForm book.now item n (put_item lone n.forms code first cells.old) cells.new result }
     ensures forms_within { FormsWithin n.forms up (length book.now) result }
     ensures cells_unchanged { drop cell_count cells.new ≡ drop cell_count cells.old }
 {
-    match item {
-        Item::No(k) => Form::No(k),
-        Item::Is(k, next) => {
-            let x = k as u16;
-            close_form(
-                cells,
-                book,
-                next,
-                n,
-                code,
-                pick_cell(lone, x, first),
-                pick_cell(lone, 0, x),
-                0,
-                0,
-            )
-        }
-    }
+    let (k, next) = item?;
+    let x = k as u16;
+    close_form(
+        cells,
+        book,
+        next,
+        n,
+        code,
+        pick(lone, x, first),
+        pick(lone, 0, x),
+        0,
+        0,
+    )
 }
 
 // is, shape and datatype: a name.
 fn used_form(
     cells: &mut [u16],
-    names: &[u8],
-    index: &[u16],
-    counts: Counts,
+    pools: Pools,
     pool: Pool,
     book: &[u8],
     at: usize,
     n: Ended,
     up: usize,
     code: u16,
-) -> Form
-    requires { (at ≤ length book.now) × (name_count ≤ length names.now) × (cell_count ≤ length cells.old) × (n.forms + up < max_forms) × (n.paths ≤ max_paths) × (n.items ≤ max_items) × Limits counts × Indexed names.now counts index.now }
-    ensures form_read { (a : Book) → Held names.now counts a → (R : Readers) (b : Begun) (f : ℕ → Shape) → UsedShape f code → (vs : List ℤ) → FormRead (rest_at book.now a R true (used (pool_of pool) ∷ []) (λ xs. f xs.0) b at) (begun_of n) cells.old cells.new vs vs result }
+) -> Read<Ended>
+    requires { (at ≤ length book.now) × (cell_count ≤ length cells.old) × (n.forms + up < max_forms) × (n.paths ≤ max_paths) × (n.items ≤ max_items) }
+    ensures form_read { (a : Book) → Held pools.entry.names.now pools.entry.counts a → (R : Readers) (b : Begun) (f : ℕ → Shape) → UsedShape f code → (vs : List ℤ) → FormRead (rest_at book.now a R true (used (pool_of pool) ∷ []) (λ xs. f xs.0) b at) (begun_of n) cells.old cells.new vs vs result }
     ensures forms_within { FormsWithin n.forms up (length book.now) result }
     ensures cells_unchanged { drop cell_count cells.new ≡ drop cell_count cells.old }
 {
-    let item = read_used(names, index, counts, pool, book, at);
+    let item = read_used(pools, pool, book, at);
     item_form(cells, book, item, n, up, code, 0, true)
 }
 
 // lang and closed: a list of names.
 fn list_form(
     cells: &mut [u16],
-    names: &[u8],
-    index: &[u16],
-    counts: Counts,
+    pools: Pools,
     pool: Pool,
     book: &[u8],
     at: usize,
     n: Ended,
     up: usize,
     code: u16,
-) -> Form
-    requires { (at ≤ length book.now) × (name_count ≤ length names.now) × (cell_count ≤ length cells.old) × (n.forms + up < max_forms) × (n.paths ≤ max_paths) × (n.items ≤ max_items) × Limits counts × Indexed names.now counts index.now }
-    ensures form_read { (a : Book) → Held names.now counts a → (R : Readers) (b : Begun) → b.items ≡ n.items → (f : List ℕ → Shape) → ListShape f code → (vs : List ℤ) → FormRead (rest_at book.now a R true (list (pool_of pool) ∷ []) (λ xs. f xs.0) b at) (begun_of n) cells.old cells.new vs vs result }
+) -> Read<Ended>
+    requires { (at ≤ length book.now) × (cell_count ≤ length cells.old) × (n.forms + up < max_forms) × (n.paths ≤ max_paths) × (n.items ≤ max_items) }
+    ensures form_read { (a : Book) → Held pools.entry.names.now pools.entry.counts a → (R : Readers) (b : Begun) → b.items ≡ n.items → (f : List ℕ → Shape) → ListShape f code → (vs : List ℤ) → FormRead (rest_at book.now a R true (list (pool_of pool) ∷ []) (λ xs. f xs.0) b at) (begun_of n) cells.old cells.new vs vs result }
     ensures forms_within { FormsWithin n.forms up (length book.now) result }
     ensures cells_unchanged { drop cell_count cells.new ≡ drop cell_count cells.old }
 {
     let items = n.items;
-    match read_list(cells, names, index, counts, pool, book, at, items) {
-        Item::No(k) => Form::No(k),
-        Item::Is(m, next) => {
-            let l = Ended {
-                forms: n.forms,
-                paths: n.paths,
-                items: m,
-            };
-            close_form(
-                cells,
-                book,
-                next,
-                l,
-                code,
-                items as u16,
-                (m - items) as u16,
-                0,
-                0,
-            )
-        }
-    }
+    let (m, next) = read_list(cells, pools, pool, book, at, items)?;
+    let l = Ended { items: m, ..n };
+    close_form(
+        cells,
+        book,
+        next,
+        l,
+        code,
+        items as u16,
+        (m - items) as u16,
+        0,
+        0,
+    )
 }
 
 // from, above, to and below: a number V.
@@ -200,21 +178,17 @@ fn value_form(
     n: Ended,
     up: usize,
     code: u16,
-) -> Form
+) -> Read<Ended>
     requires { (at ≤ length book.now) × (cell_count ≤ length cells.old) × (value_count ≤ length values.old) × (n.forms + up < max_forms) × (n.paths ≤ max_paths) × (n.items ≤ max_items) }
     ensures form_read { (a : Book) (R : Readers) (b : Begun) (f : ℤ → Shape) → ValueShape f code → FormRead (rest_at book.now a R true (value ∷ []) (λ xs. f xs.0) b at) (begun_of n) cells.old cells.new values.old values.new result }
     ensures forms_within { FormsWithin n.forms up (length book.now) result }
     ensures cells_unchanged { drop cell_count cells.new ≡ drop cell_count cells.old }
     ensures values_unchanged { drop value_count values.new ≡ drop value_count values.old }
 {
-    match read_value(book, at) {
-        Value::No(k) => Form::No(k),
-        Value::Is(x, next) => {
-            let forms = n.forms;
-            values[FORM_VALUES + forms] = x;
-            close_form(cells, book, next, n, code, 0, 0, 0, 0)
-        }
-    }
+    let (x, next) = read_value(book, at)?;
+    let forms = n.forms;
+    values[FORM_VALUES + forms] = x;
+    close_form(cells, book, next, n, code, 0, 0, 0, 0)
 }
 
 // `id` for an END that has no entry, else the number of its last entry.
@@ -232,112 +206,82 @@ fn end_number(before: usize, after: usize) -> u16
 // equal and apart: an END and a link.
 fn end_form(
     cells: &mut [u16],
-    names: &[u8],
-    index: &[u16],
-    counts: Counts,
+    pools: Pools,
     book: &[u8],
     at: usize,
     left: usize,
     n: Ended,
     up: usize,
     code: u16,
-) -> Form
-    requires { (at ≤ length book.now) × (name_count ≤ length names.now) × (cell_count ≤ length cells.old) × (n.forms + up < max_forms) × (n.paths ≤ max_paths) × (n.items ≤ max_items) × Limits counts × Indexed names.now counts index.now }
-    ensures form_read { (a : Book) → Held names.now counts a → (b : Begun) → b.paths ≡ n.paths → (f : End → ℕ → Shape) → EndShape f code → (vs : List ℤ) → FormRead (rest_at book.now a (readers_at book.now a left) true (end ∷ used links ∷ []) (λ xs. f xs.0 xs.1.0) b at) (begun_of n) cells.old cells.new vs vs result }
+) -> Read<Ended>
+    requires { (at ≤ length book.now) × (cell_count ≤ length cells.old) × (n.forms + up < max_forms) × (n.paths ≤ max_paths) × (n.items ≤ max_items) }
+    ensures form_read { (a : Book) → Held pools.entry.names.now pools.entry.counts a → (b : Begun) → b.paths ≡ n.paths → (f : End → ℕ → Shape) → EndShape f code → (vs : List ℤ) → FormRead (rest_at book.now a (readers_at book.now a left) true (end ∷ used links ∷ []) (λ xs. f xs.0 xs.1.0) b at) (begun_of n) cells.old cells.new vs vs result }
     ensures forms_within { FormsWithin n.forms up (length book.now) result }
     ensures cells_unchanged { drop cell_count cells.new ≡ drop cell_count cells.old }
 {
     let paths = n.paths;
-    match read_end(cells, names, index, counts, book, at, left, paths) {
-        Item::No(k) => Form::No(k),
-        Item::Is(m, next) => {
-            let item = read_used(names, index, counts, Pool::Links, book, next);
-            let l = Ended {
-                forms: n.forms,
-                paths: m,
-                items: n.items,
-            };
-            item_form(cells, book, item, l, up, code, end_number(paths, m), false)
-        }
-    }
+    let (m, next) = read_end(cells, pools, book, at, left, paths)?;
+    let item = read_used(pools, Pool::Links, book, next);
+    let l = Ended { paths: m, ..n };
+    item_form(cells, book, item, l, up, code, end_number(paths, m), false)
 }
 
 // less and lesseq: a PATH and a link.
 fn less_form(
     cells: &mut [u16],
-    names: &[u8],
-    index: &[u16],
-    counts: Counts,
+    pools: Pools,
     book: &[u8],
     at: usize,
     left: usize,
     n: Ended,
     up: usize,
     code: u16,
-) -> Form
-    requires { (at ≤ length book.now) × (name_count ≤ length names.now) × (cell_count ≤ length cells.old) × (n.forms + up < max_forms) × (n.paths ≤ max_paths) × (n.items ≤ max_items) × Limits counts × Indexed names.now counts index.now }
-    ensures form_read { (a : Book) → Held names.now counts a → (b : Begun) → b.paths ≡ n.paths → (f : Path → ℕ → Shape) → PathShape f code → (vs : List ℤ) → FormRead (rest_at book.now a (readers_at book.now a left) true (path ∷ used links ∷ []) (λ xs. f xs.0 xs.1.0) b at) (begun_of n) cells.old cells.new vs vs result }
+) -> Read<Ended>
+    requires { (at ≤ length book.now) × (cell_count ≤ length cells.old) × (n.forms + up < max_forms) × (n.paths ≤ max_paths) × (n.items ≤ max_items) }
+    ensures form_read { (a : Book) → Held pools.entry.names.now pools.entry.counts a → (b : Begun) → b.paths ≡ n.paths → (f : Path → ℕ → Shape) → PathShape f code → (vs : List ℤ) → FormRead (rest_at book.now a (readers_at book.now a left) true (path ∷ used links ∷ []) (λ xs. f xs.0 xs.1.0) b at) (begun_of n) cells.old cells.new vs vs result }
     ensures forms_within { FormsWithin n.forms up (length book.now) result }
     ensures cells_unchanged { drop cell_count cells.new ≡ drop cell_count cells.old }
 {
     let paths = n.paths;
-    match read_path(cells, names, index, counts, book, at, left, paths, 0) {
-        Item::No(k) => Form::No(k),
-        Item::Is(m, next) => {
-            let item = read_used(names, index, counts, Pool::Links, book, next);
-            let l = Ended {
-                forms: n.forms,
-                paths: m,
-                items: n.items,
-            };
-            item_form(cells, book, item, l, up, code, (m - 1) as u16, false)
-        }
-    }
+    let (m, next) = read_path(cells, pools, book, at, left, paths, 0)?;
+    let item = read_used(pools, Pool::Links, book, next);
+    let l = Ended { paths: m, ..n };
+    item_form(cells, book, item, l, up, code, (m - 1) as u16, false)
 }
 
 // onelang: a PATH.
 fn onelang_form(
     cells: &mut [u16],
-    names: &[u8],
-    index: &[u16],
-    counts: Counts,
+    pools: Pools,
     book: &[u8],
     at: usize,
     left: usize,
     n: Ended,
     up: usize,
-) -> Form
-    requires { (at ≤ length book.now) × (name_count ≤ length names.now) × (cell_count ≤ length cells.old) × (n.forms + up < max_forms) × (n.paths ≤ max_paths) × (n.items ≤ max_items) × Limits counts × Indexed names.now counts index.now }
-    ensures form_read { (a : Book) → Held names.now counts a → (b : Begun) → b.paths ≡ n.paths → (vs : List ℤ) → FormRead (rest_at book.now a (readers_at book.now a left) true (path ∷ []) (λ xs. unique_lang xs.0) b at) (begun_of n) cells.old cells.new vs vs result }
+) -> Read<Ended>
+    requires { (at ≤ length book.now) × (cell_count ≤ length cells.old) × (n.forms + up < max_forms) × (n.paths ≤ max_paths) × (n.items ≤ max_items) }
+    ensures form_read { (a : Book) → Held pools.entry.names.now pools.entry.counts a → (b : Begun) → b.paths ≡ n.paths → (vs : List ℤ) → FormRead (rest_at book.now a (readers_at book.now a left) true (path ∷ []) (λ xs. unique_lang xs.0) b at) (begun_of n) cells.old cells.new vs vs result }
     ensures forms_within { FormsWithin n.forms up (length book.now) result }
     ensures cells_unchanged { drop cell_count cells.new ≡ drop cell_count cells.old }
 {
     let paths = n.paths;
-    match read_path(cells, names, index, counts, book, at, left, paths, 0) {
-        Item::No(k) => Form::No(k),
-        Item::Is(m, next) => {
-            let l = Ended {
-                forms: n.forms,
-                paths: m,
-                items: n.items,
-            };
-            close_form(
-                cells,
-                book,
-                next,
-                l,
-                codes::FORM_ONELANG,
-                (m - 1) as u16,
-                0,
-                0,
-                0,
-            )
-        }
-    }
+    let (m, next) = read_path(cells, pools, book, at, left, paths, 0)?;
+    let l = Ended { paths: m, ..n };
+    close_form(
+        cells,
+        book,
+        next,
+        l,
+        codes::FORM_ONELANG,
+        (m - 1) as u16,
+        0,
+        0,
+        0,
+    )
 }
 
 // `true` after a space.
-pub fn read_true(cells: &mut [u16], book: &[u8], at: usize, n: Ended, up: usize) -> Form
+pub fn read_true(cells: &mut [u16], book: &[u8], at: usize, n: Ended, up: usize) -> Read<Ended>
     requires { (at ≤ length book.now) × (cell_count ≤ length cells.old) × (n.forms + up ≤ max_forms) × (n.paths ≤ max_paths) × (n.items ≤ max_items) }
     ensures form_read { (a : Book) (vs : List ℤ) → FormRead (true_at book.now a (leb max_forms (n.forms + up)) at) (begun_of n) cells.old cells.new vs vs result }
     ensures forms_within { FormsWithin n.forms up (length book.now) result }
@@ -345,39 +289,36 @@ pub fn read_true(cells: &mut [u16], book: &[u8], at: usize, n: Ended, up: usize)
 {
     let end = item_end(book, at);
     if !is_word(book, at, end, b"true") {
-        return Form::No(2);
+        return Err(Fault::Grammar);
     }
     let forms = n.forms;
     if MAX_FORMS <= forms + up {
-        return Form::No(7);
+        return Err(Fault::Limit);
     }
     put_form(cells, forms, codes::FORM_TRUE, 0, 0, 0, 0);
-    Form::Is(
+    Ok((
         Ended {
             forms: forms + 1,
-            paths: n.paths,
-            items: n.items,
+            ..n
         },
         end,
-    )
+    ))
 }
 
 // What follows the word of a form without a FORM within, by the word's number.
 pub fn read_leaf(
     cells: &mut [u16],
     values: &mut [i64],
-    names: &[u8],
-    index: &[u16],
-    counts: Counts,
+    pools: Pools,
     book: &[u8],
     code: usize,
     at: usize,
     left: usize,
     n: Ended,
     up: usize,
-) -> Form
-    requires { (at ≤ length book.now) × (name_count ≤ length names.now) × (cell_count ≤ length cells.old) × (value_count ≤ length values.old) × (n.forms + up < max_forms) × (n.paths ≤ max_paths) × (n.items ≤ max_items) × Limits counts × (code < form_words) × (children_of code ≡ 0) × Indexed names.now counts index.now }
-    ensures form_read { (a : Book) → Held names.now counts a → (b : Begun) → b.paths ≡ n.paths → b.items ≡ n.items → FormRead (form_body book.now a left code b at) (begun_of n) cells.old cells.new values.old values.new result }
+) -> Read<Ended>
+    requires { (at ≤ length book.now) × (cell_count ≤ length cells.old) × (value_count ≤ length values.old) × (n.forms + up < max_forms) × (n.paths ≤ max_paths) × (n.items ≤ max_items) × (code < form_words) × (children_of code ≡ 0) }
+    ensures form_read { (a : Book) → Held pools.entry.names.now pools.entry.counts a → (b : Begun) → b.paths ≡ n.paths → b.items ≡ n.items → FormRead (form_body book.now a left code b at) (begun_of n) cells.old cells.new values.old values.new result }
     ensures forms_within { FormsWithin n.forms up (length book.now) result }
     ensures cells_unchanged { drop cell_count cells.new ≡ drop cell_count cells.old }
     ensures values_unchanged { drop value_count values.new ≡ drop value_count values.old }
@@ -385,32 +326,21 @@ pub fn read_leaf(
     // the code of an entry is one more than the number of its word
     let k = (code + 1) as u16;
     match code {
-        words::IS => used_form(cells, names, index, counts, Pool::Nodes, book, at, n, up, k),
-        words::SHAPE => used_form(
-            cells,
-            names,
-            index,
-            counts,
-            Pool::Shapes,
-            book,
-            at,
-            n,
-            up,
-            k,
-        ),
+        words::IS => used_form(cells, pools, Pool::Nodes, book, at, n, up, k),
+        words::SHAPE => used_form(cells, pools, Pool::Shapes, book, at, n, up, k),
         words::KIND => item_form(cells, book, read_kind(book, at), n, up, k, 0, true),
-        words::DATATYPE => used_form(cells, names, index, counts, Pool::Types, book, at, n, up, k),
-        words::LANG => list_form(cells, names, index, counts, Pool::Langs, book, at, n, up, k),
+        words::DATATYPE => used_form(cells, pools, Pool::Types, book, at, n, up, k),
+        words::LANG => list_form(cells, pools, Pool::Langs, book, at, n, up, k),
         words::FROM => value_form(cells, values, book, at, n, up, k),
         words::ABOVE => value_form(cells, values, book, at, n, up, k),
         words::TO => value_form(cells, values, book, at, n, up, k),
         words::BELOW => value_form(cells, values, book, at, n, up, k),
-        words::EQUAL => end_form(cells, names, index, counts, book, at, left, n, up, k),
-        words::APART => end_form(cells, names, index, counts, book, at, left, n, up, k),
-        words::CLOSED => list_form(cells, names, index, counts, Pool::Links, book, at, n, up, k),
-        words::LESS => less_form(cells, names, index, counts, book, at, left, n, up, k),
-        words::LESSEQ => less_form(cells, names, index, counts, book, at, left, n, up, k),
+        words::EQUAL => end_form(cells, pools, book, at, left, n, up, k),
+        words::APART => end_form(cells, pools, book, at, left, n, up, k),
+        words::CLOSED => list_form(cells, pools, Pool::Links, book, at, n, up, k),
+        words::LESS => less_form(cells, pools, book, at, left, n, up, k),
+        words::LESSEQ => less_form(cells, pools, book, at, left, n, up, k),
         // onelang
-        _ => onelang_form(cells, names, index, counts, book, at, left, n, up),
+        _ => onelang_form(cells, pools, book, at, left, n, up),
     }
 }

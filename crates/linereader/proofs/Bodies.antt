@@ -12,7 +12,6 @@ use lib.IntN.{ℤ, pos}
 use borrow.Author.Tests.{eqb-true, eq-eqb, ne_eqb, ltb-true}
 use Rattle.text.specs.Items.{item_end}
 use Rattle.text.specs.Pool.{index_of}
-use Rattle.text.specs.declared.Found.{Found}
 use Rattle.model.specs.Graph.{Term}
 use Rattle.model.specs.Rules.{Rule}
 use Rattle.model.specs.Books.{Name, Line, node, fact, rule, Book, Pool, nodes, links, types, langs, shapes, joins, new_names, new_triples, new_shapes, new_rules, names, collect, rules}
@@ -26,15 +25,16 @@ use Rattle.grammar.specs.Syntax.{Slot, Arg, Args, new, LineCode, link_l, type_l,
 use Rattle.grammar.specs.Reading.{max_within, Read, got, refused, and_then, Readers, Begun, after, unknown, new_at, arg_at, args_at, close_at, body_at, readers_at, line_room, begun_above}
 use Rattle.encoding.specs.Encode.{pool_base}
 use Rattle.stores.specs.Lines.{put_name, put_node, put_fact, put_rule, line_names, line_cells, line_values}
-use Rattle.itemreader.specs.Answers.{Reads, Inside, rest_at}
-use Rattle.itemreader.specs.declared.Value.{Value}
-use Rattle.itemreader.proofs.Items.{item-within, named-short, item_got, item_refused}
+use Rattle.itemreader.specs.Answers.{Reads, rest_at}
+use Rattle.itemreader.proofs.Items.{item-within, named-short, item_got, item_refused, passed_on}
 use Rattle.itemreader.proofs.Heads.{rest_got, rest_refused, close_not, close_full, close_got}
 use Rattle.model.specs.declared.Counts.{Counts}
-use Rattle.itemreader.specs.declared.Item.{Item}
-use Rattle.linereader.specs.declared.LineAnswer.{LineAnswer}
+use Rattle.std.specs.Prelude.{Option, Some, None, Result, Ok, Err, IsErrAnd}
+use Rattle.model.specs.Graph.{Triple}
+use Rattle.model.specs.Refusals.{fault_of}
+use Rattle.model.specs.declared.Fault.{Fault}
 use Rattle.linereader.specs.declared.Node.{Node}
-use Rattle.linereader.specs.Storing.{named, counted, end_line, line_end, line_body, ended_with, refusal_of, Done, HasNameLine, name_line_code, name_line, Row, resource_term, resource_code, put₃}
+use Rattle.linereader.specs.Storing.{named, counted, end_line, line_end, line_body, ended_with, Done, HasNameLine, name_line_code, name_line, Row, resource_term, resource_code, put₃}
 
 -- ---- the closing bracket and the LF
 module _ (s : List ℕ) (a : Book) (room : Bool) (l : Line) (at : ℕ) where
@@ -101,15 +101,8 @@ unfolding line_body body_at
 body_is s a c at = refl
 
 -- ---- an item that was refused
-pub item-no : (s : List ℕ) (a : Book) (R : Readers) (k : Slot) (f : Arg k → ℕ) (n : Begun) (at : ℕ) (r : Item) (j m : ℕ) → Reads s a k f at r → r ≡ Item.No j → m ≡ refusal_of r → arg_at s a R k n at ≡ refused m
-item-no s a R k f n at r j m h e q = item_refused f (arg_at s a R k n at) r j (h R n) e ∙ ap refused (sym (q ∙ ap refusal_of e))
-
-pub item-stop : (s : List ℕ) (a : Book) (k : Slot) (f : Arg k → ℕ) (n : Begun) (at : ℕ) (r : Item) (j m : ℕ) → Reads s a k f at r → r ≡ Item.No j → m ≡ refusal_of r → arg_at s a (readers_at s a max_within) k n at ≡ refused m
-item-stop s a k f n at r j m h e q = item-no s a (readers_at s a max_within) k f n at r j m h e q
-
--- ---- a value
-pub value-within : (len : ℕ) (r : Value) (v : ℤ) (next : ℕ) → Inside len r → r ≡ Value.Is v next → next ≤ len
-value-within len r v next h e = subst (λ (x : Value). Inside len x) e h
+pub item-stop : (s : List ℕ) (a : Book) (k : Slot) (f : Arg k → ℕ) (n : Begun) (at : ℕ) (e : Fault) → Reads s a k f at (Err e) → (m : ℕ) × (arg_at s a (readers_at s a max_within) k n at ≡ refused m) × (e ≡ fault_of m)
+item-stop s a k f n at e h = item_refused f (arg_at s a (readers_at s a max_within) k n at) e (h (readers_at s a max_within) n)
 
 -- ---- a new name that was read
 pub record NewName (s : List ℕ) (a : Book) (p : Pool) (at next : ℕ) : Type 0 where
@@ -129,22 +122,22 @@ new_name_lem s a R b p at w next e =
     v : List ℕ
     v = slice (at + 1) end s
 
-    go : (x y : Bool) (f : Found) (h : Bool) → (x ≡ true → get_or s at 0 ≡ 32) → (y ≡ true → well_named p v ≡ true) → (h ≡ true → length (names p a) < capacity p)
+    go : (x y : Bool) (f : Option ℕ) (h : Bool) → (x ≡ true → get_or s at 0 ≡ 32) → (y ≡ true → well_named p v ≡ true) → (h ≡ true → length (names p a) < capacity p)
         → cond x (cond y (unknown s a f (cond h (got v end) (refused 7))) (refused 2)) (refused 2) ≡ got w next → (w ≡ slice (at + 1) next s) × NewName s a p at next
-    go true true Found.Nothing true z y h e =
+    go true true None true z y h e =
         let i = item-within s at end 31 (z refl) refl in
         let q : end ≡ next = cc in
         let t : v ≡ w = cc in
         subst (λ (n : ℕ). (w ≡ slice (at + 1) n s) × NewName s a p at n) q (sym t, record { from = i.0; within = i.1; short = named-short p s (at + 1) end i.1 (y refl); room = h refl })
-    go true true Found.Nothing false z y h e = let z : ◌≡◌ {A = ℕ} 0 1 = cc in absurd (omega arith)
-    go true true (Found.At k) h z y h' e = let z : ◌≡◌ {A = ℕ} 0 1 = cc in absurd (omega arith)
+    go true true None false z y h e = let z : ◌≡◌ {A = ℕ} 0 1 = cc in absurd (omega arith)
+    go true true (Some k) h z y h' e = let z : ◌≡◌ {A = ℕ} 0 1 = cc in absurd (omega arith)
     go true false f h z y h' e = let z : ◌≡◌ {A = ℕ} 0 1 = cc in absurd (omega arith)
     go false y f h z y' h' e = let z : ◌≡◌ {A = ℕ} 0 1 = cc in absurd (omega arith)
 
-module _ (s : List ℕ) (a : Book) (p : Pool) (n : Begun) (at : ℕ) (r : Item) (k next : ℕ) (h : Reads s a (new p) length at r) (e : r ≡ Item.Is k next) where
+module _ (s : List ℕ) (a : Book) (p : Pool) (n : Begun) (at k next : ℕ) (h : Reads s a (new p) length at (Ok (k, next))) where
   pub new_got : arg_at s a (readers_at s a max_within) (new p) n at ≡ got (slice (at + 1) next s) next
   new_got =
-      let y = item_got length (arg_at s a (readers_at s a max_within) (new p) n at) r k next (h (readers_at s a max_within) n) e in
+      let y = item_got length (arg_at s a (readers_at s a max_within) (new p) n at) k next (h (readers_at s a max_within) n) in
       y.1 ∙ ap (λ (w : Name). got w next) (new_name_lem s a (readers_at s a max_within) n p at y.0 next y.1).0
 
   pub new_facts : NewName s a p at next
@@ -168,20 +161,24 @@ unfolding pool_base
 node-place n h = omega arith
 
 -- ---- a line that is refused before anything is stored
-pub done_no : (a : Book) (c : Counts) (x : Read Line) (r : LineAnswer) (k : ℕ) (ns cs : List ℕ) (vs : List ℤ) → x ≡ refused k → r ≡ LineAnswer.No k → Done a c x r ns ns cs cs vs vs
+pub done_no : (a : Book) (c : Counts) (x : Read Line) (r : Result (Counts × ℕ) Fault) (k : ℕ) (ns cs : List ℕ) (vs : List ℤ) → x ≡ refused k → r ≡ Err (fault_of k) → Done a c x r ns ns cs cs vs vs
 done_no a c x r k ns cs vs e q = subst (λ (y : Read Line). Done a c y r ns ns cs cs vs vs) (sym e) (q, refl, refl, refl)
 
+-- .. by what `?` hands on
+pub done_stop : (a : Book) (c : Counts) (x : Read Line) (r : Result (Counts × ℕ) Fault) (e : Fault) (k : ℕ) (ns cs : List ℕ) (vs : List ℤ) → x ≡ refused k → e ≡ fault_of k → IsErrAnd r (λ y. y ≡ e) → Done a c x r ns ns cs cs vs vs
+done_stop a c x r e k ns cs vs p q h = done_no a c x r k ns cs vs p (passed_on r e h ∙ ap Err q)
+
 -- a line that is stored
-pub done_yes : (a : Book) (c : Counts) (x : Read Line) (l : Line) (next : ℕ) (r : LineAnswer) (ns ns' cs cs' : List ℕ) (vs vs' : List ℤ) → x ≡ got l next → r ≡ LineAnswer.Next next (counted l c) → ns' ≡ line_names a l ns → cs' ≡ line_cells a l cs → vs' ≡ line_values a l vs → Done a c x r ns ns' cs cs' vs vs'
+pub done_yes : (a : Book) (c : Counts) (x : Read Line) (l : Line) (next : ℕ) (r : Result (Counts × ℕ) Fault) (ns ns' cs cs' : List ℕ) (vs vs' : List ℤ) → x ≡ got l next → r ≡ Ok (counted l c, next) → ns' ≡ line_names a l ns → cs' ≡ line_cells a l cs → vs' ≡ line_values a l vs → Done a c x r ns ns' cs cs' vs vs'
 done_yes a c x l next r ns ns' cs cs' vs vs' e q h i j = subst (λ (y : Read Line). Done a c y r ns ns' cs cs' vs vs') (sym e) (q, h, i, j)
 
-pub done_same : (a : Book) (c : Counts) (x y : Read Line) (r : LineAnswer) (ns ns' cs cs' : List ℕ) (vs vs' : List ℤ) → x ≡ y → Done a c y r ns ns' cs cs' vs vs' → Done a c x r ns ns' cs cs' vs vs'
+pub done_same : (a : Book) (c : Counts) (x y : Read Line) (r : Result (Counts × ℕ) Fault) (ns ns' cs cs' : List ℕ) (vs vs' : List ℤ) → x ≡ y → Done a c y r ns ns' cs cs' vs vs' → Done a c x r ns ns' cs cs' vs vs'
 done_same a c x y r ns ns' cs cs' vs vs' e d = subst (λ (y : Read Line). Done a c y r ns ns' cs cs' vs vs') (sym e) d
 
 -- ---- what the answer at the line's end says
-pub ended-no : (c : Counts) (x : Read Line) (r : LineAnswer) (k : ℕ) → r ≡ ended_with c x → r ≡ LineAnswer.No k → x ≡ refused k
-ended-no c (got y n) r k p q = let z : ◌≡◌ {A = ℕ} 0 1 = cc in absurd (omega arith)
-ended-no c (refused j) r k p q = cc
+pub ended-no : (c : Counts) (x : Read Line) (e : Fault) → ◌≡◌ {A = Result (Counts × ℕ) Fault} (Err e) (ended_with c x) → (k : ℕ) × (x ≡ refused k) × (e ≡ fault_of k)
+ended-no c (got y n) e p = let z : ◌≡◌ {A = ℕ} 0 1 = cc in absurd (omega arith)
+ended-no c (refused j) e p = (j, refl, cc)
 
 ended-line : (s : List ℕ) (a : Book) (room : Bool) (l : Line) (at : ℕ) (y : Line) (next : ℕ) → line_end s a room l at ≡ got y next → y ≡ l
 unfolding line_end close_at
@@ -196,11 +193,14 @@ ended-line s a room l at y next e = go (eqb (get_or s at 0) 41) room (eqb (get_o
     go true false d e = let z : ◌≡◌ {A = ℕ} 0 1 = cc in absurd (omega arith)
     go false c d e = let z : ◌≡◌ {A = ℕ} 0 1 = cc in absurd (omega arith)
 
-pub ended-yes : (s : List ℕ) (a : Book) (room : Bool) (l : Line) (at : ℕ) (c : Counts) (r : LineAnswer) (next : ℕ) (d : Counts) → r ≡ ended_with c (line_end s a room l at) → r ≡ LineAnswer.Next next d → (line_end s a room l at ≡ got l next) × (r ≡ LineAnswer.Next next c)
-ended-yes s a room l at c r next d p q = go (line_end s a room l at) p (ended-line s a room l at)
+pub ended-yes : (s : List ℕ) (a : Book) (room : Bool) (l : Line) (at : ℕ) (c : Counts) (d : Counts × ℕ) → ◌≡◌ {A = Result (Counts × ℕ) Fault} (Ok d) (ended_with c (line_end s a room l at)) → (line_end s a room l at ≡ got l d.1) × (d ≡ (c, d.1))
+ended-yes s a room l at c d p = go (line_end s a room l at) p (ended-line s a room l at)
   where
-    go : (x : Read Line) → r ≡ ended_with c x → ((y : Line) (n : ℕ) → x ≡ got y n → y ≡ l) → (x ≡ got l next) × (r ≡ LineAnswer.Next next c)
-    go (got y n) p h = let e : n ≡ next = cc in (ap (λ (z : Line). got z n) (h y n refl) ∙ ap (got l) e, p ∙ ap (λ (m : ℕ). LineAnswer.Next m c) e)
+    go : (x : Read Line) → ◌≡◌ {A = Result (Counts × ℕ) Fault} (Ok d) (ended_with c x) → ((y : Line) (n : ℕ) → x ≡ got y n → y ≡ l) → (x ≡ got l d.1) × (d ≡ (c, d.1))
+    go (got y n) p h =
+        let e : d ≡ (c, n) = cc in
+        let q : n ≡ d.1 = sym (ap (λ (z : Counts × ℕ). z.1) e) in
+        (ap (λ (z : Line). got z n) (h y n refl) ∙ ap (got l) q, e ∙ ap (λ (m : ℕ). (c, m)) q)
     go (refused k) p h = let z : ◌≡◌ {A = ℕ} 0 1 = cc in absurd (omega arith)
 
 -- a line that ended was within its limit
@@ -267,6 +267,21 @@ lone_counted shapes o w c = absurd o
 pub node-counted : (w : Name) (t : Term) (c : Counts) → named nodes c ≡ counted (node w t) c
 unfolding new_names joins new_triples new_shapes new_rules sum_over
 node-counted w t c = simp add-zero
+
+-- one fact more, one rule more
+abbrev pub fact_more : Counts → Counts
+fact_more c = record { nodes = c.nodes; links = c.links; types = c.types; langs = c.langs; shapes = c.shapes; facts = c.facts + 1; paths = c.paths; forms = c.forms; items = c.items; rules = c.rules }
+
+abbrev pub rule_more : Counts → Counts
+rule_more c = record { nodes = c.nodes; links = c.links; types = c.types; langs = c.langs; shapes = c.shapes; facts = c.facts; paths = c.paths; forms = c.forms; items = c.items; rules = c.rules + 1 }
+
+pub fact_counted : (t : Triple) (c : Counts) → fact_more c ≡ counted (fact t) c
+unfolding new_names joins new_triples new_shapes new_rules sum_over
+fact_counted t c = simp add-zero
+
+pub rule_counted : (x : Rule) (c : Counts) → rule_more c ≡ counted (rule x) c
+unfolding new_names joins new_triples new_shapes new_rules sum_over
+rule_counted x c = simp add-zero
 
 -- ---- thing and blank
 module _ (s : List ℕ) (a : Book) where

@@ -1,6 +1,6 @@
 -- A target: its head, the name in it and its closing bracket.
-use Prim.Native.Nat.{ℕ, zero, suc, ◌+◌, ◌≤◌, ◌<◌}
-use mathlib.Core.Path.{◌≡◌, refl, sym, ap, ◌∙◌, subst}
+use Prim.Native.Nat.{ℕ, zero, suc, ◌+◌, ◌<◌}
+use mathlib.Core.Path.{◌≡◌, refl, sym, ap, ◌∙◌}
 use mathlib.Core.List.{List, [], ◌∷◌}
 use mathlib.Core.Bool.{true, false}
 use native.Mathlib.Omega.{arith}
@@ -11,26 +11,24 @@ use Rattle.model.specs.Rules.{Target}
 use Rattle.encoding.specs.Rows.{target_code, target_operand}
 use Rattle.grammar.specs.Syntax.{Args, used, target, TargetCode, node_c, subjects_c, objects_c, class_c, target_family}
 use Rattle.grammar.specs.Reading.{max_within, Read, got, refused, Readers, Begun, after, arg_at, body_at, bracket_at, deeper, readers_at}
-use Rattle.itemreader.specs.declared.Head.{Head}
-use Rattle.itemreader.specs.Answers.{head_at, Headed, words_of, rest_at}
+use Rattle.std.specs.Prelude.{Some, None, Result, Ok, Err}
+use Rattle.model.specs.Refusals.{fault_of}
+use Rattle.model.specs.declared.Fault.{Fault}
+use Rattle.itemreader.specs.Answers.{head_at, rest_at}
+use Rattle.itemreader.specs.Words.{words_of}
 use Rattle.itemreader.proofs.Heads.{rest-none, rest_got, rest_refused, close_not, close_got, bracket-bare, bracket_refused, bracket-word}
-use Rattle.linereader.specs.declared.TargetAnswer.{TargetAnswer}
-use Rattle.linereader.specs.Storing.{operand_pool, target_answer, Targeted}
-
-pub headed-is : (count left len : ℕ) (r : Head) (k end : ℕ) → Headed count left false len r → r ≡ Head.Word k end → (k < count) × (0 < left) × (end ≤ len)
-headed-is count left len r k end h e = let w = subst (λ (x : Head). Headed count left false len x) e h in (w.0, w.1, w.3)
-
-pub targeted_is : (bound len : ℕ) (r : TargetAnswer) (code k next : ℕ) → Targeted bound len r → r ≡ TargetAnswer.Is code k next → (code < 4) × (k < bound) × (next ≤ len)
-targeted_is bound len r code k next h e = subst (λ (x : TargetAnswer). Targeted bound len x) e h
+use Rattle.linereader.specs.Storing.{operand_pool, target_answer}
 
 -- what an answer says of the reading
-pub target_read : (x : Read Target) (r : TargetAnswer) (code k next : ℕ) → r ≡ target_answer x → r ≡ TargetAnswer.Is code k next → (t : Target) × (x ≡ got t next) × (code ≡ target_code t) × (k ≡ target_operand t)
-target_read (got t n) r code k next p q = let e : n ≡ next = cc in (t, ap (got t) e, cc, cc)
-target_read (refused j) r code k next p q = let z : ◌≡◌ {A = ℕ} 0 1 = cc in absurd (omega arith)
+pub target_read : (x : Read Target) (code k next : ℕ) → ◌≡◌ {A = Result ((ℕ × ℕ) × ℕ) Fault} (Ok ((code, k), next)) (target_answer x) → (t : Target) × (x ≡ got t next) × (code ≡ target_code t) × (k ≡ target_operand t)
+target_read (got t n) code k next p =
+    let e : ◌≡◌ {A = (ℕ × ℕ) × ℕ} ((code, k), next) ((target_code t, target_operand t), n) = cc in
+    (t, ap (λ (z : (ℕ × ℕ) × ℕ). got t z.1) (sym e), ap (λ (z : (ℕ × ℕ) × ℕ). z.0.0) e, ap (λ (z : (ℕ × ℕ) × ℕ). z.0.1) e)
+target_read (refused j) code k next p = let z : ◌≡◌ {A = ℕ} 0 1 = cc in absurd (omega arith)
 
-pub target-no : (x : Read Target) (r : TargetAnswer) (k : ℕ) → r ≡ target_answer x → r ≡ TargetAnswer.No k → x ≡ refused k
-target-no (got t n) r k p q = let z : ◌≡◌ {A = ℕ} 0 1 = cc in absurd (omega arith)
-target-no (refused j) r k p q = cc
+pub target-no : (x : Read Target) (e : Fault) → ◌≡◌ {A = Result ((ℕ × ℕ) × ℕ) Fault} (Err e) (target_answer x) → (k : ℕ) × (x ≡ refused k) × (e ≡ fault_of k)
+target-no (got t n) e p = let z : ◌≡◌ {A = ℕ} 0 1 = cc in absurd (omega arith)
+target-no (refused j) e p = (j, refl, cc)
 
 -- ---- the head
 module _ (s : List ℕ) (a : Book) (b : Begun) (at : ℕ) where
@@ -43,13 +41,13 @@ module _ (s : List ℕ) (a : Book) (b : Begun) (at : ℕ) where
     unfolding arg_at readers_at deeper
     target-spaced = rw (eq-eqb (get_or s at 0) 32 z)
 
-    pub target-closed : head_at s (words_of target_family) false false (at + 1) ≡ Head.Bare → arg_at s a (readers_at s a max_within) target b at ≡ refused 2
+    pub target-closed : head_at s (words_of target_family) false false (at + 1) ≡ Ok None → arg_at s a (readers_at s a max_within) target b at ≡ refused 2
     target-closed e = target-spaced ∙ bracket-bare s a target_family (readers_at s a 30) false false (λ c. true) (refused 2) b (at + 1) e
 
-    pub target-unknown : (k : ℕ) → head_at s (words_of target_family) false false (at + 1) ≡ Head.No k → arg_at s a (readers_at s a max_within) target b at ≡ refused k
-    target-unknown k e = target-spaced ∙ bracket_refused s a target_family (readers_at s a 30) false false (λ c. true) (refused 2) b (at + 1) k e
+    pub target-unknown : (e : Fault) → head_at s (words_of target_family) false false (at + 1) ≡ Err e → (k : ℕ) × (arg_at s a (readers_at s a max_within) target b at ≡ refused k) × (e ≡ fault_of k)
+    target-unknown e p = let (k, x, q) = bracket_refused s a target_family (readers_at s a 30) false false (λ c. true) (refused 2) b (at + 1) e p in (k, target-spaced ∙ x, q)
 
-    pub target-word : (k end : ℕ) → head_at s (words_of target_family) false false (at + 1) ≡ Head.Word k end → arg_at s a (readers_at s a max_within) target b at ≡ body_at s a target_family (readers_at s a 30) (λ c. true) (get_or target_family.codes k node_c) b end
+    pub target-word : (k end : ℕ) → head_at s (words_of target_family) false false (at + 1) ≡ Ok (Some (k, end)) → arg_at s a (readers_at s a max_within) target b at ≡ body_at s a target_family (readers_at s a 30) (λ c. true) (get_or target_family.codes k node_c) b end
     target-word k end e = target-spaced ∙ (bracket-word s a target_family (readers_at s a 30) false false (λ c. true) (refused 2) b (at + 1) k end e).1
 
 -- ---- the name and the closing bracket
@@ -89,7 +87,7 @@ module _ (s : List ℕ) (a : Book) (R : Readers) (b : Begun) (at : ℕ) where
   target_open (suc (suc (suc zero))) x last h e n = one_open nodes (target_family.build class_c) x last e n
   target_open (suc (suc (suc (suc k)))) x last h e n = absurd (omega arith)
 
-  pub target_got : (k x last : ℕ) → k < 4 → arg_at s a R (used (operand_pool k)) b at ≡ got x last → get_or s last 0 ≡ 41 → TargetAnswer.Is k x (last + 1) ≡ target_answer (body (code k))
+  pub target_got : (k x last : ℕ) → k < 4 → arg_at s a R (used (operand_pool k)) b at ≡ got x last → get_or s last 0 ≡ 41 → Ok ((k, x), last + 1) ≡ target_answer (body (code k))
   unfolding body_at target_code target_operand
   target_got zero x last h e z = sym (ap target_answer (one_got nodes (target_family.build node_c) x last e z))
   target_got (suc zero) x last h e z = sym (ap target_answer (one_got links (target_family.build subjects_c) x last e z))

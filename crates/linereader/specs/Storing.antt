@@ -1,5 +1,5 @@
 -- What the reader of a line answers and stores, for what the grammar's reading gives.
-use Rattle.std.specs.Prelude.{ℕ, zero, suc, ◌+◌, ◌≤◌, ◌<◌, ◌≡◌, List, Bool, cond, ◌||◌, eqb, length, get_or, drop, set, ℤ}
+use Rattle.std.specs.Prelude.{ℕ, zero, suc, ◌+◌, ◌≤◌, ◌<◌, ◌≡◌, List, Bool, cond, ◌||◌, eqb, length, get_or, drop, set, ℤ, Result, Ok, Err}
 use Rattle.model.specs.Graph.{Term, iri, blank_node}
 use Rattle.model.specs.Books.{Name, Line, link, type, lang, node, shape, Book, Pool, nodes, links, types, langs, shapes, new_names, new_triples, new_shapes, new_rules}
 use Rattle.model.specs.Shapes.{top}
@@ -13,9 +13,8 @@ use Rattle.grammar.specs.Syntax.{LineCode, link_l, type_l, lang_l, thing_l, blan
 use Rattle.grammar.specs.Reading.{max_within, Read, got, refused, and_then, close_at, body_at, readers_at, line_room, begun_above}
 use Rattle.stores.specs.Lines.{line_names, line_cells, line_values}
 use Rattle.model.specs.declared.Counts.{Counts}
-use Rattle.itemreader.specs.declared.Item.{Item}
-use Rattle.linereader.specs.declared.LineAnswer.{LineAnswer}
-use Rattle.linereader.specs.declared.TargetAnswer.{TargetAnswer}
+use Rattle.model.specs.Refusals.{fault_of}
+use Rattle.model.specs.declared.Fault.{Fault}
 use Rattle.linereader.specs.declared.Node.{Node}
 
 -- ---- the counts
@@ -65,19 +64,15 @@ unfoldable pub line_body : List ℕ → Book → LineCode → ℕ → Read Line
 line_body s a c at = and_then (body_at s a line_family (readers_at s a max_within) (line_room s a) c (begun_above a) at) (end_line s)
 
 -- ---- answers
-abbrev pub ended_with : Counts → Read Line → LineAnswer
-ended_with c (got l next) = LineAnswer.Next next c
-ended_with c (refused k) = LineAnswer.No k
-
-abbrev pub refusal_of : Item → ℕ
-refusal_of (Item.Is x next) = 0
-refusal_of (Item.No k) = k
+abbrev pub ended_with : Counts → Read Line → Result (Counts × ℕ) Fault
+ended_with c (got l next) = Ok (c, next)
+ended_with c (refused k) = Err (fault_of k)
 
 -- r: the answer for a line after the book a; then each table before and after. What is stored is the line's; a refusal
 -- leaves the tables free up to their limits.
-abbrev pub Done : Book → Counts → Read Line → LineAnswer → (ns ns' cs cs' : List ℕ) (vs vs' : List ℤ) → Type 0
-Done a c (got l next) r ns ns' cs cs' vs vs' = (r ≡ LineAnswer.Next next (counted l c)) × (ns' ≡ line_names a l ns) × (cs' ≡ line_cells a l cs) × (vs' ≡ line_values a l vs)
-Done a c (refused k) r ns ns' cs cs' vs vs' = (r ≡ LineAnswer.No k) × (drop name_count ns' ≡ drop name_count ns) × (drop cell_count cs' ≡ drop cell_count cs) × (drop value_count vs' ≡ drop value_count vs)
+abbrev pub Done : Book → Counts → Read Line → Result (Counts × ℕ) Fault → (ns ns' cs cs' : List ℕ) (vs vs' : List ℤ) → Type 0
+Done a c (got l next) r ns ns' cs cs' vs vs' = (r ≡ Ok (counted l c, next)) × (ns' ≡ line_names a l ns) × (cs' ≡ line_cells a l cs) × (vs' ≡ line_values a l vs)
+Done a c (refused k) r ns ns' cs cs' vs vs' = (r ≡ Err (fault_of k)) × (drop name_count ns' ≡ drop name_count ns) × (drop cell_count cs' ≡ drop cell_count cs) × (drop value_count vs' ≡ drop value_count vs)
 
 -- ---- the lines that hold a name and nothing else, by their pool
 abbrev pub name_line_code : Pool → LineCode
@@ -121,14 +116,14 @@ Row x v t = (x.kind ≡ (node_row t).kind) × (x.datatype ≡ (node_row t).type)
 abbrev pub operand_pool : ℕ → Pool
 operand_pool k = cond (eqb k codes.target_subjects || eqb k codes.target_objects) links nodes
 
-abbrev pub target_answer : Read Target → TargetAnswer
-target_answer (got t next) = TargetAnswer.Is (target_code t) (target_operand t) next
-target_answer (refused k) = TargetAnswer.No k
+abbrev pub target_answer : Read Target → Result ((ℕ × ℕ) × ℕ) Fault
+target_answer (got t next) = Ok ((target_code t, target_operand t), next)
+target_answer (refused k) = Err (fault_of k)
 
 -- a code below 4, an operand below a bound, a position in a text of a length
-abbrev pub Targeted : ℕ → ℕ → TargetAnswer → Type 0
-Targeted bound len (TargetAnswer.Is code k next) = (code < 4) × (k < bound) × (next ≤ len)
-Targeted bound len (TargetAnswer.No k) = Unit {0}
+abbrev pub Targeted : ℕ → ℕ → Result ((ℕ × ℕ) × ℕ) Fault → Type 0
+Targeted bound len (Ok ((code, k), next)) = (code < 4) × (k < bound) × (next ≤ len)
+Targeted bound len (Err e) = Unit {0}
 
 -- three cells of a row
 unfoldable pub put₃ : (i j k x y z : ℕ) → List ℕ → List ℕ

@@ -1,13 +1,14 @@
 // The reader of each kind of line but `shape`, from the end of its word: what stands on it, stored at its places, with the
 // counts after it; or the refusal.
 // Functions for the crate above, on tables that hold the lines above. Operations: none.
+// A line's function takes the tables that it writes one by one: it promises of each what stands there afterwards, and a struct
+// that lends all three would ask the same of those that a line leaves as they are.
 #![tactic(auto)]
 
 ghost use Rattle.std.specs.Prelude.{◌≡◌, List, true, ℕ, ◌≤◌, ◌<◌, ◌+◌, ◌*◌, ◌-◌, ℤ, length};
 ghost use Rattle.std.proofs.Math.Seq.{slice};
-ghost use Rattle.model.specs.Graph.{Term, Triple};
-ghost use Rattle.model.specs.Books.{Book, Line, node, fact, rule};
-ghost use Rattle.model.specs.Rules.{Rule};
+ghost use Rattle.model.specs.Graph.{Term};
+ghost use Rattle.model.specs.Books.{Book, Line, node};
 ghost use Rattle.model.specs.Limits.{max_nodes, max_rules, max_facts, max_name, name_bytes};
 ghost use Rattle.tables.specs.Codes as codes;
 ghost use Rattle.grammar.specs.Syntax.{target, number_l, text_l, words_l, fact_l, rule_l};
@@ -17,13 +18,14 @@ ghost use Rattle.encoding.specs.Encode.{pool_base};
 ghost use Rattle.stores.specs.Lines.{put_name};
 ghost use Rattle.itemreader.specs.Answers.{pool_of};
 ghost use Rattle.itemreader.specs.Held.{count_of, Limits, Held, Kinds, Indexed};
-ghost use Rattle.linereader.specs.Storing.{named, ended_with, line_end, line_body, Done, HasNameLine, name_line_code, resource_code, Row, CountsFit, counted, refusal_of, operand_pool, target_answer, Targeted, put₃};
+ghost use Rattle.linereader.specs.Storing.{named, ended_with, line_end, line_body, Done, HasNameLine, name_line_code, resource_code, Row, CountsFit, operand_pool, target_answer, Targeted, put₃};
 
+use itemreader::pools::Pools;
+use itemreader::words::{self, Family};
 use itemreader::{
-    Head, Item, Pool, Value, base, count, read_new, read_subject, read_type, read_used, read_value,
-    target_head, words,
+    Pool, Read, base, count, read_head, read_new, read_subject, read_type, read_used, read_value,
 };
-use model::{Counts, MAX_DEPTH, MAX_FACTS, MAX_RULES, NAME_BYTES};
+use model::{Counts, Fault, MAX_DEPTH, MAX_FACTS, MAX_RULES, NAME_BYTES};
 use tables::codes;
 use tables::layout::{
     NODE_KINDS, NODE_LANGS, NODE_TYPES, OBJECTS, PREDICATES, RULE_OPERANDS, RULE_SHAPES,
@@ -34,36 +36,12 @@ use text::{byte, put_name};
 // How many brackets may be open together within a line's own.
 pub const MAX_WITHIN: usize = MAX_DEPTH - 1;
 
-// The position after a line and the counts with it; or the number of a refusal.
-#[derive(Clone, Copy)]
-pub enum LineAnswer {
-    Next(usize, Counts),
-    No(u8),
-}
-
-// A target's code, its operand and the position after it; or the number of a refusal.
-#[derive(Clone, Copy)]
-pub enum TargetAnswer {
-    Is(u16, usize, usize),
-    No(u8),
-}
-
 // What the cells say of a node.
 #[derive(Clone, Copy)]
 pub struct Node {
     pub kind: u16,
     pub datatype: u16,
     pub lang: u16,
-}
-
-// The number of a refusal; what was read has none.
-pub fn refusal(r: Item) -> u8
-    ensures { result ≡ refusal_of r }
-{
-    match r {
-        Item::Is(_, _) => 0,
-        Item::No(k) => k,
-    }
 }
 
 // The counts with one name more in the pool.
@@ -82,21 +60,21 @@ fn with_name(mut counts: Counts, pool: Pool) -> Counts
 }
 
 // The closing bracket of a line and its LF; room: the line is within its limit; counts: those with the line.
-pub fn line_end(book: &[u8], at: usize, room: bool, counts: Counts) -> LineAnswer
+pub fn line_end(book: &[u8], at: usize, room: bool, counts: Counts) -> Read<Counts>
     requires { at ≤ length book.now }
     ensures { (a : Book) (l : Line) → result ≡ ended_with counts (line_end book.now a room l at) }
 {
     if byte(book, at) != 41 {
-        return LineAnswer::No(2);
+        return Err(Fault::Grammar);
     }
     if !room {
-        return LineAnswer::No(7);
+        return Err(Fault::Limit);
     }
     let end = at + 1;
     if byte(book, end) != 10 {
-        return LineAnswer::No(2);
+        return Err(Fault::Grammar);
     }
-    LineAnswer::Next(end + 1, counts)
+    Ok((counts, end + 1))
 }
 
 // Stores the name that ends at end, a space at its start, as the next of its pool.
@@ -131,37 +109,19 @@ pub fn name_line(
     pool: Pool,
     book: &[u8],
     at: usize,
-) -> LineAnswer
+) -> Read<Counts>
     requires { (at ≤ length book.now) × (name_count ≤ length names.old) × Limits counts × ((a : Book) × Held names.old counts a) × HasNameLine (pool_of pool) × Indexed names.old counts index.now }
     ensures { (a : Book) (cs : List ℕ) (vs : List ℤ) → Held names.old counts a → Done a counts (line_body book.now a (name_line_code (pool_of pool)) at) result names.old names.new cs cs vs vs }
 {
-    let new = read_new(names, index, counts, pool, book, at);
-    let Item::Is(_, end) = new else {
-        return LineAnswer::No(refusal(new));
+    let pools = Pools {
+        names: &*names,
+        index,
+        counts,
     };
-    let done = line_end(book, end, true, with_name(counts, pool));
-    let LineAnswer::Next(_, _) = done else {
-        return done;
-    };
+    let (_, end) = read_new(pools, pool, book, at)?;
+    let done = line_end(book, end, true, with_name(counts, pool))?;
     put_new(names, counts, pool, book, at, end);
-    done
-}
-
-// The counts with one fact more, and with one rule more.
-fn with_fact(mut counts: Counts) -> Counts
-    requires { counts.facts ≤ max_facts }
-    ensures { (t : Triple) → result ≡ counted (fact t) counts }
-{
-    counts.facts += 1;
-    counts
-}
-
-fn with_rule(mut counts: Counts) -> Counts
-    requires { counts.rules ≤ max_rules }
-    ensures { (x : Rule) → result ≡ counted (rule x) counts }
-{
-    counts.rules += 1;
-    counts
+    Ok(done)
 }
 
 // The end of a line for the node whose name ends at end: its closing bracket stands at last.
@@ -176,14 +136,11 @@ fn node_end(
     x: Node,
     value: i64,
     last: usize,
-) -> LineAnswer
+) -> Read<Counts>
     requires { (at + 1 ≤ end) × (end ≤ length book.now) × (end - (at + 1) ≤ max_name) × (last ≤ length book.now) × (counts.nodes < max_nodes) × (name_count ≤ length names.old) × (cell_count ≤ length cells.old) × (value_count ≤ length values.old) × Limits counts }
     ensures { (a : Book) (t : Term) → Held names.old counts a → Row x value t → Done a counts (line_end book.now a true (node (slice (at + 1) end book.now) t) last) result names.old names.new cells.old cells.new values.old values.new }
 {
-    let done = line_end(book, last, true, with_name(counts, Pool::Nodes));
-    let LineAnswer::Next(_, _) = done else {
-        return done;
-    };
+    let done = line_end(book, last, true, with_name(counts, Pool::Nodes))?;
     let v = counts.nodes;
     put_row(
         cells,
@@ -196,7 +153,7 @@ fn node_end(
     );
     values[v] = value;
     put_new(names, counts, Pool::Nodes, book, at, end);
-    done
+    Ok(done)
 }
 
 // `(thing N)` or `(blank N)`, by the kind.
@@ -209,14 +166,16 @@ pub fn resource_line(
     kind: u16,
     book: &[u8],
     at: usize,
-) -> LineAnswer
+) -> Read<Counts>
     requires { (at ≤ length book.now) × (kind ≤ codes.node_blank) × (name_count ≤ length names.old) × (cell_count ≤ length cells.old) × (value_count ≤ length values.old) × Limits counts × ((a : Book) × Held names.old counts a) × Indexed names.old counts index.now }
     ensures { (a : Book) → Held names.old counts a → Done a counts (line_body book.now a (resource_code kind) at) result names.old names.new cells.old cells.new values.old values.new }
 {
-    let new = read_new(names, index, counts, Pool::Nodes, book, at);
-    let Item::Is(_, end) = new else {
-        return LineAnswer::No(refusal(new));
+    let pools = Pools {
+        names: &*names,
+        index,
+        counts,
     };
+    let (_, end) = read_new(pools, Pool::Nodes, book, at)?;
     let x = Node {
         kind,
         datatype: 0,
@@ -225,6 +184,9 @@ pub fn resource_line(
     node_end(names, cells, values, counts, book, at, end, x, 0, end)
 }
 
+// The lines of literals, each by itself: they differ in what they read after the name, and one function for them would switch on
+// that.
+//
 // `(number N T V)`.
 pub fn number_line(
     names: &mut [u8],
@@ -234,29 +196,24 @@ pub fn number_line(
     counts: Counts,
     book: &[u8],
     at: usize,
-) -> LineAnswer
+) -> Read<Counts>
     requires { (at ≤ length book.now) × (name_count ≤ length names.old) × (cell_count ≤ length cells.old) × (value_count ≤ length values.old) × Limits counts × ((a : Book) × Held names.old counts a) × Indexed names.old counts index.now }
     ensures { (a : Book) → Held names.old counts a → Done a counts (line_body book.now a number_l at) result names.old names.new cells.old cells.new values.old values.new }
 {
-    let new = read_new(names, index, counts, Pool::Nodes, book, at);
-    let Item::Is(_, end) = new else {
-        return LineAnswer::No(refusal(new));
+    let pools = Pools {
+        names: &*names,
+        index,
+        counts,
     };
-    let datatype = read_type(names, index, counts, book, end);
-    let Item::Is(t, after) = datatype else {
-        return LineAnswer::No(refusal(datatype));
+    let (_, end) = read_new(pools, Pool::Nodes, book, at)?;
+    let (t, after) = read_type(pools, book, end)?;
+    let (value, last) = read_value(book, after)?;
+    let x = Node {
+        kind: codes::NODE_NUMBER,
+        datatype: t as u16,
+        lang: 0,
     };
-    match read_value(book, after) {
-        Value::No(k) => LineAnswer::No(k),
-        Value::Is(value, last) => {
-            let x = Node {
-                kind: codes::NODE_NUMBER,
-                datatype: t as u16,
-                lang: 0,
-            };
-            node_end(names, cells, values, counts, book, at, end, x, value, last)
-        }
-    }
+    node_end(names, cells, values, counts, book, at, end, x, value, last)
 }
 
 // `(text N T)`.
@@ -268,18 +225,17 @@ pub fn text_line(
     counts: Counts,
     book: &[u8],
     at: usize,
-) -> LineAnswer
+) -> Read<Counts>
     requires { (at ≤ length book.now) × (name_count ≤ length names.old) × (cell_count ≤ length cells.old) × (value_count ≤ length values.old) × Limits counts × ((a : Book) × Held names.old counts a) × Indexed names.old counts index.now }
     ensures { (a : Book) → Held names.old counts a → Done a counts (line_body book.now a text_l at) result names.old names.new cells.old cells.new values.old values.new }
 {
-    let new = read_new(names, index, counts, Pool::Nodes, book, at);
-    let Item::Is(_, end) = new else {
-        return LineAnswer::No(refusal(new));
+    let pools = Pools {
+        names: &*names,
+        index,
+        counts,
     };
-    let datatype = read_type(names, index, counts, book, end);
-    let Item::Is(t, last) = datatype else {
-        return LineAnswer::No(refusal(datatype));
-    };
+    let (_, end) = read_new(pools, Pool::Nodes, book, at)?;
+    let (t, last) = read_type(pools, book, end)?;
     let x = Node {
         kind: codes::NODE_TEXT,
         datatype: t as u16,
@@ -297,18 +253,17 @@ pub fn words_line(
     counts: Counts,
     book: &[u8],
     at: usize,
-) -> LineAnswer
+) -> Read<Counts>
     requires { (at ≤ length book.now) × (name_count ≤ length names.old) × (cell_count ≤ length cells.old) × (value_count ≤ length values.old) × Limits counts × ((a : Book) × Held names.old counts a) × Indexed names.old counts index.now }
     ensures { (a : Book) → Held names.old counts a → Done a counts (line_body book.now a words_l at) result names.old names.new cells.old cells.new values.old values.new }
 {
-    let new = read_new(names, index, counts, Pool::Nodes, book, at);
-    let Item::Is(_, end) = new else {
-        return LineAnswer::No(refusal(new));
+    let pools = Pools {
+        names: &*names,
+        index,
+        counts,
     };
-    let lang = read_used(names, index, counts, Pool::Langs, book, end);
-    let Item::Is(l, last) = lang else {
-        return LineAnswer::No(refusal(lang));
-    };
+    let (_, end) = read_new(pools, Pool::Nodes, book, at)?;
+    let (l, last) = read_used(pools, Pool::Langs, book, end)?;
     let x = Node {
         kind: codes::NODE_WORDS,
         datatype: 0,
@@ -318,34 +273,20 @@ pub fn words_line(
 }
 
 // `(fact S P O)`.
-pub fn fact_line(
-    cells: &mut [u16],
-    names: &[u8],
-    index: &[u16],
-    counts: Counts,
-    book: &[u8],
-    at: usize,
-) -> LineAnswer
-    requires { (at ≤ length book.now) × (name_count ≤ length names.now) × (cell_count ≤ length cells.old) × Limits counts × CountsFit counts × Indexed names.now counts index.now }
-    ensures { (a : Book) (vs : List ℤ) → Held names.now counts a → Kinds cells.old a → Done a counts (line_body book.now a fact_l at) result names.now names.now cells.old cells.new vs vs }
+pub fn fact_line(cells: &mut [u16], pools: Pools, book: &[u8], at: usize) -> Read<Counts>
+    requires { (at ≤ length book.now) × (cell_count ≤ length cells.old) × CountsFit pools.counts }
+    ensures { (a : Book) (vs : List ℤ) → Held pools.entry.names.now pools.entry.counts a → Kinds cells.old a → Done a pools.entry.counts (line_body book.now a fact_l at) result pools.entry.names.now pools.entry.names.now cells.old cells.new vs vs }
 {
-    let subject = read_subject(names, index, cells, counts, book, at);
-    let Item::Is(s, i) = subject else {
-        return LineAnswer::No(refusal(subject));
-    };
-    let predicate = read_used(names, index, counts, Pool::Links, book, i);
-    let Item::Is(p, j) = predicate else {
-        return LineAnswer::No(refusal(predicate));
-    };
-    let object = read_used(names, index, counts, Pool::Nodes, book, j);
-    let Item::Is(o, k) = object else {
-        return LineAnswer::No(refusal(object));
-    };
+    let (s, i) = read_subject(pools, cells, book, at)?;
+    let (p, j) = read_used(pools, Pool::Links, book, i)?;
+    let (o, k) = read_used(pools, Pool::Nodes, book, j)?;
+    let counts = pools.counts;
     let n = counts.facts;
-    let done = line_end(book, k, n < MAX_FACTS, with_fact(counts));
-    let LineAnswer::Next(_, _) = done else {
-        return done;
+    let more = Counts {
+        facts: n + 1,
+        ..counts
     };
+    let done = line_end(book, k, n < MAX_FACTS, more)?;
     put_row(
         cells,
         SUBJECTS + n,
@@ -355,7 +296,7 @@ pub fn fact_line(
         p as u16,
         o as u16,
     );
-    done
+    Ok(done)
 }
 
 // The pool of the name in target number k.
@@ -370,64 +311,46 @@ fn operand_pool(k: usize) -> Pool
 }
 
 // TARGET, a space before it.
-fn read_target(names: &[u8], index: &[u16], counts: Counts, book: &[u8], at: usize) -> TargetAnswer
-    requires { (at ≤ length book.now) × (name_count ≤ length names.now) × Limits counts × Indexed names.now counts index.now }
-    ensures value { (a : Book) (b : Begun) → Held names.now counts a → result ≡ target_answer (arg_at book.now a (readers_at book.now a max_within) target b at) }
+fn read_target(pools: Pools, book: &[u8], at: usize) -> Read<(u16, usize)>
+    requires { at ≤ length book.now }
+    ensures value { (a : Book) (b : Begun) → Held pools.entry.names.now pools.entry.counts a → result ≡ target_answer (arg_at book.now a (readers_at book.now a max_within) target b at) }
     ensures targeted { Targeted max_nodes (length book.now) result }
 {
     if byte(book, at) != 32 {
-        return TargetAnswer::No(2);
+        return Err(Fault::Grammar);
     }
-    match target_head(book, at + 1, MAX_WITHIN, false) {
-        Head::Bare => TargetAnswer::No(2),
-        Head::No(k) => TargetAnswer::No(k),
-        Head::Word(k, end) => {
-            let used = read_used(names, index, counts, operand_pool(k), book, end);
-            let Item::Is(x, last) = used else {
-                return TargetAnswer::No(refusal(used));
-            };
-            if byte(book, last) != 41 {
-                return TargetAnswer::No(2);
-            }
-            TargetAnswer::Is(k as u16, x, last + 1)
-        }
+    let Some((k, end)) = read_head(Family::Targets, book, at + 1, MAX_WITHIN, false)? else {
+        return Err(Fault::Grammar);
+    };
+    let (x, last) = read_used(pools, operand_pool(k), book, end)?;
+    if byte(book, last) != 41 {
+        return Err(Fault::Grammar);
     }
+    Ok(((k as u16, x), last + 1))
 }
 
 // `(rule S TARGET)`.
-pub fn rule_line(
-    cells: &mut [u16],
-    names: &[u8],
-    index: &[u16],
-    counts: Counts,
-    book: &[u8],
-    at: usize,
-) -> LineAnswer
-    requires { (at ≤ length book.now) × (name_count ≤ length names.now) × (cell_count ≤ length cells.old) × Limits counts × CountsFit counts × Indexed names.now counts index.now }
-    ensures { (a : Book) (vs : List ℤ) → Held names.now counts a → Done a counts (line_body book.now a rule_l at) result names.now names.now cells.old cells.new vs vs }
+pub fn rule_line(cells: &mut [u16], pools: Pools, book: &[u8], at: usize) -> Read<Counts>
+    requires { (at ≤ length book.now) × (cell_count ≤ length cells.old) × CountsFit pools.counts }
+    ensures { (a : Book) (vs : List ℤ) → Held pools.entry.names.now pools.entry.counts a → Done a pools.entry.counts (line_body book.now a rule_l at) result pools.entry.names.now pools.entry.names.now cells.old cells.new vs vs }
 {
-    let shape = read_used(names, index, counts, Pool::Shapes, book, at);
-    let Item::Is(s, i) = shape else {
-        return LineAnswer::No(refusal(shape));
+    let (s, i) = read_used(pools, Pool::Shapes, book, at)?;
+    let ((code, x), last) = read_target(pools, book, i)?;
+    let counts = pools.counts;
+    let n = counts.rules;
+    let more = Counts {
+        rules: n + 1,
+        ..counts
     };
-    match read_target(names, index, counts, book, i) {
-        TargetAnswer::No(k) => LineAnswer::No(k),
-        TargetAnswer::Is(code, x, last) => {
-            let n = counts.rules;
-            let done = line_end(book, last, n < MAX_RULES, with_rule(counts));
-            let LineAnswer::Next(_, _) = done else {
-                return done;
-            };
-            put_row(
-                cells,
-                RULE_SHAPES + n,
-                RULE_TARGETS + n,
-                RULE_OPERANDS + n,
-                s as u16,
-                code,
-                x as u16,
-            );
-            done
-        }
-    }
+    let done = line_end(book, last, n < MAX_RULES, more)?;
+    put_row(
+        cells,
+        RULE_SHAPES + n,
+        RULE_TARGETS + n,
+        RULE_OPERANDS + n,
+        s as u16,
+        code,
+        x as u16,
+    );
+    Ok(done)
 }

@@ -97,9 +97,6 @@ module _ (p : ℕ → Bool) where
           same = length-set row count at ∙ l.same;
         }
 
-    pub next_later : (at next : ℕ) → at < n → next ≡ next_from p (at + 1) n → at < next
-    next_later at next lt e = subst (λ r. at < r) (sym e) (let x = (next-found p n (at + 1) (omega (arith, lt))).onward in omega (arith, x))
-
     pub listing_end : (at count : ℕ) (row : List ℕ) → Listing n row₀ at count row → n ≤ at → (count ≡ length (members p n)) × (row ≡ over (members p n) row₀)
     listing_end at count row l le = let e : at ≡ n = omega (arith, l.low, le) in (l.counted ∙ ap (λ k. length (members p k)) e, l.listed ∙ ap (λ k. over (members p k) row₀) e)
 

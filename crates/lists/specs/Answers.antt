@@ -1,6 +1,6 @@
 -- What reading a list answers, and what it leaves in the lent row.
 use Rattle.std.specs.Prelude.{ℕ, List, Bool, ◌&&◌, leb, ltb, ℤ, length, take}
-use Rattle.model.specs.Answers.{Answer, value, refusal_of, checked, unless_refused}
+use Rattle.model.specs.Answers.{Answer, checked, unless_refused}
 use Rattle.model.specs.Limits.{max_nodes}
 use Rattle.tables.specs.Layout.{cell_count, rule_count}
 use Rattle.tables.specs.Sizes.{long_enough}
@@ -8,13 +8,6 @@ use Rattle.plan.specs.Layout.{plan_count}
 use Rattle.plancheck.specs.Both.{both_well_formed}
 use Rattle.runner.specs.Run.{work_count}
 use Rattle.lists.specs.Rows.{over, list_in}
-use Rattle.lists.specs.declared.Listed.{Listed}
-use Rattle.lists.specs.declared.Listed.TheVariants.{Nodes, Refused}
-
--- each case of the answer: how many nodes are listed, or the refusal
-abbrev pub answer_of : Listed → Answer ℕ
-answer_of (Nodes n) = value n
-answer_of (Refused r) = refusal_of r
 
 -- names, cells, values, plan, work space and a row, as they are lent; each counts up to its limit. All are long enough:
 unfoldable pub list_long : (ns cs : List ℕ) (vs : List ℤ) (ps ws row : List ℕ) → Bool

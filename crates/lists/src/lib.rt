@@ -5,6 +5,7 @@
 ghost use Rattle.std.specs.Prelude.{◌≡◌, true, ◌+◌, ◌*◌, ◌<◌, ◌≤◌, length};
 ghost use Rattle.base.specs.Bounded.{members};
 ghost use Rattle.nodeset.specs.Words.{has};
+ghost use Rattle.model.specs.Answers.{answer_of};
 ghost use Rattle.model.specs.Limits.{max_nodes};
 ghost use Rattle.tables.specs.Layout.{node_count, rule_count};
 ghost use Rattle.tables.specs.WellFormed.{well_formed};
@@ -12,10 +13,10 @@ ghost use Rattle.plan.specs.Layout.{rule_step_at};
 ghost use Rattle.plan.specs.WellFormed.{plan_well_formed};
 ghost use Rattle.runner.specs.Run.{work_count};
 ghost use Rattle.lists.specs.Rows.{list_count, length_count, over, list_in, with_rows, with_lengths};
-ghost use Rattle.lists.specs.Answers.{answer_of, list_long, list_answer, row_after};
+ghost use Rattle.lists.specs.Answers.{list_long, list_answer, row_after};
 
 use model::{MAX_NODES, MAX_RULES, Refusal};
-use nodeset::next_member;
+use nodeset::Iter;
 use plan::PLAN_CELLS;
 use plancheck::both_well_formed;
 use plancheck::reads::rule_step;
@@ -29,25 +30,16 @@ pub const LIST_PLACES: usize = MAX_NODES * MAX_RULES;
 
 pub const LENGTH_PLACES: usize = MAX_RULES;
 
-// How many nodes a list has; or why there is none.
-#[derive(Clone, Copy)]
-pub enum Listed {
-    Nodes(usize),
-    Refused(Refusal),
-}
-
 // The members of a set below n, lowest first, at the front of a row.
 fn list_set(row: &mut [u16], words: &[u64], n: usize) -> usize
     requires { (n ≤ max_nodes) × (n ≤ length row.old) }
     ensures value { result ≡ length (members (has words.now) n) }
     ensures new_row { row.new ≡ over (members (has words.now) n) row.old }
 {
-    let mut at = next_member(words, 0, n);
     let mut count = 0;
-    while at < n {
-        row[count] = at as u16;
+    for v in Iter::below(words, n) {
+        row[count] = v as u16;
         count += 1;
-        at = next_member(words, at + 1, n);
     }
     count
 }
@@ -69,15 +61,14 @@ pub fn list_rows(lists: &mut [u16], lengths: &mut [u16], cells: &[u16], plan: &[
     ensures new_lists { lists.new ≡ with_rows (list_in cells.now plan.now work.now) (rule_count cells.now) lists.old }
     ensures new_lengths { lengths.new ≡ with_lengths (list_in cells.now plan.now work.now) (rule_count cells.now) lengths.old }
 {
-    let count = rule_count(cells);
-    for r in 0..count {
-        let at = MAX_NODES * r;
-        let n = list_rule(&mut lists[at..], cells, plan, work, r);
+    for r in 0..rule_count(cells) {
+        let n = list_rule(&mut lists[MAX_NODES * r..], cells, plan, work, r);
         lengths[r] = n as u16;
     }
 }
 
 // Refusal 8 is for slices of which this is false.
+#[tactic(auto, unfolding(crate::specs::Answers::list_long))]
 fn long_enough(
     names: &[u8],
     cells: &[u16],
@@ -89,11 +80,14 @@ fn long_enough(
     ensures { result ≡ list_long names.now cells.now values.now plan.now work.now row.now }
 {
     enough(names, cells, values)
-        & ((PLAN_CELLS <= plan.len()) & ((WORK_WORDS <= work.len()) & (MAX_NODES <= row.len())))
+        && PLAN_CELLS <= plan.len()
+        && WORK_WORDS <= work.len()
+        && MAX_NODES <= row.len()
 }
 
-// The operation: the list of one rule, at the front of a lent row; what lies past the list stays. Refused: a slice too short,
-// then tables or a plan that are not well formed, then a rule that the tables do not have; nothing changes then.
+// The operation: the list of one rule, at the front of a lent row, and how many nodes it has; what lies past the list stays.
+// Refused: a slice too short, then tables or a plan that are not well formed, then a rule that the tables do not have; nothing
+// changes then.
 pub fn list(
     names: &[u8],
     cells: &[u16],
@@ -102,20 +96,20 @@ pub fn list(
     work: &[u64],
     rule: usize,
     row: &mut [u16],
-) -> Listed
+) -> Result<usize, Refusal>
     ensures result_value { answer_of result ≡ list_answer names.now cells.now values.now plan.now work.now rule row.old }
     ensures new_row { row.new ≡ row_after names.now cells.now values.now plan.now work.now rule row.old }
 {
     if !long_enough(names, cells, values, plan, work, &row[..]) {
-        return Listed::Refused(Refusal::Short);
+        return Err(Refusal::Short);
     }
     let cs = &cells[..CELLS];
     let ps = &plan[..PLAN_CELLS];
     if !both_well_formed(cs, ps) {
-        return Listed::Refused(Refusal::Malformed);
+        return Err(Refusal::Malformed);
     }
     if rule_count(cs) <= rule {
-        return Listed::Refused(Refusal::Absent);
+        return Err(Refusal::Absent);
     }
-    Listed::Nodes(list_rule(row, cs, ps, work, rule))
+    Ok(list_rule(row, cs, ps, work, rule))
 }

@@ -22,17 +22,15 @@ ghost use Rattle.validation.specs.Whole.{validate_answer, after};
 ghost use Rattle.report.specs.Answers.{part_answer, part_after};
 ghost use Rattle.melivanoup.specs.Numbers.{one_if, found_in, hops_in, node_in, answer_by};
 
-use compiler::{Compiled, compile};
+use compiler::compile;
 use consoles::{CONSOLES, load, store};
-use lists::{Listed, list};
+use lists::list;
 use model::{Refusal, code};
-use nearest::Spare;
-use reader::{ReadAnswer, read};
-use report::{Page, report_part};
-use rounds::Searched;
-use runner::{Ran, run};
-use validation::{Validated, validate};
-use verdict::{Judged, verdict};
+use reader::read;
+use report::report_part;
+use runner::run;
+use validation::validate;
+use verdict::verdict;
 
 // The number of a refusal.
 fn number(r: Refusal) -> u32
@@ -74,14 +72,14 @@ pub extern "C" fn melivanoup_read(
     ensures new_values { values.new ≡ values_of book.now names.old cells.old values.old }
 {
     match read(book, names, cells, values) {
-        ReadAnswer::Accepted(n) => {
+        Ok(n) => {
             *line = 0;
             *nodes = n.nodes;
             *facts = n.facts;
             *rules = n.rules;
             0
         }
-        ReadAnswer::Refused(r) => {
+        Err(r) => {
             *nodes = 0;
             *facts = 0;
             *rules = 0;
@@ -115,12 +113,12 @@ pub extern "C" fn melivanoup_verdict(
     store(tallies, outcome.tallies);
     let answer = outcome.answer;
     match answer {
-        Judged::Yes => {
+        Ok(true) => {
             *conforms = 1;
             0
         }
-        Judged::No => 0,
-        Judged::Refused(r) => number(r),
+        Ok(false) => 0,
+        Err(r) => number(r),
     }
 }
 
@@ -138,11 +136,11 @@ pub extern "C" fn melivanoup_rounds(
     ensures new_rounds { rounds.new ≡ value_or 0 (rounds_answer names.now cells.now values.now node path) }
 {
     match rounds::rounds(names, cells, values, node, path) {
-        Searched::Rounds(k) => {
+        Ok(k) => {
             *rounds = k;
             0
         }
-        Searched::Refused(r) => {
+        Err(r) => {
             *rounds = 0;
             number(r)
         }
@@ -172,14 +170,14 @@ pub extern "C" fn melivanoup_nearest(
     *hops = 0;
     *spare = 0;
     match nearest::nearest(names, cells, values, node, path, shape) {
-        Spare::At(k, w) => {
+        Ok(Some((k, w))) => {
             *found = 1;
             *hops = k;
             *spare = w.0 as usize;
             0
         }
-        Spare::NoSpare => 0,
-        Spare::Refused(r) => number(r),
+        Ok(None) => 0,
+        Err(r) => number(r),
     }
 }
 
@@ -197,11 +195,11 @@ pub extern "C" fn melivanoup_compile(
     ensures new_plan { plan.new ≡ plan_after names.now cells.now values.now plan.old }
 {
     match compile(names, cells, values, plan) {
-        Compiled::Steps(count) => {
+        Ok(count) => {
             *steps = count;
             0
         }
-        Compiled::Refused(r) => {
+        Err(r) => {
             *steps = 0;
             number(r)
         }
@@ -221,8 +219,8 @@ pub extern "C" fn melivanoup_run(
     ensures new_work { work.new ≡ work_after names.now cells.now values.now plan.now work.old }
 {
     match run(names, cells, values, plan, work) {
-        Ran::Done => 0,
-        Ran::Refused(r) => number(r),
+        Ok(()) => 0,
+        Err(r) => number(r),
     }
 }
 
@@ -243,11 +241,11 @@ pub extern "C" fn melivanoup_list(
     ensures new_row { row.new ≡ row_after names.now cells.now values.now plan.now work.now rule row.old }
 {
     match list(names, cells, values, plan, work, rule, row) {
-        Listed::Nodes(n) => {
+        Ok(n) => {
             *nodes = n;
             0
         }
-        Listed::Refused(r) => {
+        Err(r) => {
             *nodes = 0;
             number(r)
         }
@@ -275,12 +273,12 @@ pub extern "C" fn melivanoup_validate(
     ensures new_lent { lent names.new cells.new values.new plan.new work.new lists.new lengths.new ≡ after book.now (lent names.old cells.old values.old plan.old work.old lists.old lengths.old) }
 {
     match validate(book, names, cells, values, plan, work, lists, lengths) {
-        Validated::Steps(n) => {
+        Ok(n) => {
             *line = 0;
             *steps = n;
             0
         }
-        Validated::Refused(r) => {
+        Err(r) => {
             *steps = 0;
             with_line(line, r)
         }
@@ -304,11 +302,11 @@ pub extern "C" fn melivanoup_report(
     ensures new_page { page.new ≡ part_after names.now cells.now values.now lists.now lengths.now part page.old }
 {
     match report_part(names, cells, values, lists, lengths, part, page) {
-        Page::Bytes(n) => {
+        Ok(n) => {
             *bytes = n;
             0
         }
-        Page::Refused(r) => {
+        Err(r) => {
             *bytes = 0;
             number(r)
         }

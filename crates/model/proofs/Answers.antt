@@ -1,8 +1,10 @@
 -- The laws of answers: a value is no refusal; which answer is given, by the caller's tests in their order, and what it leaves.
 use Prim.Native.Nat.{ℕ}
+use Rattle.std.specs.Prelude.{Result, Ok, Err, is_ok}
 use mathlib.Core.Bool.{Bool, true, false, cond, true≢false}
 use mathlib.Core.Path.{◌≡◌, refl, sym, ap, ◌∙◌}
-use Rattle.model.specs.Answers.{Answer, value, refusal, is_given, checked_then, checked, unless_refused, refusal_number, refusal_line, value_or}
+use Rattle.model.specs.declared.Refusal.{Refusal}
+use Rattle.model.specs.Answers.{Answer, value, refusal, answer_of, is_given, checked_then, checked, unless_refused, refusal_number, refusal_line, value_or}
 
 module _ {A : Type 0} where
   pub same-value : {a b : A} → value a ≡ value b → a ≡ b
@@ -10,6 +12,11 @@ module _ {A : Type 0} where
 
   pub same_refusal : {j k line at : ℕ} → ◌≡◌ {A = Answer A} (refusal j line) (refusal k at) → (j ≡ k) × (line ≡ at)
   same_refusal e = (ap refusal_number e, ap refusal_line e)
+
+  -- a result is a value exactly where an answer is given
+  pub given-ok : (x : Result A Refusal) → is_ok x ≡ is_given (answer_of x)
+  given-ok (Ok a) = refl
+  given-ok (Err r) = refl
 
   pub not_refused : {a : A} {k line : ℕ} → value a ≡ refusal k line → ⊥
   not_refused e = true≢false (ap is_given e)

@@ -1,5 +1,5 @@
 -- What an operation answers: a value; or a refusal, by document 01's number and line.
-use Rattle.std.specs.Prelude.{ℕ, Bool, true, false, cond}
+use Rattle.std.specs.Prelude.{ℕ, Bool, true, false, cond, Result, Ok, Err}
 use Rattle.model.specs.declared.Refusal.{Refusal}
 use Rattle.model.specs.Refusals.{code_of, line_of}
 
@@ -12,6 +12,11 @@ module _ {A : Type 0} where
   -- the refusal of the code
   abbrev pub refusal_of : Refusal → Answer A
   refusal_of r = refusal (code_of r) (line_of r)
+
+  -- each case of an operation's result: its value, or the refusal
+  abbrev pub answer_of : Result A Refusal → Answer A
+  answer_of (Ok a) = value a
+  answer_of (Err r) = refusal_of r
 
   -- a value is given, and nothing refused
   abbrev pub is_given : Answer A → Bool

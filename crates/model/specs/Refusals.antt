@@ -1,6 +1,7 @@
 -- What document 01 says of each refusal, and document 02 of the eleventh: its number, and its line (0 for 1 and from 8 on).
-use Rattle.std.specs.Prelude.{ℕ}
+use Rattle.std.specs.Prelude.{ℕ, ◌-◌, [], ◌∷◌, get_or}
 use Rattle.model.specs.declared.Refusal.{Refusal}
+use Rattle.model.specs.declared.Fault.{Fault}
 use Rattle.model.specs.declared.Refusal.TheVariants.{TooLong, Grammar, Range, Nesting, Undefined, Repeated, Limit, Short, Malformed, Absent, Console}
 
 abbrev pub code_of : Refusal → ℕ
@@ -28,3 +29,16 @@ line_of Short = 0
 line_of Malformed = 0
 line_of Absent = 0
 line_of Console = 0
+
+-- the fault of a line by the number of its refusal, from 2 to 7; what reads a line gives no other
+abbrev pub fault_of : ℕ → Fault
+fault_of k = get_or (Fault.Grammar ∷ Fault.Range ∷ Fault.Nesting ∷ Fault.Undefined ∷ Fault.Repeated ∷ []) (k - 2) Fault.Limit
+
+-- the refusal of a line with the fault
+abbrev pub refusal_at : Fault → ℕ → Refusal
+refusal_at Fault.Grammar at = Grammar at
+refusal_at Fault.Range at = Range at
+refusal_at Fault.Nesting at = Nesting at
+refusal_at Fault.Undefined at = Undefined at
+refusal_at Fault.Repeated at = Repeated at
+refusal_at Fault.Limit at = Limit at

@@ -3,7 +3,7 @@
 #![tactic(auto)]
 
 ghost use Rattle.std.specs.Prelude.{◌≡◌};
-ghost use Rattle.model.specs.Refusals.{code_of, line_of};
+ghost use Rattle.model.specs.Refusals.{code_of, line_of, refusal_at};
 
 // The limits of document 01.
 pub const MAX_BYTES: usize = 65536;
@@ -40,11 +40,11 @@ pub const NAME_BYTES: usize = 32;
 pub const MAX_STEPS: usize = 512;
 
 // The number of a node in its pool. Never the number of a link: source 000 keeps properties apart from nodes.
-#[derive(Clone, Copy)]
+#[derive(Clone, Copy, PartialEq, Eq)]
 pub struct NodeNo(pub u16);
 
 // The number of a link (a predicate) in its pool.
-#[derive(Clone, Copy)]
+#[derive(Clone, Copy, PartialEq, Eq)]
 pub struct LinkNo(pub u16);
 
 // The link `a` and the type `langstring` come first in their pools.
@@ -53,7 +53,7 @@ pub const LINK_A: u16 = 0;
 pub const TYPE_LANGSTRING: u16 = 0;
 
 // How many of each a book has: the ten counts of its tables.
-#[derive(Clone, Copy)]
+#[derive(Clone, Copy, Default)]
 pub struct Counts {
     pub nodes: usize,
     pub links: usize,
@@ -68,7 +68,7 @@ pub struct Counts {
 }
 
 // Why an operation declines. The first seven are the book writer's, with the line; the others the caller's.
-#[derive(Clone, Copy)]
+#[derive(Clone, Copy, PartialEq, Eq)]
 pub enum Refusal {
     TooLong,
     Grammar(usize),
@@ -118,5 +118,32 @@ pub fn line(r: Refusal) -> usize
         Refusal::Malformed => 0,
         Refusal::Absent => 0,
         Refusal::Console => 0,
+    }
+}
+
+// Why a line of a book is refused, before it is known which line it is.
+#[derive(Clone, Copy, PartialEq, Eq)]
+pub enum Fault {
+    Grammar,
+    Range,
+    Nesting,
+    Undefined,
+    Repeated,
+    Limit,
+}
+
+impl Fault {
+    // The refusal of a line with this fault.
+    pub fn at(self, line: usize) -> Refusal
+        ensures { result ≡ refusal_at self line }
+    {
+        match self {
+            Fault::Grammar => Refusal::Grammar(line),
+            Fault::Range => Refusal::Range(line),
+            Fault::Nesting => Refusal::Nesting(line),
+            Fault::Undefined => Refusal::Undefined(line),
+            Fault::Repeated => Refusal::Repeated(line),
+            Fault::Limit => Refusal::Limit(line),
+        }
     }
 }

@@ -1,6 +1,8 @@
 -- What is answered to the question for the nearest spare: how far it is, and which; that there is none; or a refusal (document 02, Job 11).
-use Rattle.std.specs.Prelude.{ℕ, ◌<◌, ◌≤◌, List, Bool, ◌&&◌, ◌≡◌, ltb, ℤ, take}
-use Rattle.model.specs.Answers.{Answer, value, refusal_of, checked}
+use Rattle.std.specs.Prelude.{ℕ, Option, Some, None, Result, ◌<◌, ◌≤◌, List, Bool, ◌&&◌, ◌≡◌, ltb, ℤ, take}
+use Rattle.model.specs.declared.NodeNo.{NodeNo}
+use Rattle.model.specs.declared.Refusal.{Refusal}
+use Rattle.model.specs.Answers.{Answer, checked, map_value, answer_of}
 use Rattle.model.specs.Limits.{max_nodes}
 use Rattle.model.specs.Paths.{ends}
 use Rattle.model.specs.Shapes.{conforms}
@@ -11,14 +13,15 @@ use Rattle.tables.specs.Decode.{triples_at, path_at, graph_at, shape_at}
 use Rattle.tables.specs.WellFormed.{well_formed}
 use Rattle.tables.specs.Sizes.{long_enough}
 use Rattle.rounds.specs.Answers.{has_both}
-use Rattle.nearest.specs.declared.Spare.{Spare}
-use Rattle.nearest.specs.declared.Spare.TheVariants.{At, NoSpare, Refused}
 
--- each case of the answer: the repetitions and the node, that there is no spare, or the refusal
-abbrev pub answer_of : Spare → Answer Nearest
-answer_of (At hops node) = value (at hops node.0)
-answer_of NoSpare = value no_spare
-answer_of (Refused r) = refusal_of r
+-- each case of what is found: the repetitions and the node, or that there is no spare
+abbrev pub spare_of : Option (ℕ × NodeNo) → Nearest
+spare_of (Some found) = at found.0 found.1.0
+spare_of None = no_spare
+
+-- each case of the answer: what is found, or the refusal
+abbrev pub spare_answer : Result (Option (ℕ × NodeNo)) Refusal → Answer Nearest
+spare_answer x = map_value spare_of (answer_of x)
 
 -- cells of tables in their limits: they have the node, the path entry and the shape
 abbrev pub has_all : List ℕ → (node path shape : ℕ) → Bool

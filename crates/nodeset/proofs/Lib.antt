@@ -2,4 +2,3 @@ pub mod Bits
 pub mod Sets
 pub mod Stores
 pub mod Members
-pub mod Operations

@@ -16,8 +16,6 @@ use Rattle.base.proofs.Bools.{bool_cases, never_both}
 use Rattle.base.specs.Least.{next_from}
 use Rattle.base.proofs.Least.{next_here, next_skip, next-none}
 use Rattle.nodeset.specs.Words.{bit, has}
-use Rattle.nodeset.specs.Operations.{keeps}
-use Rattle.nodeset.specs.declared.Operation.{Operation}
 use Rattle.nodeset.proofs.Bits.{bit_zero}
 use Rattle.nodeset.proofs.Sets.{has-at}
 
@@ -109,5 +107,5 @@ module _ (p : ℕ → Bool) (i w : ℕ) (digits : (k : ℕ) → k < 64 → p (i 
     search_on z h = sym (next_skip p n (64 - i % 64) i (omega arith) (rest-none x e (le-zero z)))
 
 -- the digits of two words put together are those of the two sets
-pub kept-digits : (op : Operation) (a b : List ℕ) (i w : ℕ) → ((k : ℕ) → bit w k ≡ keeps op (bit (get_or a (i / 64) 0) k) (bit (get_or b (i / 64) 0) k)) → (k : ℕ) → k < 64 → keeps op (has a (i / 64 * 64 + k)) (has b (i / 64 * 64 + k)) ≡ bit w k
-kept-digits op a b i w h k l = ap₂ (keeps op) (has-at a (i / 64) k l) (has-at b (i / 64) k l) ∙ sym (h k)
+pub kept-digits : (keeps : Bool → Bool → Bool) (a b : List ℕ) (i w : ℕ) → ((k : ℕ) → bit w k ≡ keeps (bit (get_or a (i / 64) 0) k) (bit (get_or b (i / 64) 0) k)) → (k : ℕ) → k < 64 → keeps (has a (i / 64 * 64 + k)) (has b (i / 64 * 64 + k)) ≡ bit w k
+kept-digits keeps a b i w h k l = ap₂ keeps (has-at a (i / 64) k l) (has-at b (i / 64) k l) ∙ sym (h k)

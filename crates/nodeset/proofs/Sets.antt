@@ -1,6 +1,6 @@
 -- Laws of sets of words, for every number of words.
 use Prim.Native.Nat.{ℕ, zero, suc, ◌+◌, ◌*◌, ◌/◌, ◌%◌, ◌^◌, ◌≤◌, ◌<◌}
-use mathlib.Core.List.{List, [], ◌∷◌}
+use mathlib.Core.List.{List, [], ◌∷◌, ◌++◌}
 use mathlib.Core.Bool.{Bool, true, false, not, cond, ◌&&◌, ◌||◌, or-false}
 use mathlib.Core.Path.{◌≡◌, refl, sym, ap, ap₂, ◌∙◌, subst}
 use native.Mathlib.Nat.{one-mul, lt_of_le_of_lt, mod-eq_of_lt, add-zero, zero-add, add-suc, suc-add}
@@ -9,7 +9,7 @@ use native.Mathlib.Omega.{arith}
 use lib.Dec.{eqb, ltb, lit<}
 use lib.Pow.{pow-lt}
 use lib.ListN.{length, get_or, set, take, drop, replicate, length-set, length-replicate, get_or-eq_default}
-use lib.Seq.{get_or-set_same, get_or-set_other, ext_get_or, get_or-take, get_or-drop}
+use lib.Seq.{get_or-set_same, get_or-set_other, ext_get_or, get_or-take, get_or-drop, take-nil, drop-nil}
 use lib.Bits.{bit_or, bit_and, and_le_r, or_lt}
 use lib.Count.{ones}
 use borrow.Author.Tests.{eq-eqb, ne_eqb, eqb-true, eqb-false, lt-ltb, le-ltb, ltb-true, ltb-false}
@@ -117,6 +117,27 @@ has_zeros k m = ap (λ (y : ℕ). bit y (m % 64)) (zeros_at k (m / 64)) ∙ bit_
 
 pub zeros : (k : ℕ) → replicate k 0 ≡ words_of (λ m. false) k
 zeros k = canonical (replicate k 0) (λ m. false) k (length-replicate k 0) (λ i. subst (λ (x : ℕ). x < 2 ^ 64) (sym (zeros_at k i)) (lit< tt)) (λ m l. has_zeros k m)
+
+-- words over k zeros: what the words have below 64 * k
+module _ (ws : List ℕ) (k : ℕ) (small : (i : ℕ) → get_or ws i 0 < 2 ^ 64) where
+  pub over_zeros : take k ws ++ drop (length ws) (replicate k 0) ≡ words_of (has ws) k
+  unfolding has
+  over_zeros = canonical (take k ws ++ drop (length ws) (replicate k 0)) (has ws) k (many ws k) (λ i. fits i (ltb i k) refl) (λ m l. ap (λ (y : ℕ). bit y (m % 64)) (at ws k (m / 64) (let h : m / 64 < k = omega arith in h)))
+    where
+      many : (ws : List ℕ) (k : ℕ) → length (take k ws ++ drop (length ws) (replicate k 0)) ≡ k
+      many [] k = ap (λ (l : List ℕ). length (l ++ replicate k 0)) (take-nil k) ∙ length-replicate k 0
+      many (w ∷ ws) zero = ap (λ (l : List ℕ). length l) (drop-nil (length (w ∷ ws)))
+      many (w ∷ ws) (suc k) = ap suc (many ws k)
+
+      at : (ws : List ℕ) (k i : ℕ) → i < k → get_or (take k ws ++ drop (length ws) (replicate k 0)) i 0 ≡ get_or ws i 0
+      at [] k i l = ap (λ (l : List ℕ). get_or (l ++ replicate k 0) i 0) (take-nil k) ∙ zeros_at k i
+      at (w ∷ ws) zero i l = absurd (omega arith)
+      at (w ∷ ws) (suc k) zero l = refl
+      at (w ∷ ws) (suc k) (suc i) l = at ws k i (omega arith)
+
+      fits : (i : ℕ) (b : Bool) → ltb i k ≡ b → get_or (take k ws ++ drop (length ws) (replicate k 0)) i 0 < 2 ^ 64
+      fits i true e = subst (λ (x : ℕ). x < 2 ^ 64) (sym (at ws k i (ltb-true i k e))) (small i)
+      fits i false e = subst (λ (x : ℕ). x < 2 ^ 64) (sym (get_or-eq_default (take k ws ++ drop (length ws) (replicate k 0)) 0 (subst (λ (x : ℕ). x ≤ i) (sym (many ws k)) (ltb-false i k e)))) (lit< tt)
 
 -- ---- a word replaced
 
@@ -244,13 +265,6 @@ module _ {a b : List ℕ} (p q : ℕ → Bool) (k : ℕ) (ea : a ≡ words_of p 
 -- a set of one number
 pub single : (v k : ℕ) → with (replicate k 0) v ≡ words_of (λ m. eqb v m) k
 single v k = with-step (λ m. false) (λ m. eqb v m) k v (zeros k) (λ m l. eqb_comm m v)
-
--- what k empty words become
-pub union_zeros : (ws : List ℕ) (k : ℕ) → union (replicate k 0) ws ≡ words_of (has ws) k
-unfolding union
-union_zeros ws k =
-    ap (words_of (λ m. has (replicate k 0) m || has ws m)) (length-replicate k 0)
-    ∙ words_of_ext (λ m. has (replicate k 0) m || has ws m) (has ws) k (λ m l. ap (λ (b : Bool). b || has ws m) (has_zeros k m))
 
 -- ---- the numbers below n
 

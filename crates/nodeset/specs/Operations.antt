@@ -1,17 +1,7 @@
--- What each operation on two sets keeps.
-use Rattle.std.specs.Prelude.{Bool, not, ◌&&◌, ◌||◌, List, ℕ}
-use Rattle.nodeset.specs.Words.{union, intersection, difference}
-use Rattle.nodeset.specs.declared.Operation.{Operation}
-use Rattle.nodeset.specs.declared.Operation.TheVariants.{Union, Intersection, Difference}
+-- An operation on two words that goes digit by digit.
+use Rattle.std.specs.Prelude.{Bool, ℕ, ◌≡◌}
+use Rattle.nodeset.specs.Words.{bit}
 
--- a member of the result, by whether it is in the first set and in the second
-abbrev pub keeps : Operation → Bool → Bool → Bool
-keeps Union x y = x || y
-keeps Intersection x y = x && y
-keeps Difference x y = x && not y
-
--- the result
-abbrev pub applied : Operation → List ℕ → List ℕ → List ℕ
-applied Union a b = union a b
-applied Intersection a b = intersection a b
-applied Difference a b = difference a b
+-- each digit of what the operation makes of two words is kept by their digits there; post x y r: it makes r of x and y
+abbrev pub DigitByDigit : (Bool → Bool → Bool) → (ℕ → ℕ → ℕ → Type 0) → Type 0
+DigitByDigit keeps post = (x y r : ℕ) → post x y r → (k : ℕ) → bit r k ≡ keeps (bit x k) (bit y k)

@@ -21,23 +21,29 @@ use Rattle.grammar.specs.Syntax.{used, path, end, PathCode, inv_c, seq_c, alt_c,
 use Rattle.grammar.specs.Reading.{Read, got, refused, and_then, Readers, Begun, path_begun, after, space_at, arg_at, end_at, used_at, close_at, body_at, link_at, no_readers, deeper, readers_at}
 use Rattle.tables.specs.Layout.{cell_count, path_codes, path_firsts, path_seconds}
 use Rattle.stores.specs.Entries.{put_path, path_cells, end_cells}
-use Rattle.itemreader.specs.declared.Item.{Item}
-use Rattle.itemreader.specs.declared.Head.{Head}
-use Rattle.itemreader.specs.Answers.{head_at, path_words, words_of, rest_at}
+use Rattle.std.specs.Prelude.{Some, None, Ok, Err}
+use Rattle.model.specs.Refusals.{fault_of}
+use Rattle.model.specs.declared.Fault.{Fault}
+use Rattle.itemreader.specs.Answers.{Item, Head, item_of, head_at, rest_at}
+use Rattle.itemreader.specs.Words.{path_words, words_of}
 use Rattle.itemreader.proofs.Items.{item_got, item_refused, then_refused, then_got}
 use Rattle.itemreader.proofs.Heads.{bracket-bare, bracket_refused, bracket-word, rest-none, rest_got, rest_refused}
 use Rattle.pathreader.specs.Paths.{paths_after, ends_after, Done, PathRead, EndRead, Grown, closed}
 
 -- ---- answers
-module _ {A : Type 0} {count : ℕ → A → ℕ} {put : ℕ → A → List ℕ → List ℕ} {n : ℕ} {before after : List ℕ} {r : Item} where
-  pub done_no : {x : Read A} (k : ℕ) → x ≡ refused k → r ≡ Item.No k → Done count put x n before after r
+module _ {A : Type 0} {count : ℕ → A → ℕ} {put : ℕ → A → List ℕ → List ℕ} {n : ℕ} {before after : List ℕ} where
+  pub done_no : {x : Read A} {r : Item} (k : ℕ) → x ≡ refused k → r ≡ Err (fault_of k) → Done count put x n before after r
   done_no k e q = rw e (record { answer = q; stored = tt })
 
-  pub done_is : {x y : Read A} → x ≡ y → Done count put y n before after r → Done count put x n before after r
+  pub done_is : {x y : Read A} {r : Item} → x ≡ y → Done count put y n before after r → Done count put x n before after r
   done_is e p = rw e p
 
-  pub done_refused : {x : Read A} (k : ℕ) → Done count put x n before after r → r ≡ Item.No k → x ≡ refused k
-  done_refused {x} k p q = item_refused (count n) x r k p.answer q
+  pub done_refused : {x : Read A} {e : Fault} → Done count put x n before after (Err e) → (k : ℕ) × (x ≡ refused k) × (e ≡ fault_of k)
+  done_refused {x} {e} p = item_refused (count n) x e p.answer
+
+  -- a fault of a part
+  pub done_passed : {B : Type 0} (part : B → ℕ) {y : Read B} {x : Read A} {r : Item} {e : Fault} → ◌≡◌ {A = Item} (Err e) (item_of part y) → r ≡ Err e → ((k : ℕ) → y ≡ refused k → x ≡ refused k) → Done count put x n before after r
+  done_passed {B} part {y} {x} {r} {e} p q f = let (k, z, w) = item_refused part y e p in done_no k (f k z) (q ∙ ap Err w)
 
 -- what was accepted
 pub record Got {A : Type 0} (entries : A → ℕ) (put : ℕ → A → List ℕ → List ℕ) (x : Read A) (n m next : ℕ) (before after : List ℕ) : Type 0 where
@@ -46,14 +52,14 @@ pub record Got {A : Type 0} (entries : A → ℕ) (put : ℕ → A → List ℕ 
   pub count : n + entries tree ≡ m
   pub cells : after ≡ put n tree before
 
-pub path_got : {x : Read Path} {n : ℕ} {before after : List ℕ} {r : Item} (m next : ℕ) → PathRead x n before after r → r ≡ Item.Is m next → Got path_entries path_cells x n m next before after
-path_got {x} {n} {before} {after} {r} m next p q =
-    let y = item_got (paths_after n) x r m next p.answer q in
+pub path_got : {x : Read Path} {n : ℕ} {before after : List ℕ} (m next : ℕ) → PathRead x n before after (Ok (m, next)) → Got path_entries path_cells x n m next before after
+path_got {x} {n} {before} {after} m next p =
+    let y = item_got (paths_after n) x m next p.answer in
     record { tree = y.0; is = y.1; count = y.2; cells = rw y.1 at p.stored }
 
-pub end_got : {x : Read End} {n : ℕ} {before after : List ℕ} {r : Item} (m next : ℕ) → EndRead x n before after r → r ≡ Item.Is m next → Got end_entries end_cells x n m next before after
-end_got {x} {n} {before} {after} {r} m next p q =
-    let y = item_got (ends_after n) x r m next p.answer q in
+pub end_got : {x : Read End} {n : ℕ} {before after : List ℕ} (m next : ℕ) → EndRead x n before after (Ok (m, next)) → Got end_entries end_cells x n m next before after
+end_got {x} {n} {before} {after} m next p =
+    let y = item_got (ends_after n) x m next p.answer in
     record { tree = y.0; is = y.1; count = y.2; cells = rw y.1 at p.stored }
 
 -- ---- a bare link
@@ -73,7 +79,7 @@ module _ (s : List ℕ) (a : Book) (R : Readers) (b : Begun) (at : ℕ) (full : 
     pub link-free : full ≡ false → space_at s a at (link_at s a full) ≡ got (predicate p) next
     link-free f = link_got ∙ rw f
 
-pub link_read : {x : Read Path} {after : List ℕ} (n p next : ℕ) (before : List ℕ) → x ≡ got (predicate p) next → after ≡ put_path n 0 p 0 before → PathRead x n before after (Item.Is (n + 1) next)
+pub link_read : {x : Read Path} {after : List ℕ} (n p next : ℕ) (before : List ℕ) → x ≡ got (predicate p) next → after ≡ put_path n 0 p 0 before → PathRead x n before after (Ok (n + 1, next))
 unfolding path_cells path_entries
 link_read n p next before e w = rw e (record { answer = refl; stored = w })
 
@@ -83,28 +89,28 @@ module _ (s : List ℕ) (a : Book) (b : Begun) (at m : ℕ) (q : b.paths ≡ m) 
   unfolding arg_at
   path_unspaced left n = rw (ne_eqb (get_or s at 0) 32 n)
 
-  module _ (z : get_or s at 0 ≡ 32) (h : Head) where
+  module _ (z : get_or s at 0 ≡ 32) where
     -- the same head, by the entries begun and by whether a bracket may be opened
-    is-head : (left : ℕ) (deep : Bool) → eqb left 0 ≡ deep → h ≡ head_at s (words_of path_family) (eqb left 0) (leb max_paths m) (at + 1) → (x : Head) → h ≡ x → head_at s (words_of path_family) deep (leb max_paths b.paths) (at + 1) ≡ x
-    is-head left deep d e x f = rw (q, ← d) (sym e ∙ f)
+    is-head : (left : ℕ) (deep : Bool) → eqb left 0 ≡ deep → (h : Head) → h ≡ head_at s (words_of path_family) (eqb left 0) (leb max_paths m) (at + 1) → head_at s (words_of path_family) deep (leb max_paths b.paths) (at + 1) ≡ h
+    is-head left deep d h e = rw (q, ← d) (sym e)
 
     some_left : (left : ℕ) → eqb (suc left) 0 ≡ false
     some_left left = ne_eqb (suc left) 0 (λ e. omega arith)
 
-    pub path_bare : (left : ℕ) → h ≡ head_at s (words_of path_family) (eqb left 0) (leb max_paths m) (at + 1) → h ≡ Head.Bare → arg_at s a (readers_at s a left) path b at ≡ space_at s a at (link_at s a (leb max_paths m))
+    pub path_bare : (left : ℕ) → ◌≡◌ {A = Head} (Ok None) (head_at s (words_of path_family) (eqb left 0) (leb max_paths m) (at + 1)) → arg_at s a (readers_at s a left) path b at ≡ space_at s a at (link_at s a (leb max_paths m))
     unfolding arg_at readers_at deeper
-    path_bare zero e f = rw (eq-eqb (get_or s at 0) 32 z) (bracket-bare s a path_family _ true (leb max_paths b.paths) (λ c. true) (link_at s a (leb max_paths b.paths) (at + 1)) (path_begun b) (at + 1) (is-head zero true refl e Head.Bare f) ∙ ap (λ (k : ℕ). link_at s a (leb max_paths k) (at + 1)) q)
-    path_bare (suc left) e f = rw (eq-eqb (get_or s at 0) 32 z) (bracket-bare s a path_family _ false (leb max_paths b.paths) (λ c. true) (link_at s a (leb max_paths b.paths) (at + 1)) (path_begun b) (at + 1) (is-head (suc left) false (some_left left) e Head.Bare f) ∙ ap (λ (k : ℕ). link_at s a (leb max_paths k) (at + 1)) q)
+    path_bare zero e = rw (eq-eqb (get_or s at 0) 32 z) (bracket-bare s a path_family _ true (leb max_paths b.paths) (λ c. true) (link_at s a (leb max_paths b.paths) (at + 1)) (path_begun b) (at + 1) (is-head zero true refl (Ok None) e) ∙ ap (λ (k : ℕ). link_at s a (leb max_paths k) (at + 1)) q)
+    path_bare (suc left) e = rw (eq-eqb (get_or s at 0) 32 z) (bracket-bare s a path_family _ false (leb max_paths b.paths) (λ c. true) (link_at s a (leb max_paths b.paths) (at + 1)) (path_begun b) (at + 1) (is-head (suc left) false (some_left left) (Ok None) e) ∙ ap (λ (k : ℕ). link_at s a (leb max_paths k) (at + 1)) q)
 
-    pub path_head_refused : (left k : ℕ) → h ≡ head_at s (words_of path_family) (eqb left 0) (leb max_paths m) (at + 1) → h ≡ Head.No k → arg_at s a (readers_at s a left) path b at ≡ refused k
+    pub path_head_refused : (left : ℕ) (f : Fault) → ◌≡◌ {A = Head} (Err f) (head_at s (words_of path_family) (eqb left 0) (leb max_paths m) (at + 1)) → (k : ℕ) × (arg_at s a (readers_at s a left) path b at ≡ refused k) × (f ≡ fault_of k)
     unfolding arg_at readers_at deeper
-    path_head_refused zero k e f = rw (eq-eqb (get_or s at 0) 32 z) (bracket_refused s a path_family _ true (leb max_paths b.paths) (λ c. true) (link_at s a (leb max_paths b.paths) (at + 1)) (path_begun b) (at + 1) k (is-head zero true refl e (Head.No k) f))
-    path_head_refused (suc left) k e f = rw (eq-eqb (get_or s at 0) 32 z) (bracket_refused s a path_family _ false (leb max_paths b.paths) (λ c. true) (link_at s a (leb max_paths b.paths) (at + 1)) (path_begun b) (at + 1) k (is-head (suc left) false (some_left left) e (Head.No k) f))
+    path_head_refused zero f e = rw (eq-eqb (get_or s at 0) 32 z) (bracket_refused s a path_family _ true (leb max_paths b.paths) (λ c. true) (link_at s a (leb max_paths b.paths) (at + 1)) (path_begun b) (at + 1) f (is-head zero true refl (Err f) e))
+    path_head_refused (suc left) f e = rw (eq-eqb (get_or s at 0) 32 z) (bracket_refused s a path_family _ false (leb max_paths b.paths) (λ c. true) (link_at s a (leb max_paths b.paths) (at + 1)) (path_begun b) (at + 1) f (is-head (suc left) false (some_left left) (Err f) e))
 
-    pub path_word_lem : (left k stop : ℕ) → h ≡ head_at s (words_of path_family) (eqb left 0) (leb max_paths m) (at + 1) → h ≡ Head.Word k stop → arg_at s a (readers_at s a left) path b at ≡ body_at s a path_family (readers_at s a (left - 1)) (λ c. true) (get_or path_family.codes k path_family.other) (path_begun b) stop
+    pub path_word_lem : (left k stop : ℕ) → ◌≡◌ {A = Head} (Ok (Some (k, stop))) (head_at s (words_of path_family) (eqb left 0) (leb max_paths m) (at + 1)) → arg_at s a (readers_at s a left) path b at ≡ body_at s a path_family (readers_at s a (left - 1)) (λ c. true) (get_or path_family.codes k path_family.other) (path_begun b) stop
     unfolding arg_at readers_at deeper
-    path_word_lem zero k stop e f = absurd (true≢false (bracket-word s a path_family (no_readers s a) true (leb max_paths b.paths) (λ c. true) (link_at s a (leb max_paths b.paths) (at + 1)) (path_begun b) (at + 1) k stop (is-head zero true refl e (Head.Word k stop) f)).0)
-    path_word_lem (suc left) k stop e f = rw (eq-eqb (get_or s at 0) 32 z, sub-one) (bracket-word s a path_family _ false (leb max_paths b.paths) (λ c. true) (link_at s a (leb max_paths b.paths) (at + 1)) (path_begun b) (at + 1) k stop (is-head (suc left) false (some_left left) e (Head.Word k stop) f)).1
+    path_word_lem zero k stop e = absurd (true≢false (bracket-word s a path_family (no_readers s a) true (leb max_paths b.paths) (λ c. true) (link_at s a (leb max_paths b.paths) (at + 1)) (path_begun b) (at + 1) k stop (is-head zero true refl (Ok (Some (k, stop))) e)).0)
+    path_word_lem (suc left) k stop e = rw (eq-eqb (get_or s at 0) 32 z, sub-one) (bracket-word s a path_family _ false (leb max_paths b.paths) (λ c. true) (link_at s a (leb max_paths b.paths) (at + 1)) (path_begun b) (at + 1) k stop (is-head (suc left) false (some_left left) (Ok (Some (k, stop))) e)).1
 
 -- ---- what follows the word, by its number: two paths for seq and alt, 1 and 2; else one
 abbrev pub is_one : ℕ → Bool
@@ -218,19 +224,16 @@ module _ (s : List ℕ) (at l : ℕ) where
   unfolding closed close_at
   closed_read a e n before put other after r c p q w = go (eqb (get_or s at 0) 41) q w
     where
-      go : (t : Bool) → r ≡ cond t (Item.Is (l + 1) (at + 1)) (Item.No 2) → after ≡ cond t put other → PathRead (cond t (got e (at + 1)) (refused 2)) n before after r
-      go true q w = record { answer = q ∙ ap (λ (k : ℕ). Item.Is k (at + 1)) (sym c); stored = w ∙ p }
+      go : (t : Bool) → r ≡ cond t (Ok (l + 1, at + 1)) (Err Fault.Grammar) → after ≡ cond t put other → PathRead (cond t (got e (at + 1)) (refused 2)) n before after r
+      go true q w = record { answer = q ∙ ap (λ (k : ℕ). Ok (k, at + 1)) (sym c); stored = w ∙ p }
       go false q w = record { answer = q; stored = tt }
 
   pub closed-grown : (n up : ℕ) → n ≤ l + 1 → l + 1 + up ≤ max_paths → Grown n up (length s) (closed s at l)
   unfolding closed
   closed-grown n up h k =
-      bool_cases (λ t. Grown n up (length s) (cond t (Item.Is (l + 1) (at + 1)) (Item.No 2))) (eqb (get_or s at 0) 41)
+      bool_cases (λ t. Grown n up (length s) (cond t (Ok (l + 1, at + 1)) (Err Fault.Grammar))) (eqb (get_or s at 0) 41)
       (λ e. let b = eqb-true (get_or s at 0) 41 e in let i : at < length s = inside s at (λ z. omega arith) in (h, k, omega arith))
       (λ e. tt)
-
-pub grown-is : (n up len : ℕ) (r : Item) (m next : ℕ) → Grown n up len r → r ≡ Item.Is m next → (n ≤ m) × (m + up ≤ max_paths) × (next ≤ len)
-grown-is n up len r m next g e = rw e at g
 
 -- ---- END
 module _ (s : List ℕ) (a : Book) (R : Readers) (b : Begun) (at : ℕ) where
@@ -252,10 +255,10 @@ unfolding end_entries end_cells
 along_read (got e next) n before after r p = record { answer = p.answer; stored = p.stored }
 along_read (refused k) n before after r p = record { answer = p.answer; stored = tt }
 
-pub self_read : (n next : ℕ) (cs : List ℕ) → EndRead (got self next) n cs cs (Item.Is n next)
+pub self_read : (n next : ℕ) (cs : List ℕ) → EndRead (got self next) n cs cs (Ok (n, next))
 unfolding end_entries end_cells
-self_read n next cs = let e : n + 0 ≡ n = omega arith in record { answer = ap (λ (k : ℕ). Item.Is k next) (sym e); stored = refl }
+self_read n next cs = let e : n + 0 ≡ n = omega arith in record { answer = ap (λ (k : ℕ). Ok (k, next)) (sym e); stored = refl }
 
 pub grown-less : (m n up len : ℕ) (r : Item) → n ≤ m → Grown m up len r → Grown n up len r
-grown-less m n up len (Item.Is k next) l g = let h = g.0 in (omega arith, g.1, g.2)
-grown-less m n up len (Item.No k) l g = tt
+grown-less m n up len (Ok (k, next)) l g = let h = g.0 in (omega arith, g.1, g.2)
+grown-less m n up len (Err e) l g = tt

@@ -1,12 +1,12 @@
 -- What reading a PATH or an END answers and leaves in the cells, for what the grammar's reading gives.
-use Rattle.std.specs.Prelude.{ℕ, ◌+◌, ◌≤◌, ◌≡◌, List, cond, eqb, get_or}
+use Rattle.std.specs.Prelude.{ℕ, ◌+◌, ◌≤◌, ◌≡◌, List, cond, eqb, get_or, Ok, Err}
 use Rattle.model.specs.Paths.{Path, End}
 use Rattle.model.specs.Sizes.{path_entries, end_entries}
 use Rattle.model.specs.Limits.{max_paths}
 use Rattle.grammar.specs.Reading.{Read, got, refused}
 use Rattle.stores.specs.Entries.{path_cells, end_cells}
-use Rattle.itemreader.specs.declared.Item.{Item}
-use Rattle.itemreader.specs.Answers.{item_of}
+use Rattle.itemreader.specs.Answers.{Item, item_of}
+use Rattle.model.specs.declared.Fault.{Fault}
 
 -- how many path entries have ended after a path, where n had before
 abbrev pub paths_after : ℕ → Path → ℕ
@@ -33,9 +33,9 @@ EndRead x n before after r = Done ends_after end_cells x n before after r
 
 -- at least n path entries, and room for those that are open; a position in a text of a length
 abbrev pub Grown : ℕ → ℕ → ℕ → Item → Type 0
-Grown n up len (Item.Is m next) = (n ≤ m) × (m + up ≤ max_paths) × (next ≤ len)
-Grown n up len (Item.No k) = Unit {0}
+Grown n up len (Ok (m, next)) = (n ≤ m) × (m + up ≤ max_paths) × (next ≤ len)
+Grown n up len (Err e) = Unit {0}
 
 -- what a closing bracket gives, where n entries have ended before its own
 unfoldable pub closed : List ℕ → ℕ → ℕ → Item
-closed s at n = cond (eqb (get_or s at 0) 41) (Item.Is (n + 1) (at + 1)) (Item.No 2)
+closed s at n = cond (eqb (get_or s at 0) 41) (Ok (n + 1, at + 1)) (Err Fault.Grammar)

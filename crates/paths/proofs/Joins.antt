@@ -19,6 +19,7 @@ use Rattle.closure.proofs.Rows.{lent_row}
 use Rattle.chains.specs.Chains.{last_with}
 use Rattle.chains.proofs.Chains.{some-last, walk_begins}
 use Rattle.model.specs.Limits.{max_links, max_nodes}
+use Rattle.model.specs.declared.NodeNo.{NodeNo}
 use Rattle.paths.specs.Facts.{FactsOk, edge, edges}
 use Rattle.paths.specs.Images.{start_of, set_words, Room, with_images, joined_sets}
 use Rattle.paths.specs.declared.Sets.{Sets}
@@ -102,6 +103,11 @@ module _ (width n : ℕ) (from : ℕ → Bool) (into : List ℕ) where
   itself_all v q e = e ∙ images_ext width n (itself v) eqb from into (λ u w l. ap (λ (b : Bool). b && eqb u w) (lt-ltb u v (omega arith)))
 
 -- ---- facts
+
+-- the number of the first of two nodes, or of the second
+pub picked-number : (b : Bool) (v w : NodeNo) {x : NodeNo} → x ≡ cond b v w → x.0 ≡ cond b v.0 w.0
+picked-number true v w e = ap (λ (x : NodeNo). x.0) e
+picked-number false v w e = ap (λ (x : NodeNo). x.0) e
 
 pub cond_lt : (b : Bool) (x y n : ℕ) → x < n → y < n → cond b x y < n
 cond_lt true x y n l r = l

@@ -1,3 +1,4 @@
 pub mod Facts
 pub mod Images
 pub mod Ends
+pub mod Over

@@ -3,3 +3,4 @@ pub mod Layout
 pub mod Conditions
 pub mod Sets
 pub mod WellFormed
+pub mod Numbers

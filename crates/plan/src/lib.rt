@@ -7,6 +7,7 @@ pub mod steps;
 ghost use Rattle.std.specs.Prelude.{◌≡◌, [], ◌∷◌, ◌<◌, ◌≤◌, length};
 ghost use Rattle.tables.specs.Sizes.{cleared};
 ghost use Rattle.model.specs.Limits.{max_steps};
+ghost use Rattle.plan.specs.Numbers.{listed};
 ghost use Rattle.plan.specs.Layout.{plan_count, with_numbers};
 
 use model::{MAX_RULES, MAX_STEPS};
@@ -26,24 +27,26 @@ pub const STEP_FOURTHS: usize = STEP_THIRDS + MAX_STEPS;
 
 pub const PLAN_CELLS: usize = STEP_FOURTHS + MAX_STEPS;
 
-// A code and four operands stored as step k.
-pub fn put_step(
-    plan: &mut [u16],
-    k: usize,
-    code: u16,
-    first: u16,
-    second: u16,
-    third: u16,
-    fourth: u16,
-)
+// The numbers of a step: its code and four operands.
+#[derive(Clone, Copy, PartialEq, Eq)]
+pub struct Numbers {
+    pub code: u16,
+    pub first: u16,
+    pub second: u16,
+    pub third: u16,
+    pub fourth: u16,
+}
+
+// Numbers stored as step k.
+pub fn put_step(plan: &mut [u16], k: usize, step: Numbers)
     requires { (plan_count ≤ length plan.old) × (k < max_steps) }
-    ensures { plan.new ≡ with_numbers plan.old k (code ∷ first ∷ second ∷ third ∷ fourth ∷ []) }
+    ensures { plan.new ≡ with_numbers plan.old k (listed step) }
 {
-    plan[STEP_CODES + k] = code;
-    plan[STEP_FIRSTS + k] = first;
-    plan[STEP_SECONDS + k] = second;
-    plan[STEP_THIRDS + k] = third;
-    plan[STEP_FOURTHS + k] = fourth;
+    plan[STEP_CODES + k] = step.code;
+    plan[STEP_FIRSTS + k] = step.first;
+    plan[STEP_SECONDS + k] = step.second;
+    plan[STEP_THIRDS + k] = step.third;
+    plan[STEP_FOURTHS + k] = step.fourth;
 }
 
 // Zeros in all cells of a plan; what lies past them stays.
@@ -51,7 +54,5 @@ pub fn clear_plan(plan: &mut [u16])
     requires { plan_count ≤ length plan.old }
     ensures { plan.new ≡ cleared plan_count 0 plan.old }
 {
-    for i in 0..PLAN_CELLS {
-        plan[i] = 0;
-    }
+    plan[..PLAN_CELLS].fill(0);
 }

@@ -1,4 +1,3 @@
 pub mod Codes
-pub mod Parts
 pub mod WellFormed
 pub mod Both

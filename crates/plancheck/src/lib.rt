@@ -5,12 +5,12 @@
 
 pub mod reads;
 
-ghost use Rattle.std.specs.Prelude.{◌≡◌};
+ghost use Rattle.std.specs.Prelude.{◌≡◌, ltb};
 ghost use Rattle.base.specs.Bounded.{every};
 ghost use Rattle.plan.specs.Steps.{Step};
-ghost use Rattle.plan.specs.Layout.{step_at};
+ghost use Rattle.tables.specs.Layout.{rule_count};
+ghost use Rattle.plan.specs.Layout.{step_count, rule_step_at, step_at};
 ghost use Rattle.plan.specs.WellFormed.{test_ok, closed_ok, step_ok, plan_well_formed};
-ghost use Rattle.plancheck.specs.Parts.{part_count, plan_part_ok};
 ghost use Rattle.plancheck.specs.Both.{both_well_formed};
 
 use crate::reads::{
@@ -71,56 +71,37 @@ fn step_ok(cells: &[u16], plan: &[u16], k: usize) -> bool
     }
 }
 
-// What is looked at number by number.
-#[derive(Clone, Copy)]
-enum Part {
-    Steps,
-    Rules,
+fn steps_ok(cells: &[u16], plan: &[u16]) -> bool
+    ensures { result ≡ every (λ k. step_ok cells.now k (step_at plan.now k)) (step_count plan.now) }
+{
+    (0..step_count(plan)).all(|k| step_ok(cells, plan, k))
 }
 
-fn part_count(cells: &[u16], plan: &[u16], part: Part) -> usize
-    ensures { result ≡ part_count cells.now plan.now part }
+// Rule i's step is one of the steps.
+fn rule_step_ok(plan: &[u16], i: usize) -> bool
+    ensures { result ≡ ltb (rule_step_at plan.now i) (step_count plan.now) }
 {
-    match part {
-        Part::Steps => step_count(plan),
-        Part::Rules => rule_count(cells),
-    }
+    rule_step(plan, i) < step_count(plan)
 }
 
-fn part_ok(cells: &[u16], plan: &[u16], part: Part, i: usize) -> bool
-    ensures { result ≡ plan_part_ok cells.now plan.now part i }
+fn rules_ok(cells: &[u16], plan: &[u16]) -> bool
+    ensures { result ≡ every (λ r. ltb (rule_step_at plan.now r) (step_count plan.now)) (rule_count cells.now) }
 {
-    match part {
-        Part::Steps => step_ok(cells, plan, i),
-        Part::Rules => rule_step(plan, i) < step_count(plan),
-    }
-}
-
-fn all_ok(cells: &[u16], plan: &[u16], part: Part) -> bool
-    ensures { result ≡ every (plan_part_ok cells.now plan.now part) (part_count cells.now plan.now part) }
-{
-    let n = part_count(cells, plan, part);
-    for i in 0..n {
-        if !part_ok(cells, plan, part, i) {
-            return false;
-        }
-    }
-    true
+    (0..rule_count(cells)).all(|r| rule_step_ok(plan, r))
 }
 
 // Refusal 9 is for a plan of which this is false. The number of steps is looked at first.
+#[tactic(auto, unfolding(plan::specs::WellFormed::plan_well_formed))]
 pub fn plan_well_formed(cells: &[u16], plan: &[u16]) -> bool
     ensures { result ≡ plan_well_formed cells.now plan.now }
 {
-    if model::MAX_STEPS < step_count(plan) {
-        return false;
-    }
-    all_ok(cells, plan, Part::Steps) & all_ok(cells, plan, Part::Rules)
+    step_count(plan) <= model::MAX_STEPS && steps_ok(cells, plan) && rules_ok(cells, plan)
 }
 
 // Refusal 9 is for tables and a plan of which this is false.
+#[tactic(auto, unfolding(crate::specs::Both::both_well_formed))]
 pub fn both_well_formed(cells: &[u16], plan: &[u16]) -> bool
     ensures { result ≡ both_well_formed cells.now plan.now }
 {
-    well_formed(cells) & plan_well_formed(cells, plan)
+    well_formed(cells) && plan_well_formed(cells, plan)
 }

@@ -1,4 +1,5 @@
 // What stands at a place of a plan. A place past the end of a lent slice reads as zero. Node and link numbers are wrapped here.
+// Each read has a name of its own, as in tables: one read by a column would leave the column and the wrapping to every caller.
 ghost use Rattle.std.specs.Prelude.{◌≡◌};
 ghost use Rattle.plan.specs.Layout.{step_count, rule_step_at, step_code_at, step_first_at, step_second_at, step_third_at, step_fourth_at};
 

@@ -15,21 +15,18 @@ ghost use Rattle.model.specs.Repeats.{star};
 ghost use Rattle.model.specs.Rounds.{rounds};
 ghost use Rattle.reach.specs.Levels.{image_words};
 
-use closure::take_row;
-use nodeset::{NodeSet, next_member};
+use closure::{Relation, take_row};
+use nodeset::{Iter, NodeSet};
 
 // The nodes that the rows lead to from the members of a set below n.
-fn image(set: NodeSet, rows: &[u64], n: usize) -> NodeSet
-    requires { (n ≤ max_nodes) × (16 * n ≤ length rows.now) }
-    ensures { result.words ≡ image_words rows.now n set.words }
+fn image(set: NodeSet, relation: Relation) -> NodeSet
+    ensures { result.words ≡ image_words relation.entry.rows.now relation.entry.n set.words }
 {
     let members = set.words;
     let mut words = [0u64; 16];
-    let mut u = next_member(&members, 0, n);
-    while u < n {
+    for u in Iter::below(&members, relation.n) {
         let at = 16 * u;
-        take_row(&mut words, 0, &rows[at..]);
-        u = next_member(&members, u + 1, n);
+        take_row(&mut words, 0, &relation.rows[at..]);
     }
     NodeSet { words }
 }
@@ -55,13 +52,12 @@ impl Level {
     }
 
     // One round more.
-    pub fn next(self, rows: &[u64], n: usize) -> Level
-        requires { (n ≤ max_nodes) × (16 * n ≤ length rows.now) }
-        ensures words_value { result.reached.words ≡ union self.reached.words (image_words rows.now n self.frontier.words) }
-        ensures words_value_2 { result.frontier.words ≡ difference (image_words rows.now n self.frontier.words) self.reached.words }
+    pub fn next(self, relation: Relation) -> Level
+        ensures words_value { result.reached.words ≡ union self.reached.words (image_words relation.entry.rows.now relation.entry.n self.frontier.words) }
+        ensures words_value_2 { result.frontier.words ≡ difference (image_words relation.entry.rows.now relation.entry.n self.frontier.words) self.reached.words }
     {
         let before = self.reached;
-        let found = image(self.frontier, rows, n);
+        let found = image(self.frontier, relation);
         Level {
             reached: before.union(found),
             frontier: found.difference(before),
@@ -77,16 +73,16 @@ pub struct Reached {
 }
 
 // The search from node v, until a round reaches nothing more.
-pub fn search(rows: &[u64], v: usize, n: usize) -> Reached
-    requires { (v < n) × (n ≤ max_nodes) × (16 * n ≤ length rows.now) × Within n rows.now }
-    ensures rounds_value { result.rounds ≡ rounds (leads rows.now) n v }
-    ensures words_value { result.nodes.words ≡ words_of (star (leads rows.now) n v) 16 }
+pub fn search(relation: Relation, v: usize) -> Reached
+    requires { v < relation.n }
+    ensures rounds_value { result.rounds ≡ rounds (leads relation.entry.rows.now) relation.entry.n v }
+    ensures words_value { result.nodes.words ≡ words_of (star (leads relation.entry.rows.now) relation.entry.n v) 16 }
 {
     let mut level = Level::start(v);
     let mut count: usize = 0;
     loop {
-        level = level.next(rows, n);
-        if level.frontier.none_below(n) {
+        level = level.next(relation);
+        if level.frontier.none_below(relation.n) {
             let nodes = level.reached;
             return Reached {
                 nodes,

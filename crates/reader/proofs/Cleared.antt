@@ -1,10 +1,10 @@
 -- Cleared tables with the built-in names.
-use Prim.Native.Nat.{ℕ}
+use Prim.Native.Nat.{ℕ, ◌≤◌}
 use mathlib.Core.Path.{◌≡◌, sym, ap, ◌∙◌}
 use mathlib.Core.List.{List, [], ◌++◌}
 use lib.IntN.{ℤ, pos}
-use lib.ListN.{drop}
-use lib.Seq.{drop_at}
+use lib.ListN.{length, take, drop, replicate}
+use lib.Seq.{drop_at, length-take-le}
 use Rattle.base.specs.Bytes.{bytes}
 use Rattle.base.proofs.Columns.{length-flat}
 use Rattle.model.specs.Books.{links, types}
@@ -35,3 +35,8 @@ started ns ns₁ cs cs₁ vs vs₁ e f g =
       cells-start = cleared_again cell_count 0 cs cs₁ f;
       values-start = cleared_again value_count (pos 0) vs vs₁ g;
     }
+
+-- zeros over the front of a table that is long enough
+pub zeros_over : {A : Type 0} {front : List A} (n : ℕ) (z : A) (l : List A) → n ≤ length l → front ≡ replicate (length (take n l)) z → front ++ drop n l ≡ cleared n z l
+unfolding cleared
+zeros_over {A} n z l h e = ap (λ (f : List A). f ++ drop n l) (e ∙ ap (λ (k : ℕ). replicate k z) (length-take-le n l h))

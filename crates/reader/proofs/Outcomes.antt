@@ -1,5 +1,5 @@
 -- What the lines of a book left, and the answer for it.
-use Prim.Native.Nat.{ℕ, ◌≤◌, ◌<◌}
+use Prim.Native.Nat.{ℕ, zero, suc, ◌≤◌, ◌<◌}
 use mathlib.Core.Path.{◌≡◌, refl, sym, ap, ◌∙◌, subst}
 use mathlib.Core.List.{List, []}
 use mathlib.Core.Bool.{Bool, true, cond}
@@ -8,7 +8,7 @@ use native.Mathlib.Omega.{arith}
 use lib.IntN.{ℤ, pos}
 use lib.ListN.{length, drop}
 use borrow.Author.Tests.{lt-ltb, le-ltb}
-use Rattle.model.specs.Answers.{Answer, value, refusal, map_value}
+use Rattle.model.specs.Answers.{Answer, value, refusal, refusal_of, map_value}
 use Rattle.model.specs.Limits.{max_bytes}
 use Rattle.model.specs.Books.{Book, nodes, links, types, langs, shapes}
 use Rattle.model.specs.Sizes.{counts_in, count_list}
@@ -26,7 +26,9 @@ use Rattle.stores.proofs.Books.{names-after, cells-after, values-after}
 use Rattle.model.specs.declared.Counts.{Counts}
 use Rattle.itemreader.specs.Held.{Limits}
 use Rattle.linereader.specs.Storing.{CountsFit}
-use Rattle.reader.specs.declared.LinesAnswer.{LinesAnswer}
+use Rattle.std.specs.Prelude.{Result, Ok, Err}
+use Rattle.model.specs.Refusals.{fault_of, refusal_at}
+use Rattle.model.specs.declared.Refusal.{Refusal}
 use Rattle.reader.specs.Answers.{names_left, cells_left, values_left}
 use Rattle.reader.specs.Running.{Ran}
 use Rattle.tables.proofs.Cleared.{cleared-past, cleared-same}
@@ -70,8 +72,20 @@ refusal_numbered s h r k e = ⊎_elim
     (λ t. let G = t.1 in let m = ground-numbered s G.above G.at G.ground in (m.least, m.greatest))
     (refusal_ground s r k e)
 
+-- the refusal of a line by its number
+pub refusal_by_fault : (k line : ℕ) → 2 ≤ k → k ≤ 7 → ◌≡◌ {A = Answer Counts} (refusal_of (refusal_at (fault_of k) line)) (refusal k line)
+refusal_by_fault zero line l h = absurd (omega arith)
+refusal_by_fault (suc zero) line l h = absurd (omega arith)
+refusal_by_fault (suc (suc zero)) line l h = refl
+refusal_by_fault (suc (suc (suc zero))) line l h = refl
+refusal_by_fault (suc (suc (suc (suc zero)))) line l h = refl
+refusal_by_fault (suc (suc (suc (suc (suc zero))))) line l h = refl
+refusal_by_fault (suc (suc (suc (suc (suc (suc zero)))))) line l h = refl
+refusal_by_fault (suc (suc (suc (suc (suc (suc (suc zero))))))) line l h = refl
+refusal_by_fault (suc (suc (suc (suc (suc (suc (suc (suc k)))))))) line l h = absurd (omega arith)
+
 -- ---- the lines of a book have been read, from tables that were cleared and held the built-in names
-module _ (s : List ℕ) (h : length s ≤ max_bytes) (r : LinesAnswer) (ns ns₁ ns₂ cs cs₁ cs₂ : List ℕ) (vs vs₁ vs₂ : List ℤ) (e : ns₁ ≡ built_names ns) (f : cs₁ ≡ cleared cell_count 0 cs) (g : vs₁ ≡ cleared value_count (pos 0) vs) where
+module _ (s : List ℕ) (h : length s ≤ max_bytes) (r : Result Counts Refusal) (ns ns₁ ns₂ cs cs₁ cs₂ : List ℕ) (vs vs₁ vs₂ : List ℤ) (e : ns₁ ≡ built_names ns) (f : cs₁ ≡ cleared cell_count 0 cs) (g : vs₁ ≡ cleared value_count (pos 0) vs) where
   -- an accepted book: the counts are still to be stored
   pub record Whole (n : Counts) : Type 0 where
     pub limits : Limits n
@@ -97,22 +111,18 @@ module _ (s : List ℕ) (h : length s ≤ max_bytes) (r : LinesAnswer) (ns ns₁
       }
 
   -- a refused one: the tables are still to be cleared
-  pub record Turned (k line : ℕ) : Type 0 where
-    pub least : 2 ≤ k
-    pub greatest : k ≤ 7
-    pub answer : refusal k line ≡ map_value counts_in (reading s)
+  pub record Turned (x : Refusal) : Type 0 where
+    pub answer : refusal_of x ≡ map_value counts_in (reading s)
     pub names : cleared name_count 0 ns₂ ≡ names_left (reading s) ns
     pub cells : cleared cell_count 0 cs₂ ≡ cells_left (reading s) cs
     pub values : cleared value_count (pos 0) vs₂ ≡ values_left (reading s) vs
 
-  book_turned : (k line : ℕ) → lines_from s (length s) 0 0 [] ≡ refusal k line → drop name_count ns₂ ≡ drop name_count ns₁ → drop cell_count cs₂ ≡ drop cell_count cs₁ → drop value_count vs₂ ≡ drop value_count vs₁ → Turned k line
-  book_turned k line o x y z =
+  book_turned : (x : Refusal) (k line : ℕ) → x ≡ refusal_at (fault_of k) line → lines_from s (length s) 0 0 [] ≡ refusal k line → drop name_count ns₂ ≡ drop name_count ns₁ → drop cell_count cs₂ ≡ drop cell_count cs₁ → drop value_count vs₂ ≡ drop value_count vs₁ → Turned x
+  book_turned t k line q o x y z =
       let a : reading s ≡ refusal k line = reading-short s h ∙ o in
       let m = refusal_numbered s h k line a in
       record {
-        least = m.0;
-        greatest = m.1;
-        answer = ap (map_value counts_in) (sym a);
+        answer = ap refusal_of q ∙ refusal_by_fault k line m.0 m.1 ∙ ap (map_value counts_in) (sym a);
         names = cleared-same name_count 0 ns₂ ns (x ∙ ap (drop name_count) e ∙ built_past ns) ∙ ap (λ (o : Answer Book). names_left o ns) (sym a);
         cells = cleared-same cell_count 0 cs₂ cs (y ∙ ap (drop cell_count) f ∙ cleared-past cell_count 0 cs) ∙ ap (λ (o : Answer Book). cells_left o cs) (sym a);
         values = cleared-same value_count (pos 0) vs₂ vs (z ∙ ap (drop value_count) g ∙ cleared-past value_count (pos 0) vs) ∙ ap (λ (o : Answer Book). values_left o vs) (sym a);
@@ -120,16 +130,16 @@ module _ (s : List ℕ) (h : length s ≤ max_bytes) (r : LinesAnswer) (ns ns₁
 
   -- by the answer of the loop over lines
   module _ (d : Ran (lines_from s (length s) 0 0 []) r ns₁ ns₂ cs₁ cs₂ vs₁ vs₂) where
-    pub was_read : (n : Counts) → r ≡ LinesAnswer.Read n → Whole n
+    pub was_read : (n : Counts) → r ≡ Ok n → Whole n
     was_read n q = go (lines_from s (length s) 0 0 []) refl d
       where
         go : (o : Answer Book) → lines_from s (length s) 0 0 [] ≡ o → Ran o r ns₁ ns₂ cs₁ cs₂ vs₁ vs₂ → Whole n
         go (value b) p d = let x = d.0 in book_read n b p (cc) d.1 d.2 d.3
         go (refusal k line) p d = let x = d.0 in let z : ◌≡◌ {A = ℕ} 0 1 = cc in absurd (omega arith)
 
-    pub was_turned : (k line : ℕ) → r ≡ LinesAnswer.No k line → Turned k line
-    was_turned k line q = go (lines_from s (length s) 0 0 []) refl d
+    pub was_turned : (t : Refusal) → r ≡ Err t → Turned t
+    was_turned t q = go (lines_from s (length s) 0 0 []) refl d
       where
-        go : (o : Answer Book) → lines_from s (length s) 0 0 [] ≡ o → Ran o r ns₁ ns₂ cs₁ cs₂ vs₁ vs₂ → Turned k line
+        go : (o : Answer Book) → lines_from s (length s) 0 0 [] ≡ o → Ran o r ns₁ ns₂ cs₁ cs₂ vs₁ vs₂ → Turned t
         go (value b) p d = let x = d.0 in let z : ◌≡◌ {A = ℕ} 0 1 = cc in absurd (omega arith)
-        go (refusal j i) p d = let x = d.0 in let y : ◌≡◌ {A = Answer Book} (refusal j i) (refusal k line) = cc in book_turned k line (p ∙ y) d.1 d.2 d.3
+        go (refusal j i) p d = let x = d.0 in let y : t ≡ refusal_at (fault_of j) i = cc in book_turned t j i y p d.1 d.2 d.3

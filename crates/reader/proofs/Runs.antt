@@ -36,9 +36,11 @@ use Rattle.stores.proofs.Books.{lines-names, lines-cells, lines-values, cells-cl
 use Rattle.model.specs.declared.Counts.{Counts}
 use Rattle.itemreader.specs.Held.{count_of, Limits, Held, Kinds, Indexed, name_index_count}
 use Rattle.model.specs.declared.Counts.{Counts}
-use Rattle.linereader.specs.declared.LineAnswer.{LineAnswer}
+use Rattle.std.specs.Prelude.{Result, Ok, Err}
+use Rattle.model.specs.Refusals.{fault_of, refusal_at}
+use Rattle.model.specs.declared.Fault.{Fault}
+use Rattle.model.specs.declared.Refusal.{Refusal}
 use Rattle.linereader.specs.Storing.{counted, CountsFit, Done}
-use Rattle.reader.specs.declared.LinesAnswer.{LinesAnswer}
 use Rattle.reader.specs.Running.{Started, built_in_counts, Ran}
 use Rattle.reader.specs.Indexing.{all_joined}
 use Rattle.reader.proofs.Indexing.{line-indexed}
@@ -82,7 +84,7 @@ counts-more a l =
     cc
 
 -- ---- what an answer for a line says
-module _ (a : Book) (c : Counts) (r : LineAnswer) (ns ns' cs cs' : List ℕ) (vs vs' : List ℤ) where
+module _ (a : Book) (c : Counts) (r : Result (Counts × ℕ) Fault) (ns ns' cs cs' : List ℕ) (vs vs' : List ℤ) where
   -- a line that was read and stored
   pub record Stored (x : Read Line) (next : ℕ) (m : Counts) : Type 0 where
     pub line : Line
@@ -92,23 +94,25 @@ module _ (a : Book) (c : Counts) (r : LineAnswer) (ns ns' cs cs' : List ℕ) (vs
     pub cells : cs' ≡ line_cells a line cs
     pub values : vs' ≡ line_values a line vs
 
-  pub done_next : (x : Read Line) (next : ℕ) (m : Counts) → Done a c x r ns ns' cs cs' vs vs' → r ≡ LineAnswer.Next next m → Stored x next m
+  pub done_next : (x : Read Line) (next : ℕ) (m : Counts) → Done a c x r ns ns' cs cs' vs vs' → r ≡ Ok (m, next) → Stored x next m
   done_next (got l nx) next m d e =
       let q = d.0 in
-      let i : nx ≡ next = cc in
-      record { line = l; read = ap (got l) i; counts = cc; names = d.1; cells = d.2; values = d.3 }
+      let p : ◌≡◌ {A = Counts × ℕ} (counted l c, nx) (m, next) = cc in
+      record { line = l; read = ap (λ (z : Counts × ℕ). got l z.1) p; counts = sym (ap (λ (z : Counts × ℕ). z.0) p); names = d.1; cells = d.2; values = d.3 }
   done_next (refused k) next m d e = let q = d.0 in let z : ◌≡◌ {A = ℕ} 0 1 = cc in absurd (omega arith)
 
   -- a line that was refused
-  pub record Left (x : Read Line) (k : ℕ) : Type 0 where
-    pub read : x ≡ refused k
+  pub record Left (x : Read Line) (f : Fault) : Type 0 where
+    pub number : ℕ
+    pub read : x ≡ refused number
+    pub fault : f ≡ fault_of number
     pub names : drop name_count ns' ≡ drop name_count ns
     pub cells : drop cell_count cs' ≡ drop cell_count cs
     pub values : drop value_count vs' ≡ drop value_count vs
 
-  pub done_left : (x : Read Line) (k : ℕ) → Done a c x r ns ns' cs cs' vs vs' → r ≡ LineAnswer.No k → Left x k
-  done_left (got l nx) k d e = let q = d.0 in let z : ◌≡◌ {A = ℕ} 0 1 = cc in absurd (omega arith)
-  done_left (refused j) k d e = let q = d.0 in record { read = cc; names = d.1; cells = d.2; values = d.3 }
+  pub done_left : (x : Read Line) (f : Fault) → Done a c x r ns ns' cs cs' vs vs' → r ≡ Err f → Left x f
+  done_left (got l nx) f d e = let q = d.0 in let z : ◌≡◌ {A = ℕ} 0 1 = cc in absurd (omega arith)
+  done_left (refused j) f d e = let q = d.0 in record { number = j; read = refl; fault = cc; names = d.1; cells = d.2; values = d.3 }
 
 -- ---- the loop
 -- s: the text; then each table at the start
@@ -178,8 +182,8 @@ module _ (s ns₀ cs₀ : List ℕ) (vs₀ : List ℤ) where
     runs_fits = subst CountsFit (sym R.counts) (counts-fit R.above prefix.admissible-above)
 
     -- one line more
-    module _ (r : LineAnswer) (ns' cs' : List ℕ) (vs' : List ℤ) (h : at < length s) (d : Done R.above n (line_at s R.above at) r ns ns' cs cs' vs vs') where
-      pub runs_more : (next : ℕ) (m : Counts) → r ≡ LineAnswer.Next next m → (at < next) × Runs ns' cs' vs' m next (line + 1) × ((index : List ℕ) → name_index_count ≤ length index → Indexed ns n index → Indexed ns' m (all_joined ns' n m index))
+    module _ (r : Result (Counts × ℕ) Fault) (ns' cs' : List ℕ) (vs' : List ℤ) (h : at < length s) (d : Done R.above n (line_at s R.above at) r ns ns' cs cs' vs vs') where
+      pub runs_more : (next : ℕ) (m : Counts) → r ≡ Ok (m, next) → (at < next) × Runs ns' cs' vs' m next (line + 1) × ((index : List ℕ) → name_index_count ≤ length index → Indexed ns n index → Indexed ns' m (all_joined ns' n m index))
       runs_more next m e =
           let a = R.above in
           let S = R.sane in
@@ -220,22 +224,22 @@ module _ (s ns₀ cs₀ : List ℕ) (vs₀ : List ℤ) where
       values-past = ap (drop value_count) R.values-held ∙ drop_at (flat (pos 0) (value_columns (so_far R.above))) (drop value_count vs₀) value_count (length-flat (pos 0) (value_columns (so_far R.above)))
 
       -- a refused line
-      pub runs_stop : (k : ℕ) → r ≡ LineAnswer.No k → Ran (lines_from s (length s) 0 0 []) (LinesAnswer.No k (line + 1)) ns₀ ns' cs₀ cs' vs₀ vs'
-      runs_stop k e =
+      pub runs_stop : (f : Fault) → r ≡ Err f → {t : Refusal} → t ≡ refusal_at f (line + 1) → Ran (lines_from s (length s) 0 0 []) (Err t) ns₀ ns' cs₀ cs' vs₀ vs'
+      runs_stop f e {t} q =
           let a = R.above in
-          let w = done_left a n r ns ns' cs cs' vs vs' (line_at s a at) k d e in
-          let o : lines_from s (length s) 0 0 [] ≡ refusal k (line + 1) = R.rest ∙ lines_step s at line a R.few h ∙ ap (λ (x : Read Line). follow (line + 1) x (λ l next. lines_from s (length s - (line + 1)) next (line + 1) (a ++ (l ∷ [])))) w.read in
-          subst (λ (o : Answer Book). Ran o (LinesAnswer.No k (line + 1)) ns₀ ns' cs₀ cs' vs₀ vs') (sym o) (refl, w.names ∙ names-past, w.cells ∙ cells-past, w.values ∙ values-past)
+          let w = done_left a n r ns ns' cs cs' vs vs' (line_at s a at) f d e in
+          let o : lines_from s (length s) 0 0 [] ≡ refusal w.number (line + 1) = R.rest ∙ lines_step s at line a R.few h ∙ ap (λ (x : Read Line). follow (line + 1) x (λ l next. lines_from s (length s - (line + 1)) next (line + 1) (a ++ (l ∷ [])))) w.read in
+          subst (λ (o : Answer Book). Ran o (Err t) ns₀ ns' cs₀ cs' vs₀ vs') (sym o) (ap Err (q ∙ ap (λ (g : Fault). refusal_at g (line + 1)) w.fault), w.names ∙ names-past, w.cells ∙ cells-past, w.values ∙ values-past)
 
     -- after the last line
-    pub runs_end : Started ns₀ cs₀ vs₀ → length s ≤ at → Ran (lines_from s (length s) 0 0 []) (LinesAnswer.Read n) ns₀ ns cs₀ cs vs₀ vs
+    pub runs_end : Started ns₀ cs₀ vs₀ → length s ≤ at → Ran (lines_from s (length s) 0 0 []) (Ok n) ns₀ ns cs₀ cs vs₀ vs
     unfolding cleared
     runs_end S h =
         let a = R.above in
         let v = R.sane.valid-above in
         let o : lines_from s (length s) 0 0 [] ≡ value a = R.rest ∙ lines-over s at line a (length s - line) h in
-        subst (λ (o : Answer Book). Ran o (LinesAnswer.Read n) ns₀ ns cs₀ cs vs₀ vs) (sym o) (
-          ap LinesAnswer.Read R.counts,
+        subst (λ (o : Answer Book). Ran o (Ok n) ns₀ ns cs₀ cs vs₀ vs) (sym o) (
+          ap Ok R.counts,
           R.names-held ∙ sym (ap (lines_names [] a) S.names-start ∙ lines-names a [] (drop name_count ns₀) prefix_start v),
           R.cells-held ∙ sym (ap (lines_cells [] a) (S.cells-start ∙ cells-cleared (drop cell_count cs₀)) ∙ lines-cells a [] (drop cell_count cs₀) prefix_start v),
           R.values-held ∙ sym (ap (lines_values [] a) (S.values-start ∙ values-cleared (drop value_count vs₀)) ∙ lines-values a [] (drop value_count vs₀) prefix_start v),

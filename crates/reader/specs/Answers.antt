@@ -1,7 +1,7 @@
 -- What reading answers, and what it leaves in the lent tables: 8 first, then what the grammar's reading of the book gives
 -- (of which 1 comes first).
 use Rattle.std.specs.Prelude.{ℕ, List, ◌++◌, cond, ℤ, pos, drop}
-use Rattle.model.specs.Answers.{Answer, value, refusal, refusal_of, map_value}
+use Rattle.model.specs.Answers.{Answer, value, refusal, map_value}
 use Rattle.model.specs.Books.{Book}
 use Rattle.model.specs.Sizes.{counts_in}
 use Rattle.tables.specs.Layout.{name_count, cell_count, value_count}
@@ -9,17 +9,10 @@ use Rattle.tables.specs.Sizes.{long_enough, cleared}
 use Rattle.encoding.specs.Encode.{encode_names, encode_cells, encode_values}
 use Rattle.grammar.specs.Reading.{reading}
 use Rattle.model.specs.declared.Counts.{Counts}
-use Rattle.reader.specs.declared.ReadAnswer.{ReadAnswer}
-use Rattle.reader.specs.declared.ReadAnswer.TheVariants.{Accepted, Refused}
 
 -- what stands for the counts where a book is refused
 abbrev pub no_counts : Counts
 no_counts = record { nodes = 0; links = 0; types = 0; langs = 0; shapes = 0; facts = 0; paths = 0; forms = 0; items = 0; rules = 0 }
-
--- each case of the answer: the counts of an accepted book, or the refusal
-abbrev pub answer_of : ReadAnswer → Answer Counts
-answer_of (Accepted n) = value n
-answer_of (Refused r) = refusal_of r
 
 -- ---- by the reading, in tables that are long enough
 -- the tables of the book, or zeros, up to the limit; past it what was there

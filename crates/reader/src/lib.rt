@@ -4,10 +4,9 @@
 
 ghost use Rattle.std.specs.Prelude.{◌≡◌, [], ◌≤◌, pos, length};
 ghost use Rattle.base.specs.Bytes.{bytes};
-ghost use Rattle.model.specs.Answers.{map_value};
+ghost use Rattle.model.specs.Answers.{answer_of, map_value};
 ghost use Rattle.model.specs.Books.{links, types};
 ghost use Rattle.model.specs.Sizes.{counts_in, count_list};
-ghost use Rattle.model.specs.Refusals.{code_of, line_of};
 ghost use Rattle.model.specs.Limits.{max_bytes};
 ghost use Rattle.tables.specs.Layout.{name_count, cell_count, value_count};
 ghost use Rattle.grammar.specs.Reading.{lines_from, reading};
@@ -16,50 +15,20 @@ ghost use Rattle.stores.specs.Lines.{put_name, put_counts};
 ghost use Rattle.itemreader.specs.Answers.{pool_of};
 ghost use Rattle.itemreader.specs.Held.{Limits, Indexed, name_index_count};
 ghost use Rattle.linereader.specs.Storing.{CountsFit};
-ghost use Rattle.reader.specs.Answers.{answer_of, names_left, cells_left, values_left, read_answer, names_of, cells_of, values_of};
+ghost use Rattle.reader.specs.Answers.{names_left, cells_left, values_left, read_answer, names_of, cells_of, values_of};
 ghost use Rattle.reader.specs.Running.{Started, built_in_counts, Ran};
 ghost use Rattle.reader.specs.Indexing.{pool_joined, all_joined};
 
 use bodyreader::read_line;
 use chains::link;
 use itemreader::{NAME_INDEX, NAME_PLACES, Pool, base, count, most};
-use linereader::LineAnswer;
 use model::{Counts, MAX_BYTES, NAME_BYTES, Refusal};
 use tables::layout::{
-    FACT_COUNT, FORM_COUNT, ITEM_COUNT, LANG_COUNT, LINK_COUNT, LINK_NAMES, NODE_COUNT, PATH_COUNT,
-    RULE_COUNT, SHAPE_COUNT, TYPE_COUNT, TYPE_NAMES,
+    CELLS, FACT_COUNT, FORM_COUNT, ITEM_COUNT, LANG_COUNT, LINK_COUNT, LINK_NAMES, NAMES,
+    NODE_COUNT, PATH_COUNT, RULE_COUNT, SHAPE_COUNT, TYPE_COUNT, TYPE_NAMES, VALUES,
 };
-use tables::lent::{clear_cells, clear_names, clear_values, enough};
+use tables::lent::enough;
 use text::{hash, put_name};
-
-// The counts of an accepted book; or why it is refused.
-#[derive(Clone, Copy)]
-pub enum ReadAnswer {
-    Accepted(Counts),
-    Refused(Refusal),
-}
-
-// The counts after the last line; or the number of a refusal and its line.
-#[derive(Clone, Copy)]
-pub enum LinesAnswer {
-    Read(Counts),
-    No(u8, usize),
-}
-
-// The refusal by its number.
-fn refusal(k: u8, line: usize) -> Refusal
-    requires { (2 ≤ k) × (k ≤ 7) }
-    ensures { (code_of result ≡ k) × (line_of result ≡ line) }
-{
-    match k {
-        2 => Refusal::Grammar(line),
-        3 => Refusal::Range(line),
-        4 => Refusal::Nesting(line),
-        5 => Refusal::Undefined(line),
-        6 => Refusal::Repeated(line),
-        _ => Refusal::Limit(line),
-    }
-}
 
 // Zeros in all three tables.
 fn clear(names: &mut [u8], cells: &mut [u16], values: &mut [i64])
@@ -68,9 +37,9 @@ fn clear(names: &mut [u8], cells: &mut [u16], values: &mut [i64])
     ensures new_cells { cells.new ≡ cleared cell_count 0 cells.old }
     ensures new_values { values.new ≡ cleared value_count (pos 0) values.old }
 {
-    clear_names(names);
-    clear_cells(cells);
-    clear_values(values);
+    names[..NAMES].fill(0);
+    cells[..CELLS].fill(0);
+    values[..VALUES].fill(0);
 }
 
 // The names that exist from the start: link 0 and type 0.
@@ -82,7 +51,7 @@ fn put_built_in(names: &mut [u8])
     put_name(names, TYPE_NAMES, b"langstring", 0, 10);
 }
 
-// The ten counts, from cell 0 on.
+// The ten counts, from cell 0 on: each by the name of its place, which a loop over a list of them would lose.
 fn put_counts(cells: &mut [u16], counts: Counts)
     requires { (cell_count ≤ length cells.old) × Limits counts × CountsFit counts }
     ensures { cells.new ≡ put_counts 0 (count_list counts) cells.old }
@@ -118,7 +87,7 @@ fn index_pool(index: &mut [u16], names: &[u8], before: Counts, after: Counts, po
     }
 }
 
-// The new names of all pools join their chains.
+// The new names of all pools join their chains. A call for each pool: a loop over a list of them would name them as well.
 fn index_new(index: &mut [u16], names: &[u8], before: Counts, after: Counts)
     requires { (name_index_count ≤ length index.old) × (name_count ≤ length names.now) × Limits after }
     ensures { index.new ≡ all_joined names.now before after index.old }
@@ -138,7 +107,7 @@ fn read_from(
     index: &mut [u16],
     start: Counts,
     book: &[u8],
-) -> LinesAnswer
+) -> Result<Counts, Refusal>
     requires { (name_count ≤ length names.old) × (cell_count ≤ length cells.old) × (value_count ≤ length values.old) × Started names.old cells.old values.old × (name_index_count ≤ length index.old) × (start ≡ built_in_counts) × Indexed names.old start index.old }
     ensures { Ran (lines_from book.now (length book.now) 0 0 []) result names.old names.new cells.old cells.new values.old values.new }
 {
@@ -148,46 +117,47 @@ fn read_from(
     while at < book.len() {
         line += 1;
         match read_line(names, cells, values, index, counts, book, at) {
-            LineAnswer::No(k) => {
-                return LinesAnswer::No(k, line);
+            Err(fault) => {
+                return Err(fault.at(line));
             }
-            LineAnswer::Next(next, after) => {
+            Ok((after, next)) => {
                 index_new(index, names, counts, after);
                 at = next;
                 counts = after;
             }
         }
     }
-    LinesAnswer::Read(counts)
+    Ok(counts)
 }
 
 // The lines of a book, on tables that hold the built-in names alone.
-fn read_lines(names: &mut [u8], cells: &mut [u16], values: &mut [i64], book: &[u8]) -> LinesAnswer
+fn read_lines(
+    names: &mut [u8],
+    cells: &mut [u16],
+    values: &mut [i64],
+    book: &[u8],
+) -> Result<Counts, Refusal>
     requires { (name_count ≤ length names.old) × (cell_count ≤ length cells.old) × (value_count ≤ length values.old) × Started names.old cells.old values.old }
     ensures { Ran (lines_from book.now (length book.now) 0 0 []) result names.old names.new cells.old cells.new values.old values.new }
 {
-    let none = Counts {
-        nodes: 0,
-        links: 0,
-        types: 0,
-        langs: 0,
-        shapes: 0,
-        facts: 0,
-        paths: 0,
-        forms: 0,
-        items: 0,
-        rules: 0,
+    let none = Counts::default();
+    let start = Counts {
+        links: 1,
+        types: 1,
+        ..none
     };
-    let mut start = none;
-    start.links = 1;
-    start.types = 1;
     let mut index = [0u16; NAME_INDEX];
     index_new(&mut index, names, none, start);
     read_from(names, cells, values, &mut index, start, book)
 }
 
 // A book that is not too long, into tables that are long enough.
-fn read_book(names: &mut [u8], cells: &mut [u16], values: &mut [i64], book: &[u8]) -> ReadAnswer
+fn read_book(
+    names: &mut [u8],
+    cells: &mut [u16],
+    values: &mut [i64],
+    book: &[u8],
+) -> Result<Counts, Refusal>
     requires { (length book.now ≤ max_bytes) × (name_count ≤ length names.old) × (cell_count ≤ length cells.old) × (value_count ≤ length values.old) }
     ensures result_value { answer_of result ≡ map_value counts_in (reading book.now) }
     ensures new_names { names.new ≡ names_left (reading book.now) names.old }
@@ -197,30 +167,35 @@ fn read_book(names: &mut [u8], cells: &mut [u16], values: &mut [i64], book: &[u8
     clear(names, cells, values);
     put_built_in(names);
     match read_lines(names, cells, values, book) {
-        LinesAnswer::Read(counts) => {
+        Ok(counts) => {
             put_counts(cells, counts);
-            ReadAnswer::Accepted(counts)
+            Ok(counts)
         }
-        LinesAnswer::No(k, line) => {
+        Err(refusal) => {
             clear(names, cells, values);
-            ReadAnswer::Refused(refusal(k, line))
+            Err(refusal)
         }
     }
 }
 
 // The answer, and each table afterwards, for any bytes and any lent tables.
-pub fn read(book: &[u8], names: &mut [u8], cells: &mut [u16], values: &mut [i64]) -> ReadAnswer
+pub fn read(
+    book: &[u8],
+    names: &mut [u8],
+    cells: &mut [u16],
+    values: &mut [i64],
+) -> Result<Counts, Refusal>
     ensures result_value { answer_of result ≡ read_answer book.now names.old cells.old values.old }
     ensures new_names { names.new ≡ names_of book.now names.old cells.old values.old }
     ensures new_cells { cells.new ≡ cells_of book.now names.old cells.old values.old }
     ensures new_values { values.new ≡ values_of book.now names.old cells.old values.old }
 {
     if !enough(names, cells, values) {
-        return ReadAnswer::Refused(Refusal::Short);
+        return Err(Refusal::Short);
     }
     if MAX_BYTES < book.len() {
         clear(names, cells, values);
-        return ReadAnswer::Refused(Refusal::TooLong);
+        return Err(Refusal::TooLong);
     }
     read_book(names, cells, values, book)
 }

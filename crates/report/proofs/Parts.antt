@@ -1,18 +1,20 @@
 -- The parts of the report by tables and lists, as they are tested and written.
 use Prim.Native.Nat.{ℕ, zero, suc, ◌+◌, ◌-◌, ◌*◌, ◌<◌, ◌≤◌}
 use mathlib.Core.List.{List, [], ◌∷◌, ◌++◌, map, append-nil, append_assoc}
-use mathlib.Core.Bool.{Bool, true, false, ◌&&◌, and-true}
+use mathlib.Core.Bool.{Bool, true, false, ◌&&◌, and-true, and_comm}
 use mathlib.Core.Path.{◌≡◌, refl, sym, ap, ◌∙◌}
 use native.Mathlib.Numerals.{add-one}
 use native.Mathlib.Omega.{arith}
-use lib.Dec.{ltb, leb}
-use lib.ListN.{length, get_or, take, drop, drop_of_length-le}
-use lib.Seq.{take-suc, drop-cons}
+use lib.Dec.{ltb, leb, leb-suc-suc}
+use lib.ListN.{length, get_or, take, drop, length-take}
+use lib.Seq.{take-suc}
+use Rattle.std.specs.List.{sum, list_all}
+use Rattle.std.proofs.lemmas.List.Sums.{sum_by_more}
 use borrow.Author.Tests.{lt-ltb, le-ltb, le-leb, lt-leb, eq-eqb, ne_eqb, leb-true, ltb-true}
 use Rattle.base.specs.Bounded.{every}
 use Rattle.base.specs.Lists.{allb}
 use Rattle.base.proofs.Bools.{and_left, and_right}
-use Rattle.base.proofs.Lists.{allb_weaker}
+use Rattle.base.proofs.Lists.{allb_append, allb_weaker}
 use Rattle.model.specs.Books.{Name}
 use Rattle.model.specs.Limits.{max_nodes}
 use Rattle.tables.specs.Layout.{node_count, fact_count, rule_count}
@@ -21,28 +23,30 @@ use Rattle.report.specs.Report.{head_line, break_line, break_lines, found_line}
 use Rattle.report.specs.Pages.{found_in, part_in, length_ok, row_ok, report_part_ok}
 use Rattle.tables.specs.Names.{node_name_at}
 
--- ---- how many nodes are listed: one rule more
-pub found_none : (ks : List ℕ) → 0 ≡ found_in ks 0
+-- ---- what the code looks at: a list from its front on
+-- how many nodes are listed is a sum
+pub found_sum : (ks : List ℕ) (n : ℕ) → n ≤ length ks → sum (take n ks) ≡ found_in ks n
 unfolding found_in
-found_none ks = refl
+found_sum ks zero h = refl
+found_sum ks (suc n) h = ap (λ (k : ℕ). sum (take k ks)) (sym (add-one n)) ∙ (sum_by_more (λ x. x) ks n 0 (omega arith) ∙ ap (λ (k : ℕ). k + get_or ks n 0) (found_sum ks n (omega arith)))
 
-pub found-more : (ks : List ℕ) (i : ℕ) → found_in ks i + get_or ks i 0 ≡ found_in ks (i + 1)
-unfolding found_in
-found-more ks i = ap (found_in ks) (sym (add-one i))
+-- `allb` is the library's test of every element
+pub all_is : (p : ℕ → Bool) (xs : List ℕ) → list_all p xs ≡ allb p xs
+unfolding allb
+all_is p [] = refl
+all_is p (x ∷ xs) = ap (λ (b : Bool). p x && b) (all_is p xs)
 
--- ---- a test of every element, from place i on
-module _ (p : ℕ → Bool) (l : List ℕ) (i : ℕ) where
-  pub all-step : i < length l → p (get_or l i 0) ≡ true → allb p (drop i l) ≡ allb p (drop (i + 1) l)
-  unfolding allb
-  all-step h e = ap (allb p) (drop-cons l i 0 h) ∙ (ap (λ (b : Bool). b && allb p (drop (suc i) l)) e ∙ ap (λ (k : ℕ). allb p (drop k l)) (sym (add-one i)))
-
-  pub all-fails : i < length l → p (get_or l i 0) ≡ false → allb p (drop i l) ≡ false
-  unfolding allb
-  all-fails h e = ap (allb p) (drop-cons l i 0 h) ∙ ap (λ (b : Bool). b && allb p (drop (suc i) l)) e
-
-  pub all_done : length l ≤ i → allb p (drop i l) ≡ true
-  unfolding allb
-  all_done h = ap (allb p) (drop_of_length-le l h)
+-- the lengths are in their limit: each number of a list is
+pub lengths_below : (ks : List ℕ) (n : ℕ) → n ≤ length ks → allb (λ k. ltb k (max_nodes + 1)) (take n ks) ≡ every (length_ok ks) n
+unfolding allb every
+lengths_below ks zero h = refl
+lengths_below ks (suc n) h =
+    let p : ℕ → Bool = λ k. ltb k (max_nodes + 1) in
+    ap (allb p) (take-suc ks n 0 h)
+    ∙ (allb_append p (take n ks) (get_or ks n 0 ∷ [])
+    ∙ (ap (λ (b : Bool). b && (ltb (get_or ks n 0) (max_nodes + 1) && true)) (lengths_below ks n (omega arith))
+    ∙ (ap (λ (b : Bool). every (length_ok ks) n && b) (and-true (ltb (get_or ks n 0) (max_nodes + 1)) ∙ leb-suc-suc (get_or ks n 0) max_nodes)
+    ∙ and_comm (every (length_ok ks) n) (length_ok ks n))))
 
 -- ---- the lines of a rule: one node more
 pub lines_none : (r : ℕ) → [] ≡ break_lines r []
@@ -111,6 +115,11 @@ module _ (cs ls ks : List ℕ) where
     -- of any tables that are well formed
     pub row_below : node_count cs ≤ max_nodes → allb (λ v. ltb v max_nodes) (row_in ls ks r) ≡ true
     row_below few = allb_weaker (λ v. ltb v (node_count cs)) (λ v. ltb v max_nodes) (row_in ls ks r) (λ v e. let h = ltb-true v (node_count cs) e in lt-ltb v max_nodes (omega arith)) row-nodes
+
+-- a row is as long as it is said to be, at most
+pub row_few : (ls ks : List ℕ) (r : ℕ) → length (row_in ls ks r) ≤ get_or ks r 0
+unfolding row_in
+row_few ls ks r = omega (arith, length-take (get_or ks r 0) (drop (max_nodes * r) ls))
 
 -- the row as it is lent
 pub row-lent : (ls ks : List ℕ) (r n : ℕ) → n ≡ get_or ks r 0 → take (max_nodes * r + n - max_nodes * r) (drop (max_nodes * r) ls) ≡ row_in ls ks r

@@ -1,19 +1,12 @@
 -- What writing a part of the report answers, and what it leaves on the lent page.
 use Rattle.std.specs.Prelude.{ℕ, ◌+◌, List, Bool, true, ◌&&◌, leb, ℤ, length, take}
-use Rattle.model.specs.Answers.{Answer, value, refusal_of, checked, unless_refused}
+use Rattle.model.specs.Answers.{Answer, checked, unless_refused}
 use Rattle.tables.specs.Layout.{cell_count, rule_count}
 use Rattle.tables.specs.Sizes.{long_enough}
 use Rattle.tables.specs.WellFormed.{well_formed}
 use Rattle.lists.specs.Rows.{list_count, length_count, over}
 use Rattle.report.specs.Report.{refusal_report}
 use Rattle.report.specs.Pages.{page_count, refusal_count, part_in, report_part_ok}
-use Rattle.report.specs.declared.Page.{Page}
-use Rattle.report.specs.declared.Page.TheVariants.{Bytes, Refused}
-
--- each case of the answer: how many bytes are written, or the refusal
-abbrev pub answer_of : Page → Answer ℕ
-answer_of (Bytes n) = value n
-answer_of (Refused r) = refusal_of r
 
 -- names, cells, values, lists, lengths and a page, as they are lent; each counts up to its limit. All are long enough:
 unfoldable pub part_long : (ns cs : List ℕ) (vs : List ℤ) (ls ks page : List ℕ) → Bool

@@ -8,6 +8,7 @@ use Rattle.tables.specs.Layout.{node_count, fact_count, rule_count}
 use Rattle.tables.specs.Names.{node_name_at}
 use Rattle.lists.specs.Rows.{row_in}
 use Rattle.report.specs.Report.{head_line, break_lines, found_line}
+use Rattle.report.specs.declared.Page.{Page}
 
 -- the longest line of a node: its word, two digits of a rule, a name, two spaces, two brackets and LF
 abbrev pub break_bytes : ℕ
@@ -50,3 +51,11 @@ pub record Put (before after : List ℕ) (at : ℕ) (text : List ℕ) (end : ℕ
   pub written : after ≡ sets before at text
   pub ends : end ≡ at + length text
   pub inside : end ≤ length before
+
+-- so many bytes fit after what is written on a page
+abbrev pub Room : Page → ℕ → Type 0
+Room p n = p.at + n ≤ length p.bytes.now
+
+-- a text is written after it
+abbrev pub Wrote : (before after : Page) → List ℕ → Type 0
+Wrote p q text = Put p.bytes.now q.bytes.now p.at text q.at

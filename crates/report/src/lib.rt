@@ -2,20 +2,20 @@
 // Operations: report_part, a part of the report of a book; report_refusal, the report of a refusal.
 #![tactic(auto)]
 
-ghost use Rattle.std.specs.Prelude.{◌≡◌, true, ◌∷◌, map, ◌+◌, ◌*◌, ◌<◌, ◌≤◌, length, get_or, take, drop, ltb};
-ghost use Rattle.base.specs.Bounded.{every};
+ghost use Rattle.std.specs.List.{position, list_all};
+ghost use Rattle.std.specs.Prelude.{◌≡◌, ◌==◌, true, [], ◌∷◌, map, sum, ◌+◌, ◌<◌, ◌≤◌, length, get_or, ltb};
 ghost use Rattle.base.specs.Lists.{allb};
 ghost use Rattle.text.specs.Decimals.{decimal};
-ghost use Rattle.model.specs.Answers.{value_or};
+ghost use Rattle.model.specs.Answers.{answer_of, value_or};
 ghost use Rattle.model.specs.Refusals.{code_of, line_of};
-ghost use Rattle.model.specs.Limits.{max_nodes, max_rules, max_name, name_bytes};
+ghost use Rattle.model.specs.Limits.{max_nodes, max_rules, max_name};
 ghost use Rattle.tables.specs.Layout.{name_count};
 ghost use Rattle.tables.specs.WellFormed.{well_formed};
 ghost use Rattle.lists.specs.Rows.{list_count, length_count, row_in};
-ghost use Rattle.report.specs.Report.{head_line, break_line, break_lines, found_line, refusal_report};
-ghost use Rattle.report.specs.Pages.{page_count, found_in, part_in, length_ok, row_ok, report_part_ok, Put, break_bytes};
+ghost use Rattle.report.specs.Report.{line, break_line, break_lines};
+ghost use Rattle.report.specs.Pages.{page_count, found_in, part_in, row_ok, report_part_ok, Room, Wrote};
 ghost use Rattle.tables.specs.Names.{node_name_at};
-ghost use Rattle.report.specs.Answers.{answer_of, part_long, part_formed, part_answer, part_after, refusal_answer, refusal_after};
+ghost use Rattle.report.specs.Answers.{part_long, part_formed, part_answer, part_after, refusal_answer, refusal_after};
 
 use lists::{LENGTH_PLACES, LIST_PLACES};
 use model::{MAX_NAME, MAX_NODES, NAME_BYTES, NodeNo, Refusal, code, line};
@@ -33,245 +33,207 @@ pub const PAGE_BYTES: usize = MAX_NODES * BREAK_BYTES;
 // The report of a refusal: one digit of its number and twenty of its line, since 10 has no line.
 pub const REFUSAL_BYTES: usize = 33;
 
-// How many bytes stand on the page; or why there are none.
+// The lists of the rules and their lengths, each as long as its limit.
 #[derive(Clone, Copy)]
-pub enum Page {
-    Bytes(usize),
-    Refused(Refusal),
+struct Lists<'a> {
+    rows: &'a [u16],
+    lengths: &'a [u16],
+    ghost rows_long: { list_count ≤ length rows.now },
+    ghost lengths_long: { length_count ≤ length lengths.now },
 }
 
-// A text on the page from at on; where it ends.
-fn put_bytes(page: &mut [u8], at: usize, text: &[u8]) -> usize
-    requires { at + length text.now ≤ length page.old }
-    ensures { Put page.old page.new at text.now result }
-{
-    let mut i = 0;
-    while i < text.len() {
-        page[at + i] = text[i];
-        i += 1;
+impl<'a> Lists<'a> {
+    // The list of rule r.
+    fn row(self, r: usize) -> &'a [u16]
+        requires { (r < max_rules) × (get_or self.lengths.now r 0 ≤ max_nodes) }
+        ensures { result.now ≡ row_in self.entry.rows.now self.entry.lengths.now r }
+    {
+        let first = MAX_NODES * r;
+        let end = first + wide(self.lengths[r]);
+        &self.rows[first..end]
     }
-    at + i
-}
 
-// The digits before the last, then the last.
-fn put_decimal(page: &mut [u8], at: usize, n: usize) -> usize
-    requires { at + length (decimal n) ≤ length page.old }
-    ensures { Put page.old page.new at (decimal n) result }
-{
-    if n < 10 {
-        page[at] = 48 + n as u8;
-        return at + 1;
+    // How many nodes the first n rules list.
+    fn total(self, n: usize) -> usize
+        requires { n ≤ max_rules }
+        ensures { result ≡ found_in self.entry.lengths.now n }
+    {
+        sum_of(&self.lengths[..n])
     }
-    let end = put_decimal(page, at, n / 10);
-    page[end] = 48 + (n % 10) as u8;
-    end + 1
-}
 
-// A space and a number.
-fn put_number(page: &mut [u8], at: usize, n: usize) -> usize
-    requires { at + 1 + length (decimal n) ≤ length page.old }
-    ensures { Put page.old page.new at (32 ∷ decimal n) result }
-{
-    let start = put_bytes(page, at, b" ");
-    put_decimal(page, start, n)
-}
-
-// How many bytes the stored name of node v has.
-fn name_length(names: &[u8], v: NodeNo) -> usize
-    requires { (v.0 < max_nodes) × (name_count ≤ length names.now) }
-    ensures names_value { take result (drop (name_bytes * v.0) names.now) ≡ node_name_at names.now v.0 }
-    ensures upper_bound { result ≤ max_name }
-{
-    let first = NAME_BYTES * (v.0 as usize);
-    let mut j = 0;
-    while j < MAX_NAME {
-        if names[first + j] == 0 {
-            return j;
+    // The list of rule r has no ground for refusal 9.
+    fn row_ok(self, cells: &[u16], r: usize) -> bool
+        requires { r < max_rules }
+        ensures { result ≡ row_ok cells.now self.entry.rows.now self.entry.lengths.now r }
+    {
+        if MAX_NODES < wide(self.lengths[r]) {
+            return false;
         }
-        j += 1;
+        all_below(self.row(r), node_count(cells))
     }
-    j
+
+    // Refusal 9 is for tables and lists of which this is false.
+    fn part_ok(self, cells: &[u16], part: usize) -> bool
+        ensures { result ≡ part_formed cells.now self.entry.rows.now self.entry.lengths.now part }
+    {
+        if !well_formed(cells) {
+            return false;
+        }
+        if part == 0 {
+            return true;
+        }
+        let rules = rule_count(cells);
+        if part <= rules {
+            return self.row_ok(cells, part - 1);
+        }
+        if rules + 1 < part {
+            return true;
+        }
+        all_below(&self.lengths[..rules], MAX_NODES + 1)
+    }
 }
 
-// A space and the name of node v.
-fn put_name(page: &mut [u8], at: usize, names: &[u8], v: NodeNo) -> usize
-    requires { (at + (max_name + 1) ≤ length page.old) × (v.0 < max_nodes) × (name_count ≤ length names.now) }
-    ensures put { Put page.old page.new at (32 ∷ node_name_at names.now v.0) result }
-    ensures upper_bound { result ≤ at + (max_name + 1) }
+// A page that is written from its front on: its bytes, and how many of them are written. Numbers are put by hand: `write!` says
+// what it writes only where it succeeds, and no contract of the library says that it does where there is room.
+#[derive(Drop)]
+struct Page<'a> {
+    bytes: &'a mut [u8],
+    at: usize,
+}
+
+impl Page<'_> {
+    // A text, after what is written.
+    fn put(&mut self, text: &[u8])
+        requires { Room self.old (length text.now) }
+        ensures same_reference { self.new.bytes.ghost_name ≡ self.old.bytes.ghost_name }
+        ensures put { Wrote self.old self.new text.now }
+    {
+        let end = self.at + text.len();
+        self.bytes[self.at..end].copy_from_slice(text);
+        self.at = end;
+    }
+
+    fn digit(&mut self, d: usize)
+        requires { (d < 10) × Room self.old 1 }
+        ensures same_reference { self.new.bytes.ghost_name ≡ self.old.bytes.ghost_name }
+        ensures put { Wrote self.old self.new ((48 + d) ∷ []) }
+    {
+        self.put(&[b'0' + d as u8]);
+    }
+
+    // The digits before the last, then the last.
+    fn decimal(&mut self, n: usize)
+        requires { Room self.old (length (decimal n)) }
+        ensures same_reference { self.new.bytes.ghost_name ≡ self.old.bytes.ghost_name }
+        ensures put { Wrote self.old self.new (decimal n) }
+    {
+        if n < 10 {
+            return self.digit(n);
+        }
+        self.decimal(n / 10);
+        self.digit(n % 10);
+    }
+
+    // A space and a number.
+    fn number(&mut self, n: usize)
+        requires { Room self.old (1 + length (decimal n)) }
+        ensures same_reference { self.new.bytes.ghost_name ≡ self.old.bytes.ghost_name }
+        ensures put { Wrote self.old self.new (32 ∷ decimal n) }
+    {
+        self.put(b" ");
+        self.decimal(n);
+    }
+
+    // The line of a word and numbers.
+    fn line(&mut self, word: &[u8], ns: &[usize])
+        requires { Room self.old (length (line word.now (map decimal ns.now))) }
+        ensures same_reference { self.new.bytes.ghost_name ≡ self.old.bytes.ghost_name }
+        ensures put { Wrote self.old self.new (line word.now (map decimal ns.now)) }
+    {
+        self.put(b"(");
+        self.put(word);
+        for n in ns {
+            self.number(*n);
+        }
+        self.put(b")\n");
+    }
+
+    // The line of a node under rule r, by its name.
+    fn break_line(&mut self, r: usize, name: &[u8])
+        requires { Room self.old (length (break_line r name.now)) }
+        ensures same_reference { self.new.bytes.ghost_name ≡ self.old.bytes.ghost_name }
+        ensures put { Wrote self.old self.new (break_line r name.now) }
+    {
+        self.put(b"(breaks");
+        self.number(r);
+        self.put(b" ");
+        self.put(name);
+        self.put(b")\n");
+    }
+
+    // The lines of rule r, whose list is lent.
+    fn break_lines(&mut self, names: &[u8], list: &[u16], r: usize)
+        requires { Room self.old page_count × (name_count ≤ length names.now) × (length list.now ≤ max_nodes) × (allb (λ v. ltb v max_nodes) list.now ≡ true) × (r < max_rules) }
+        ensures same_reference { self.new.bytes.ghost_name ≡ self.old.bytes.ghost_name }
+        ensures put { Wrote self.old self.new (break_lines r (map (node_name_at names.now) list.now)) }
+    {
+        for v in list {
+            self.break_line(r, stored_name(names, NodeNo(*v)));
+        }
+    }
+
+    // A part of the report, by its number.
+    fn part(&mut self, names: &[u8], cells: &[u16], lists: Lists, part: usize)
+        requires { Room self.old page_count × (name_count ≤ length names.now) × (well_formed cells.now ≡ true) × (report_part_ok cells.now lists.rows.now lists.lengths.now part ≡ true) }
+        ensures same_reference { self.new.bytes.ghost_name ≡ self.old.bytes.ghost_name }
+        ensures put { Wrote self.old self.new (part_in names.now cells.now lists.entry.rows.now lists.entry.lengths.now part) }
+    {
+        let rules = rule_count(cells);
+        if part == 0 {
+            return self.line(b"book", &[node_count(cells), fact_count(cells), rules]);
+        }
+        if rules < part {
+            return self.line(b"found", &[lists.total(rules)]);
+        }
+        let r = part - 1;
+        self.break_lines(names, lists.row(r), r);
+    }
+}
+
+fn first_zero(text: &[u8]) -> Option<usize>
+    ensures { result ≡ position (λ b. b == 0) text.now }
 {
-    let start = put_bytes(page, at, b" ");
-    let n = name_length(names, v);
+    text.iter().position(|b| *b == 0)
+}
+
+// The stored name of node v.
+fn stored_name(names: &[u8], v: NodeNo) -> &[u8]
+    requires { (v.0 < max_nodes) × (name_count ≤ length names.now) }
+    ensures name { result.now ≡ node_name_at names.now v.0 }
+    ensures upper_bound { length result.now ≤ max_name }
+{
     let first = NAME_BYTES * (v.0 as usize);
-    let end = first + n;
-    put_bytes(page, start, &names[first..end])
+    let place = &names[first..first + MAX_NAME];
+    let n = first_zero(place).unwrap_or(MAX_NAME);
+    &place[..n]
 }
 
-// The line of node v under rule r.
-fn put_break(page: &mut [u8], at: usize, r: usize, names: &[u8], v: NodeNo) -> usize
-    requires { (at + break_bytes ≤ length page.old) × (r < max_rules) × (v.0 < max_nodes) × (name_count ≤ length names.now) }
-    ensures put { Put page.old page.new at (break_line r (node_name_at names.now v.0)) result }
-    ensures upper_bound { result ≤ at + break_bytes }
+fn sum_of(list: &[u16]) -> usize
+    requires { length list.now ≤ max_rules }
+    ensures { result ≡ sum list.now }
 {
-    let word = put_bytes(page, at, b"(breaks");
-    let number = put_number(page, word, r);
-    let name = put_name(page, number, names, v);
-    put_bytes(page, name, b")\n")
-}
-
-// The lines of rule r, whose list is lent.
-fn put_breaks(page: &mut [u8], names: &[u8], list: &[u16], r: usize) -> usize
-    requires { (page_count ≤ length page.old) × (name_count ≤ length names.now) × (length list.now ≤ max_nodes) × (allb (λ v. ltb v max_nodes) list.now ≡ true) × (r < max_rules) }
-    ensures { Put page.old page.new 0 (break_lines r (map (node_name_at names.now) list.now)) result }
-{
-    let mut at = 0;
-    let mut i = 0;
-    while i < list.len() {
-        at = put_break(page, at, r, names, NodeNo(list[i]));
-        i += 1;
-    }
-    at
-}
-
-// The first line.
-fn put_head(page: &mut [u8], nodes: usize, facts: usize, rules: usize) -> usize
-    requires { page_count ≤ length page.old }
-    ensures { Put page.old page.new 0 (head_line nodes facts rules) result }
-{
-    let word = put_bytes(page, 0, b"(book");
-    let first = put_number(page, word, nodes);
-    let second = put_number(page, first, facts);
-    let third = put_number(page, second, rules);
-    put_bytes(page, third, b")\n")
-}
-
-// The last line.
-fn put_found(page: &mut [u8], count: usize) -> usize
-    requires { page_count ≤ length page.old }
-    ensures { Put page.old page.new 0 (found_line count) result }
-{
-    let word = put_bytes(page, 0, b"(found");
-    let number = put_number(page, word, count);
-    put_bytes(page, number, b")\n")
-}
-
-// The line of a refusal.
-fn put_refusal(page: &mut [u8], number: usize, at: usize) -> usize
-    requires { 12 + length (decimal number) + length (decimal at) ≤ length page.old }
-    ensures { Put page.old page.new 0 (refusal_report number at) result }
-{
-    let word = put_bytes(page, 0, b"(refused");
-    let first = put_number(page, word, number);
-    let second = put_number(page, first, at);
-    put_bytes(page, second, b")\n")
-}
-
-// How many nodes the first n rules list.
-fn total(lengths: &[u16], n: usize) -> usize
-    requires { (n ≤ max_rules) × (length_count ≤ length lengths.now) }
-    ensures { result ≡ found_in lengths.now n }
-{
-    let mut sum = 0;
-    for i in 0..n {
-        sum += wide(lengths[i]);
-    }
-    sum
-}
-
-// The lines of rule r, from its row.
-fn put_rule(page: &mut [u8], names: &[u8], lists: &[u16], lengths: &[u16], r: usize) -> usize
-    requires { (page_count ≤ length page.old) × (name_count ≤ length names.now) × (list_count ≤ length lists.now) × (length_count ≤ length lengths.now) × (r < max_rules) × (get_or lengths.now r 0 ≤ max_nodes) × (allb (λ v. ltb v max_nodes) (row_in lists.now lengths.now r) ≡ true) }
-    ensures { Put page.old page.new 0 (break_lines r (map (node_name_at names.now) (row_in lists.now lengths.now r))) result }
-{
-    let first = MAX_NODES * r;
-    let end = first + wide(lengths[r]);
-    put_breaks(page, names, &lists[first..end], r)
-}
-
-// A part of the report, by its number.
-fn put_part(
-    page: &mut [u8],
-    names: &[u8],
-    cells: &[u16],
-    lists: &[u16],
-    lengths: &[u16],
-    part: usize,
-) -> usize
-    requires { (page_count ≤ length page.old) × (name_count ≤ length names.now) × (list_count ≤ length lists.now) × (length_count ≤ length lengths.now) × (well_formed cells.now ≡ true) × (report_part_ok cells.now lists.now lengths.now part ≡ true) }
-    ensures { Put page.old page.new 0 (part_in names.now cells.now lists.now lengths.now part) result }
-{
-    let rules = rule_count(cells);
-    if part == 0 {
-        return put_head(page, node_count(cells), fact_count(cells), rules);
-    }
-    if rules < part {
-        return put_found(page, total(lengths, rules));
-    }
-    put_rule(page, names, lists, lengths, part - 1)
+    list.iter().map(|k| wide(*k)).sum()
 }
 
 // Every number of a list is below n.
 fn all_below(list: &[u16], n: usize) -> bool
-    ensures { result ≡ allb (λ v. ltb v n) list.now }
+    ensures { result ≡ list_all (λ v. ltb v n) list.now }
 {
-    let mut i = 0;
-    while i < list.len() {
-        if n <= wide(list[i]) {
-            return false;
-        }
-        i += 1;
-    }
-    true
-}
-
-// The list of rule r has no ground for refusal 9.
-fn row_ok(cells: &[u16], lists: &[u16], lengths: &[u16], r: usize) -> bool
-    requires { (r < max_rules) × (list_count ≤ length lists.now) × (length_count ≤ length lengths.now) }
-    ensures { result ≡ row_ok cells.now lists.now lengths.now r }
-{
-    let n = wide(lengths[r]);
-    if MAX_NODES < n {
-        return false;
-    }
-    let first = MAX_NODES * r;
-    let end = first + n;
-    all_below(&lists[first..end], node_count(cells))
-}
-
-// The lengths of the first n rules are in their limit.
-fn lengths_ok(lengths: &[u16], n: usize) -> bool
-    requires { n ≤ length lengths.now }
-    ensures { result ≡ every (length_ok lengths.now) n }
-{
-    for i in 0..n {
-        if MAX_NODES < wide(lengths[i]) {
-            return false;
-        }
-    }
-    true
-}
-
-// Refusal 9 is for tables and lists of which this is false.
-fn part_ok(cells: &[u16], lists: &[u16], lengths: &[u16], part: usize) -> bool
-    requires { (list_count ≤ length lists.now) × (length_count ≤ length lengths.now) }
-    ensures { result ≡ part_formed cells.now lists.now lengths.now part }
-{
-    if !well_formed(cells) {
-        return false;
-    }
-    if part == 0 {
-        return true;
-    }
-    let rules = rule_count(cells);
-    if part <= rules {
-        return row_ok(cells, lists, lengths, part - 1);
-    }
-    if rules + 1 < part {
-        return true;
-    }
-    lengths_ok(lengths, rules)
+    list.iter().all(|v| wide(*v) < n)
 }
 
 // Refusal 8 is for slices of which this is false.
+#[tactic(auto, unfolding(crate::specs::Answers::part_long))]
 fn long_enough(
     names: &[u8],
     cells: &[u16],
@@ -283,8 +245,9 @@ fn long_enough(
     ensures { result ≡ part_long names.now cells.now values.now lists.now lengths.now page.now }
 {
     enough(names, cells, values)
-        & ((LIST_PLACES <= lists.len())
-            & ((LENGTH_PLACES <= lengths.len()) & (PAGE_BYTES <= page.len())))
+        && LIST_PLACES <= lists.len()
+        && LENGTH_PLACES <= lengths.len()
+        && PAGE_BYTES <= page.len()
 }
 
 // The operation: a part of the report at the front of a lent page; what lies past it stays. Part 0 is the first line, parts 1
@@ -299,33 +262,44 @@ pub fn report_part(
     lengths: &[u16],
     part: usize,
     page: &mut [u8],
-) -> Page
+) -> Result<usize, Refusal>
     ensures result_value { answer_of result ≡ part_answer names.now cells.now values.now lists.now lengths.now part page.old }
     ensures new_page { page.new ≡ part_after names.now cells.now values.now lists.now lengths.now part page.old }
     ensures result_in_bounds { value_or 0 (answer_of result) ≤ length page.old }
 {
     if !long_enough(names, cells, values, lists, lengths, &page[..]) {
-        return Page::Refused(Refusal::Short);
+        return Err(Refusal::Short);
     }
     let cs = &cells[..CELLS];
-    if !part_ok(cs, lists, lengths, part) {
-        return Page::Refused(Refusal::Malformed);
+    let held = Lists {
+        rows: lists,
+        lengths,
+    };
+    if !held.part_ok(cs, part) {
+        return Err(Refusal::Malformed);
     }
     if rule_count(cs) + 1 < part {
-        return Page::Refused(Refusal::Absent);
+        return Err(Refusal::Absent);
     }
-    Page::Bytes(put_part(page, names, cs, lists, lengths, part))
+    let mut written = Page { bytes: page, at: 0 };
+    written.part(names, cs, held, part);
+    Ok(written.at)
 }
 
 // The operation: the report of a refusal at the front of lent space; what lies past it stays. Refused: space too short, and
 // nothing changes then.
-pub fn report_refusal(refusal: Refusal, space: &mut [u8]) -> Page
+pub fn report_refusal(refusal: Refusal, space: &mut [u8]) -> Result<usize, Refusal>
     ensures result_value { answer_of result ≡ refusal_answer (code_of refusal) (line_of refusal) space.old }
     ensures new_space { space.new ≡ refusal_after (code_of refusal) (line_of refusal) space.old }
     ensures result_in_bounds { value_or 0 (answer_of result) ≤ length space.old }
 {
     if space.len() < REFUSAL_BYTES {
-        return Page::Refused(Refusal::Short);
+        return Err(Refusal::Short);
     }
-    Page::Bytes(put_refusal(space, code(refusal), line(refusal)))
+    let mut written = Page {
+        bytes: space,
+        at: 0,
+    };
+    written.line(b"refused", &[code(refusal), line(refusal)]);
+    Ok(written.at)
 }

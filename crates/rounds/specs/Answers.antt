@@ -1,7 +1,7 @@
 -- What is answered to the question how many rounds a search takes: their number, or a refusal (document 02, Job 7).
 use Rattle.std.specs.Prelude.{ℕ, suc, ◌<◌, List, Bool, true, false, ◌&&◌, ◌≡◌, ltb, ℤ, take}
 use Rattle.base.specs.Bounded.{size}
-use Rattle.model.specs.Answers.{Answer, value, refusal_of, checked}
+use Rattle.model.specs.Answers.{Answer, checked}
 use Rattle.model.specs.Limits.{max_nodes}
 use Rattle.model.specs.Paths.{ends, zero_or_more}
 use Rattle.model.specs.Repeats.{up_to}
@@ -10,13 +10,6 @@ use Rattle.tables.specs.Layout.{cell_count, node_count, path_count}
 use Rattle.tables.specs.Decode.{triples_at, path_at}
 use Rattle.tables.specs.WellFormed.{well_formed}
 use Rattle.tables.specs.Sizes.{long_enough}
-use Rattle.rounds.specs.declared.Searched.{Searched}
-use Rattle.rounds.specs.declared.Searched.TheVariants.{Rounds, Refused}
-
--- each case of the answer: the rounds, or the refusal
-abbrev pub answer_of : Searched → Answer ℕ
-answer_of (Rounds k) = value k
-answer_of (Refused r) = refusal_of r
 
 -- cells of tables in their limits: they have the node and the path entry
 abbrev pub has_both : List ℕ → (node path : ℕ) → Bool

@@ -13,11 +13,12 @@ ghost use Rattle.model.specs.Paths.{ends};
 ghost use Rattle.tables.specs.Layout.{cell_count, node_count, path_count};
 ghost use Rattle.tables.specs.Decode.{triples_at, path_at};
 ghost use Rattle.tables.specs.WellFormed.{well_formed};
-ghost use Rattle.paths.specs.Facts.{Tables};
-ghost use Rattle.rounds.specs.Answers.{answer_of, rounds_at, rounds_answer};
+ghost use Rattle.model.specs.Answers.{answer_of};
+ghost use Rattle.rounds.specs.Answers.{rounds_at, rounds_answer};
 
+use closure::Relation;
 use model::{NodeNo, Refusal};
-use paths::{End, INDEX_CELLS, ROWS_WORDS, index_table};
+use paths::{End, INDEX_CELLS, Indexed, ROWS_WORDS, index_table};
 use reach::search;
 use rows::all_table_ends;
 use tablecheck::well_formed;
@@ -26,49 +27,57 @@ use tables::lent::enough;
 use tables::reads::{node_count, path_count};
 
 // The rows, which are empty, become the ends of path entry e.
-pub fn path_rows(rows: &mut [u64], cells: &[u16], index: &[u16], e: usize)
-    requires { (rows.old ≡ replicate (16 * max_nodes) 0) × Tables cells.now index.now × (e < path_count cells.now) }
-    ensures { rows.new ≡ rows_of (node_count cells.now) (ends (node_count cells.now) (triples_at cells.now) (path_at cells.now e)) (16 * max_nodes) }
+pub fn path_rows(rows: &mut [u64], tables: Indexed, e: usize)
+    requires { (rows.old ≡ replicate (16 * max_nodes) 0) × (e < path_count tables.cells.now) }
+    ensures { rows.new ≡ rows_of (node_count tables.entry.cells.now) (ends (node_count tables.entry.cells.now) (triples_at tables.entry.cells.now) (path_at tables.entry.cells.now e)) (16 * max_nodes) }
 {
-    all_table_ends(rows, End::Path(e), false, cells, index);
+    all_table_ends(rows, End::Path(e), false, tables);
 }
 
 // The rounds of the star of path entry e from node v.
-fn path_rounds(cells: &[u16], v: NodeNo, e: usize) -> usize
+fn path_rounds(cells: &[u16], values: &[i64], v: NodeNo, e: usize) -> usize
     requires { (cell_count ≤ length cells.now) × (well_formed cells.now ≡ true) × (v.0 < node_count cells.now) × (e < path_count cells.now) }
     ensures { result ≡ rounds_at cells.now v.0 e }
 {
     // the chains of the facts, made once
     let mut index = [0u16; INDEX_CELLS];
     index_table(&mut index, cells);
+    let tables = Indexed {
+        cells,
+        values,
+        index: &index,
+    };
     let mut rows = [0u64; ROWS_WORDS];
-    path_rows(&mut rows, cells, &index, e);
-    let found = search(&rows, v.0 as usize, node_count(cells));
+    path_rows(&mut rows, tables, e);
+    let relation = Relation {
+        rows: &rows,
+        n: node_count(cells),
+    };
+    let found = search(relation, v.0 as usize);
     found.rounds
-}
-
-// What is answered.
-#[derive(Clone, Copy)]
-pub enum Searched {
-    Rounds(usize),
-    Refused(Refusal),
 }
 
 // The operation: how many rounds the star of a path entry takes from a node, both by number; the least number of repetitions within
 // which the path leads to all that it leads to within one more. Refusal 8 where a table is shorter than its limit, 9 where the
 // tables are not well formed, 10 where node or path entry is not there.
-pub fn rounds(names: &[u8], cells: &[u16], values: &[i64], node: usize, path: usize) -> Searched
+pub fn rounds(
+    names: &[u8],
+    cells: &[u16],
+    values: &[i64],
+    node: usize,
+    path: usize,
+) -> Result<usize, Refusal>
     ensures { answer_of result ≡ rounds_answer names.now cells.now values.now node path }
 {
     if !enough(names, cells, values) {
-        return Searched::Refused(Refusal::Short);
+        return Err(Refusal::Short);
     }
     let cs = &cells[..CELLS];
     if !well_formed(cs) {
-        return Searched::Refused(Refusal::Malformed);
+        return Err(Refusal::Malformed);
     }
     if !((node < node_count(cs)) & (path < path_count(cs))) {
-        return Searched::Refused(Refusal::Absent);
+        return Err(Refusal::Absent);
     }
-    Searched::Rounds(path_rounds(cs, NodeNo(node as u16), path))
+    Ok(path_rounds(cs, values, NodeNo(node as u16), path))
 }

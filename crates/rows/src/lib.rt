@@ -13,69 +13,36 @@ ghost use Rattle.model.specs.Paths.{ends_of};
 ghost use Rattle.model.specs.Limits.{max_nodes};
 ghost use Rattle.tables.specs.Layout.{node_count};
 ghost use Rattle.tables.specs.Decode.{triples_at};
-ghost use Rattle.tables.specs.WellFormed.{well_formed};
-ghost use Rattle.paths.specs.Facts.{Tables, FactsOk, triples_of};
+ghost use Rattle.paths.specs.Over.{triples_over};
 ghost use Rattle.paths.specs.Ends.{end_in, end_known};
 ghost use Rattle.paths.specs.Images.{converse_if};
 ghost use Rattle.closure.specs.Rows.{rows_of, Within};
 
-use paths::{End, Sets, follow};
-use tables::layout::{OBJECTS, PATH_CODES, PREDICATES, SUBJECTS};
-use tables::reads::{fact_count, node_count};
+use paths::{End, Facts, Indexed, Sets};
 
 // Nothing is left in the rows, where nothing stands past those of n nodes.
 fn clear(rows: &mut [u64], n: usize)
     requires { (n ≤ max_nodes) × (16 * n ≤ length rows.old) × Within n rows.old }
     ensures { rows.new ≡ replicate (length rows.old) 0 }
 {
-    for i in 0..16 * n {
-        rows[i] = 0;
-    }
+    rows[..16 * n].fill(0);
 }
 
 // The rows of the n nodes become their ends, read backwards where back. Nothing stands past them, before and after.
-pub fn all_ends(
-    rows: &mut [u64],
-    end: End,
-    back: bool,
-    cells: &[u16],
-    s: &[u16],
-    p: &[u16],
-    o: &[u16],
-    index: &[u16],
-    len: usize,
-    n: usize,
-)
-    requires { FactsOk s.now p.now o.now index.now len n × (well_formed cells.now ≡ true) × (end_known cells.now end ≡ true) × (16 * n ≤ length rows.old) × Within n rows.old }
-    ensures { rows.new ≡ rows_of n (converse_if back (ends_of n (triples_of s.now p.now o.now len) (end_in cells.now end))) (length rows.old) }
+pub fn all_ends(rows: &mut [u64], end: End, back: bool, facts: Facts)
+    requires { (end_known facts.cells.now end ≡ true) × (16 * facts.n ≤ length rows.old) × Within facts.n rows.old }
+    ensures { rows.new ≡ rows_of facts.entry.n (converse_if back (ends_of facts.entry.n (triples_over facts.entry) (end_in facts.entry.cells.now end))) (length rows.old) }
 {
-    clear(rows, n);
+    clear(rows, facts.n);
     let none = [0u64; 1];
-    follow(
-        rows,
-        end,
-        !back,
-        Sets::Own,
-        &none,
-        cells,
-        s,
-        p,
-        o,
-        index,
-        len,
-        n,
-    );
+    facts.follow(rows, end, !back, Sets::Own, &none);
 }
 
 // The same over the facts of the tables.
-pub fn all_table_ends(rows: &mut [u64], end: End, back: bool, cells: &[u16], index: &[u16])
-    requires { Tables cells.now index.now × (end_known cells.now end ≡ true) × (16 * node_count cells.now ≤ length rows.old) × Within (node_count cells.now) rows.old }
-    ensures { rows.new ≡ rows_of (node_count cells.now) (converse_if back (ends_of (node_count cells.now) (triples_at cells.now) (end_in cells.now end))) (length rows.old) }
+pub fn all_table_ends(rows: &mut [u64], end: End, back: bool, tables: Indexed)
+    requires { (end_known tables.cells.now end ≡ true) × (16 * node_count tables.cells.now ≤ length rows.old) × Within (node_count tables.cells.now) rows.old }
+    ensures { rows.new ≡ rows_of (node_count tables.entry.cells.now) (converse_if back (ends_of (node_count tables.entry.cells.now) (triples_at tables.entry.cells.now) (end_in tables.entry.cells.now end))) (length rows.old) }
 {
-    let n = node_count(cells);
-    let len = fact_count(cells);
-    let s = &cells[SUBJECTS..PREDICATES];
-    let p = &cells[PREDICATES..OBJECTS];
-    let o = &cells[OBJECTS..PATH_CODES];
-    all_ends(rows, end, back, cells, s, p, o, index, len, n);
+    let facts = tables.facts();
+    all_ends(rows, end, back, facts);
 }

@@ -5,8 +5,6 @@ use Rattle.model.specs.declared.LinkNo.{LinkNo}
 use Rattle.plan.specs.Steps.{Step}
 use Rattle.paths.specs.declared.End.{End}
 use Rattle.entries.specs.Tables.{end_for}
-use Rattle.stepsets.specs.declared.Kept.{Kept}
-use Rattle.stepsets.specs.declared.Kept.TheVariants.{RowsOf}
 use Rattle.stepsets.specs.declared.Condition.TheVariants.{Is, IsNot, Test, Untest, Count, Every, Equal, Unequal, Apart, Meet, Less, NotLess, LessEq, NotLessEq, OneLang, ManyLang, Closed, Open}
 use Rattle.targets.specs.declared.Target.TheVariants.{From, Into, Typed}
 use Rattle.runner.specs.declared.Kind.{Kind}
@@ -46,28 +44,3 @@ kind_of (Step.from l) = Selected (From (link l))
 kind_of (Step.into l) = Selected (Into (link l))
 kind_of (Step.typed c) = Selected (Typed (node c))
 kind_of Step.bad = Empty
-
--- ---- what the two arrays of rows hold after a step
-unfoldable pub first_after : Kind → Kept → Kept
-first_after Whole kept = kept
-first_after Empty kept = kept
-first_after (Node condition) kept = kept
-first_after (Both i j) kept = kept
-first_after (Either i j) kept = kept
-first_after (Path condition p j) kept = RowsOf (End.Path p)
-first_after (Ends condition end l) kept = RowsOf end
-first_after (Lang condition p) kept = RowsOf (End.Path p)
-first_after (Selected target) kept = kept
-first_after (Links condition e) kept = kept
-
-unfoldable pub second_after : Kind → Kept → Kept
-second_after Whole kept = kept
-second_after Empty kept = kept
-second_after (Node condition) kept = kept
-second_after (Both i j) kept = kept
-second_after (Either i j) kept = kept
-second_after (Path condition p j) kept = kept
-second_after (Ends condition end l) kept = RowsOf (End.Link l)
-second_after (Lang condition p) kept = kept
-second_after (Selected target) kept = kept
-second_after (Links condition e) kept = kept

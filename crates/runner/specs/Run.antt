@@ -2,7 +2,7 @@
 use Rattle.std.specs.Prelude.{ℕ, zero, suc, ◌*◌, List, [], ◌++◌, Bool, true, ◌&&◌, leb, ℤ, length, take, drop}
 use Rattle.std.proofs.Math.Option.{Option}
 use Rattle.nodeset.specs.Words.{nodes_of}
-use Rattle.model.specs.Answers.{Answer, value, refusal_of, checked, unless_refused}
+use Rattle.model.specs.Answers.{Answer, checked, unless_refused}
 use Rattle.model.specs.Limits.{max_steps}
 use Rattle.tables.specs.Layout.{name_count, cell_count, value_count, node_count}
 use Rattle.tables.specs.Names.{sub_class_at}
@@ -10,21 +10,10 @@ use Rattle.tables.specs.Sizes.{long_enough}
 use Rattle.plan.specs.Layout.{plan_count, step_count}
 use Rattle.plan.specs.Sets.{set_at}
 use Rattle.plancheck.specs.Both.{both_well_formed}
-use Rattle.runner.specs.declared.Ran.{Ran}
-use Rattle.runner.specs.declared.Ran.TheVariants.{Done, Refused}
 
 -- how long the work space must be: sixteen words for each step
 abbrev pub work_count : ℕ
 work_count = 16 * max_steps
-
--- how many nodes are few: their rows of ends are short
-abbrev pub few_nodes : ℕ
-few_nodes = 64
-
--- ---- each case of the answer: done, with nothing more to say, or the refusal
-abbrev pub answer_of : Ran → Answer (Unit {0})
-answer_of Done = value tt
-answer_of (Refused r) = refusal_of r
 
 -- ---- the work space; sub: the link `under`, where the tables have it
 module _ (sub : Option ℕ) (cs : List ℕ) (vs : List ℤ) (ps : List ℕ) where

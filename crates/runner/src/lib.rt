@@ -6,23 +6,22 @@
 #![tactic(auto)]
 
 ghost use Rattle.std.specs.Prelude.{◌≡◌, true, ◌*◌, ◌<◌, ◌≤◌, length};
-ghost use Rattle.model.specs.Limits.{max_steps};
+ghost use Rattle.model.specs.Limits.{max_steps, max_nodes};
 ghost use Rattle.tables.specs.Layout.{name_count, cell_count, node_count};
 ghost use Rattle.tables.specs.Names.{sub_class_at};
 ghost use Rattle.tables.specs.WellFormed.{well_formed};
-ghost use Rattle.paths.specs.Facts.{Tables};
-ghost use Rattle.stepsets.specs.Ends.{RowsHeld, RowsFor};
 ghost use Rattle.plan.specs.Layout.{step_at};
 ghost use Rattle.plan.specs.WellFormed.{step_ok, plan_well_formed};
 ghost use Rattle.targets.specs.Classes.{sub_of};
-ghost use Rattle.runner.specs.Kinds.{kind_of, first_after, second_after};
-ghost use Rattle.runner.specs.Run.{work_count, answer_of, filled, run_long, run_answer, work_after, few_nodes};
+ghost use Rattle.runner.specs.Kinds.{kind_of};
+ghost use Rattle.model.specs.Answers.{answer_of};
+ghost use Rattle.runner.specs.Run.{work_count, filled, run_long, run_answer, work_after};
 ghost use Rattle.runner.specs.Steps.{step_from, put};
 
 use entries::end_at;
 use model::{LinkNo, MAX_STEPS, Refusal};
 use nodeset::{NodeSet, store};
-use paths::{End, INDEX_CELLS, ROWS_WORDS, index_table};
+use paths::{End, INDEX_CELLS, Indexed, ROWS_WORDS, index_table};
 use plan::{PLAN_CELLS, steps};
 use plancheck::both_well_formed;
 use plancheck::reads::{
@@ -30,12 +29,12 @@ use plancheck::reads::{
     step_second_link, step_third,
 };
 use stepsets::{
-    Condition, Kept, both_set, either_set, ends_set, lang_set, links_set, path_set, plain_set,
+    Condition, EndRows, both_set, either_set, ends_set, lang_set, links_set, path_set, plain_set,
 };
 use tables::layout::{CELLS, NAMES, VALUES};
 use tables::lent::enough;
 use tables::reads::node_count;
-use targets::{SubClass, Target, sub_class_link, target_set};
+use targets::{Target, sub_class_link, target_set};
 
 // How long the work space must be: sixteen words for each step.
 pub const WORK_WORDS: usize = 16 * MAX_STEPS;
@@ -45,14 +44,8 @@ const FEW_NODES: usize = 64;
 
 const FEW_ROWS: usize = 16 * FEW_NODES;
 
-// What a run answers.
-#[derive(Clone, Copy)]
-pub enum Ran {
-    Done,
-    Refused(Refusal),
-}
-
-// What a step asks for, with its operands.
+// What a step asks for, with its operands. An enum between the one match over the codes (document 01) and the calls: with calls and
+// what they are lent in each of its 26 arms the match passes forty lines.
 #[derive(Clone, Copy)]
 enum Kind {
     Whole,
@@ -109,189 +102,79 @@ fn step_kind(plan: &[u16], k: usize) -> Kind
     }
 }
 
-// What the first rows hold after a step, and what the second hold.
-fn first_after(kind: Kind, kept: Kept) -> Kept
-    ensures { result ≡ first_after kind kept }
-{
-    match kind {
-        Kind::Whole => kept,
-        Kind::Empty => kept,
-        Kind::Node(_) => kept,
-        Kind::Both(_, _) => kept,
-        Kind::Either(_, _) => kept,
-        Kind::Path(_, p, _) => Kept::RowsOf(End::Path(p)),
-        Kind::Ends(_, end, _) => Kept::RowsOf(end),
-        Kind::Lang(_, p) => Kept::RowsOf(End::Path(p)),
-        Kind::Selected(_) => kept,
-        Kind::Links(_, _) => kept,
-    }
-}
-
-fn second_after(kind: Kind, kept: Kept) -> Kept
-    ensures { result ≡ second_after kind kept }
-{
-    match kind {
-        Kind::Whole => kept,
-        Kind::Empty => kept,
-        Kind::Node(_) => kept,
-        Kind::Both(_, _) => kept,
-        Kind::Either(_, _) => kept,
-        Kind::Path(_, _, _) => kept,
-        Kind::Ends(_, _, l) => Kept::RowsOf(End::Link(l)),
-        Kind::Lang(_, _) => kept,
-        Kind::Selected(_) => kept,
-        Kind::Links(_, _) => kept,
-    }
-}
-
 // The set of step k, from the sets of the steps before it. The rows of ends that it looks at are kept for the next step.
-fn step_set(
-    first: &mut [u64],
-    second: &mut [u64],
-    kept: Kept,
-    links: Kept,
-    sub: SubClass,
-    cells: &[u16],
-    index: &[u16],
-    values: &[i64],
+fn step_set<const WORDS: usize>(
+    rows: &mut EndRows<WORDS>,
+    sub: Option<LinkNo>,
     plan: &[u16],
     work: &[u64],
     k: usize,
 ) -> NodeSet
-    requires { Tables cells.now index.now × (k < max_steps) × (step_ok cells.now k (step_at plan.now k) ≡ true) × RowsHeld cells.now kept first.old × RowsHeld cells.now links second.old }
-    ensures words_value { result.words ≡ step_from (sub_of sub) cells.now values.now plan.now work.now k }
-    ensures rows_held { RowsHeld cells.now (first_after (kind_of (step_at plan.now k)) kept) first.new }
-    ensures rows_held_2 { RowsHeld cells.now (second_after (kind_of (step_at plan.now k)) links) second.new }
+    requires { (k < max_steps) × (step_ok rows.old.tables.cells.now k (step_at plan.now k) ≡ true) }
+    ensures words_value { result.words ≡ step_from (sub_of sub) rows.old.tables.cells.now rows.old.tables.values.now plan.now work.now k }
+    ensures tables { rows.new.tables ≡ rows.old.tables }
 {
-    let n = node_count(cells);
+    let tables = rows.tables;
+    let n = node_count(tables.cells);
     match step_kind(plan, k) {
         Kind::Whole => NodeSet::whole(n),
         Kind::Empty => NodeSet::EMPTY,
-        Kind::Node(x) => plain_set(x, cells, index, values),
+        Kind::Node(x) => plain_set(x, tables),
         Kind::Both(i, j) => both_set(work, i, j, n),
         Kind::Either(i, j) => either_set(work, i, j, n),
-        Kind::Path(x, p, j) => { path_set(first, kept, x, cells, index, values, p, work, j) }
-        Kind::Ends(x, end, l) => {
-            ends_set(first, second, kept, links, x, cells, index, values, end, l)
-        }
-        Kind::Lang(x, p) => lang_set(first, kept, x, cells, index, values, p),
-        Kind::Selected(target) => target_set(target, sub, cells, index),
-        Kind::Links(x, e) => links_set(x, cells, index, values, e),
+        Kind::Path(x, p, j) => path_set(rows, x, p, work, j),
+        Kind::Ends(x, end, l) => ends_set(rows, x, end, l),
+        Kind::Lang(x, p) => lang_set(rows, x, p),
+        Kind::Selected(target) => target_set(target, sub, tables),
+        Kind::Links(x, e) => links_set(x, tables, e),
     }
 }
 
 // Step k writes its own sixteen words.
-fn run_step(
+fn run_step<const WORDS: usize>(
     work: &mut [u64],
-    first: &mut [u64],
-    second: &mut [u64],
-    kept: Kept,
-    links: Kept,
-    sub: SubClass,
-    cells: &[u16],
-    index: &[u16],
-    values: &[i64],
+    rows: &mut EndRows<WORDS>,
+    sub: Option<LinkNo>,
     plan: &[u16],
     k: usize,
 )
-    requires { Tables cells.now index.now × (k < max_steps) × (step_ok cells.now k (step_at plan.now k) ≡ true) × RowsHeld cells.now kept first.old × RowsHeld cells.now links second.old × (work_count ≤ length work.old) }
-    ensures new_work { work.new ≡ put work.old k (step_from (sub_of sub) cells.now values.now plan.now work.old k) }
-    ensures rows_held { RowsHeld cells.now (first_after (kind_of (step_at plan.now k)) kept) first.new }
-    ensures rows_held_2 { RowsHeld cells.now (second_after (kind_of (step_at plan.now k)) links) second.new }
+    requires { (k < max_steps) × (step_ok rows.old.tables.cells.now k (step_at plan.now k) ≡ true) × (work_count ≤ length work.old) }
+    ensures new_work { work.new ≡ put work.old k (step_from (sub_of sub) rows.old.tables.cells.now rows.old.tables.values.now plan.now work.old k) }
+    ensures tables { rows.new.tables ≡ rows.old.tables }
 {
-    let set = step_set(
-        first,
-        second,
-        kept,
-        links,
-        sub,
-        cells,
-        index,
-        values,
-        plan,
-        &work[..],
-        k,
-    );
+    let set = step_set(rows, sub, plan, &work[..], k);
     let at = 16 * k;
     store(&mut work[at..], set);
 }
 
-// All steps, in their order, with two arrays of rows for all nodes.
-fn run_all(
+// All steps, in their order, with rows for all nodes.
+fn run_all<const WORDS: usize>(
     work: &mut [u64],
-    first: &mut [u64],
-    second: &mut [u64],
-    sub: SubClass,
-    cells: &[u16],
-    index: &[u16],
-    values: &[i64],
+    rows: &mut EndRows<WORDS>,
+    sub: Option<LinkNo>,
     plan: &[u16],
 )
-    requires { Tables cells.now index.now × (plan_well_formed cells.now plan.now ≡ true) × (work_count ≤ length work.old) × RowsFor cells.now first.old × RowsFor cells.now second.old }
-    ensures { work.new ≡ filled (sub_of sub) cells.now values.now plan.now work.old }
+    requires { (plan_well_formed rows.old.tables.cells.now plan.now ≡ true) × (work_count ≤ length work.old) }
+    ensures { work.new ≡ filled (sub_of sub) rows.old.tables.cells.now rows.old.tables.values.now plan.now work.old }
 {
-    let mut kept = Kept::Unfilled;
-    let mut links = Kept::Unfilled;
     let count = step_count(plan);
     for k in 0..count {
-        run_step(
-            work, first, second, kept, links, sub, cells, index, values, plan, k,
-        );
-        let kind = step_kind(plan, k);
-        kept = first_after(kind, kept);
-        links = second_after(kind, links);
+        run_step(work, rows, sub, plan, k);
     }
 }
 
-// All steps, with rows for few nodes; for as many as there may be. Few nodes need not clear the many rows.
-fn run_few(
+// The same, with rows of so many words, which begin empty. Few nodes need not clear the rows of many.
+fn run_within<const WORDS: usize>(
     work: &mut [u64],
-    sub: SubClass,
-    cells: &[u16],
-    index: &[u16],
-    values: &[i64],
+    sub: Option<LinkNo>,
+    tables: Indexed,
     plan: &[u16],
 )
-    requires { Tables cells.now index.now × (plan_well_formed cells.now plan.now ≡ true) × (work_count ≤ length work.old) × (node_count cells.now ≤ few_nodes) }
-    ensures { work.new ≡ filled (sub_of sub) cells.now values.now plan.now work.old }
+    requires { let cs = tables.cells.now in (plan_well_formed cs plan.now ≡ true) × (work_count ≤ length work.old) × (16 * node_count cs ≤ WORDS) × (WORDS ≤ 16 * max_nodes) }
+    ensures { work.new ≡ filled (sub_of sub) tables.entry.cells.now tables.entry.values.now plan.now work.old }
 {
-    let mut first = [0u64; FEW_ROWS];
-    let mut second = [0u64; FEW_ROWS];
-    run_all(
-        work,
-        &mut first,
-        &mut second,
-        sub,
-        cells,
-        index,
-        values,
-        plan,
-    );
-}
-
-fn run_many(
-    work: &mut [u64],
-    sub: SubClass,
-    cells: &[u16],
-    index: &[u16],
-    values: &[i64],
-    plan: &[u16],
-)
-    requires { Tables cells.now index.now × (plan_well_formed cells.now plan.now ≡ true) × (work_count ≤ length work.old) }
-    ensures { work.new ≡ filled (sub_of sub) cells.now values.now plan.now work.old }
-{
-    let mut first = [0u64; ROWS_WORDS];
-    let mut second = [0u64; ROWS_WORDS];
-    run_all(
-        work,
-        &mut first,
-        &mut second,
-        sub,
-        cells,
-        index,
-        values,
-        plan,
-    );
+    let mut rows = EndRows::<WORDS>::new(tables);
+    run_all(work, &mut rows, sub, plan);
 }
 
 // All steps, over well-formed tables and a plan that is.
@@ -302,10 +185,15 @@ fn run_steps(work: &mut [u64], names: &[u8], cells: &[u16], values: &[i64], plan
     let mut index = [0u16; INDEX_CELLS];
     index_table(&mut index, cells);
     let sub = sub_class_link(names, cells);
+    let tables = Indexed {
+        cells,
+        values,
+        index: &index,
+    };
     if node_count(cells) <= FEW_NODES {
-        run_few(work, sub, cells, &index, values, plan);
+        run_within::<FEW_ROWS>(work, sub, tables, plan);
     } else {
-        run_many(work, sub, cells, &index, values, plan);
+        run_within::<ROWS_WORDS>(work, sub, tables, plan);
     }
 }
 
@@ -318,18 +206,24 @@ fn lent_long(names: &[u8], cells: &[u16], values: &[i64], plan: &[u16], work: &[
 
 // Runs the plan over the tables. Refusal 8: a lent slice is too short; 9: the tables or the plan are not well formed; then
 // nothing has changed. A longer slice counts up to its limit.
-pub fn run(names: &[u8], cells: &[u16], values: &[i64], plan: &[u16], work: &mut [u64]) -> Ran
+pub fn run(
+    names: &[u8],
+    cells: &[u16],
+    values: &[i64],
+    plan: &[u16],
+    work: &mut [u64],
+) -> Result<(), Refusal>
     ensures result_value { answer_of result ≡ run_answer names.now cells.now values.now plan.now work.old }
     ensures new_work { work.new ≡ work_after names.now cells.now values.now plan.now work.old }
 {
     if !lent_long(names, cells, values, plan, &work[..]) {
-        return Ran::Refused(Refusal::Short);
+        return Err(Refusal::Short);
     }
     let cs = &cells[..CELLS];
     let ps = &plan[..PLAN_CELLS];
     if !both_well_formed(cs, ps) {
-        return Ran::Refused(Refusal::Malformed);
+        return Err(Refusal::Malformed);
     }
     run_steps(work, &names[..NAMES], cs, &values[..VALUES], ps);
-    Ran::Done
+    Ok(())
 }

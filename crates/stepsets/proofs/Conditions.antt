@@ -19,9 +19,7 @@ use Rattle.tables.proofs.WellFormed.{Sound}
 use Rattle.plan.specs.Conditions.{some_in_one, some_shared, some_pair, clash}
 use Rattle.conditions.proofs.Items.{unlisted_ext, listed_ext}
 use Rattle.conditions.proofs.Langs.{unlike_tagged, clash-tagged}
-use Rattle.nodeset.specs.Words.{nodes_of}
 use Rattle.stepsets.specs.Conditions.{holds_of, tagged, condition_ok}
-use Rattle.stepsets.proofs.Nodes.{nodes_ext}
 use Rattle.stepsets.specs.declared.Condition.{Condition}
 use Rattle.stepsets.specs.declared.Condition.TheVariants.{Is, IsNot, Test, Untest, Count, Every, Equal, Unequal, Apart, Meet, Less, NotLess, LessEq, NotLessEq, OneLang, ManyLang, Closed, Open}
 
@@ -84,11 +82,6 @@ module _ (cs : List ℕ) (vs : List ℤ) (s : Sound cs) {a a' b b' : ℕ → Boo
   holds_ext ManyLang = some-pair_ext (node_count cs) both' both' _
   holds_ext Closed = listed_ext cs b b' v linked
   holds_ext Open = unlisted_ext cs b b' v linked
-
--- of each node, its own two sets
-pub where_ext : (cs : List ℕ) (vs : List ℤ) → Sound cs → (condition : Condition) (a a' b b' : ℕ → ℕ → Bool) → ((v : ℕ) → v < node_count cs → (w : ℕ) → w < max_nodes → a v w ≡ a' v w) → ((v : ℕ) → v < node_count cs → (w : ℕ) → w < max_nodes → b v w ≡ b' v w)
-    → nodes_of (λ v. holds_of cs vs condition (a v) (b v) v) (node_count cs) ≡ nodes_of (λ v. holds_of cs vs condition (a' v) (b' v) v) (node_count cs)
-where_ext cs vs s condition a a' b b' ea eb = nodes_ext (λ v. holds_of cs vs condition (a v) (b v) v) (λ v. holds_of cs vs condition (a' v) (b' v) v) (node_count cs) (λ v l. holds_ext cs vs s (ea v l) (eb v l) v condition)
 
 -- ---- ends without a language need not be looked at
 split : (cs : List ℕ) (a : ℕ → Bool) (x : ℕ) → x < node_count cs → (a x && tagged cs x) ≡ (a x && eqb (kind_at cs x) codes.node_words)

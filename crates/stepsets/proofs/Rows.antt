@@ -1,15 +1,15 @@
 -- Rows that are kept, and that the rows of an end are its ends, node by node.
 use Prim.Native.Nat.{ℕ, ◌*◌, ◌≤◌, ◌<◌}
-use mathlib.Core.Bool.{Bool, true, ◌&&◌, true≢false}
+use mathlib.Core.Bool.{Bool, true, ◌&&◌}
 use mathlib.Core.List.{List}
-use mathlib.Core.Path.{◌≡◌, refl, sym, ap, ap₂, ◌∙◌, subst}
+use Rattle.std.specs.Prelude.{Option, Some, None}
+use mathlib.Core.Path.{◌≡◌, sym, ap, ap₂, ◌∙◌, subst}
 use native.Mathlib.Omega.{arith}
 use lib.Dec.{ltb}
 use lib.ListN.{length, drop, replicate, length-replicate}
-use borrow.Author.Tests.{eqb-true, lt-ltb}
+use borrow.Author.Tests.{lt-ltb}
 use Rattle.base.proofs.Bools.{same_test, and_right}
 use Rattle.nodeset.specs.Words.{has}
-use Rattle.model.specs.declared.LinkNo.{LinkNo}
 use Rattle.model.specs.Paths as model
 use Rattle.model.specs.Paths.{ends_of}
 use Rattle.model.specs.Limits.{max_nodes}
@@ -18,46 +18,26 @@ use Rattle.tables.specs.Decode.{triples_at}
 use Rattle.paths.specs.Facts.{Tables}
 use Rattle.paths.specs.Ends.{end_in}
 use Rattle.paths.specs.declared.End.{End}
-use Rattle.paths.specs.declared.End.TheVariants.{Itself, Link, Path}
 use Rattle.paths.proofs.Nodes.{table_nodes}
 use Rattle.closure.specs.Rows.{rows_of}
 use Rattle.closure.proofs.Rows.{length-rows, within-rows}
 use Rattle.rows.proofs.Rows.{within_zeros, has-row}
-use Rattle.stepsets.specs.Ends.{same_end, keeps, end_rows, RowsHeld, RowsFor}
-use Rattle.stepsets.specs.declared.Kept.{Kept}
-use Rattle.stepsets.specs.declared.Kept.TheVariants.{Unfilled, RowsOf}
+use Rattle.stepsets.specs.Ends.{end_rows, RowsHeld, RowsFor}
 
 -- ---- rows that are kept
-link-no : (l m : LinkNo) → l.0 ≡ m.0 → l ≡ m
-link-no l m e = λ i. record { 0 = e i }
-
-same_end_lem : (a b : End) → same_end a b ≡ true → a ≡ b
-unfolding same_end
-same_end_lem Itself Itself e = refl
-same_end_lem Itself (Link m) e = absurd (true≢false (sym e))
-same_end_lem Itself (Path q) e = absurd (true≢false (sym e))
-same_end_lem (Link l) Itself e = absurd (true≢false (sym e))
-same_end_lem (Link l) (Link m) e = ap (λ (x : LinkNo). Link x) (link-no l m (eqb-true l.0 m.0 e))
-same_end_lem (Link l) (Path q) e = absurd (true≢false (sym e))
-same_end_lem (Path p) Itself e = absurd (true≢false (sym e))
-same_end_lem (Path p) (Link m) e = absurd (true≢false (sym e))
-same_end_lem (Path p) (Path q) e = ap (λ (x : ℕ). Path x) (eqb-true p q e)
-
 -- nothing is known of rows that were not filled; zeros are such rows
-pub held_none : (cs : List ℕ) {rows : List ℕ} → RowsFor cs rows → RowsHeld cs Unfilled rows
+pub held_none : (cs : List ℕ) {rows : List ℕ} → RowsFor cs rows → RowsHeld cs None rows
 held_none cs h = record { lent = h; ends = tt }
 
 pub rows_zeros : (cs : List ℕ) (words : ℕ) {rows : List ℕ} → 16 * node_count cs ≤ words → rows ≡ replicate words 0 → RowsFor cs rows
 rows_zeros cs words l e = record { room = subst (λ (k : ℕ). 16 * node_count cs ≤ k) (sym (ap length e ∙ length-replicate {A = ℕ} words 0)) l; within = within_zeros (node_count cs) words e }
 
--- as they were
-pub held_same : (cs : List ℕ) (kept : Kept) (end : End) {rows : List ℕ} → keeps kept end ≡ true → RowsHeld cs kept rows → RowsHeld cs (RowsOf end) rows
-unfolding keeps
-held_same cs Unfilled end e h = absurd (true≢false (sym e))
-held_same cs (RowsOf held) end {rows} e h = subst (λ (x : End). RowsHeld cs (RowsOf x) rows) (same_end_lem held end e) h
+-- the rows of an end, where that is what they are of
+pub held_of : {cs rows : List ℕ} {of : Option End} {end : End} → of ≡ Some end → RowsHeld cs of rows → RowsHeld cs (Some end) rows
+held_of {cs} {rows} e h = subst (λ (x : Option End). RowsHeld cs x rows) e h
 
 -- filled anew
-pub held_anew : (cs : List ℕ) (kept : Kept) (end : End) {rows now : List ℕ} → RowsHeld cs kept rows → now ≡ rows_of (node_count cs) (ends_of (node_count cs) (triples_at cs) (end_in cs end)) (length rows) → RowsHeld cs (RowsOf end) now
+pub held_anew : (cs : List ℕ) (kept : Option End) (end : End) {rows now : List ℕ} → RowsHeld cs kept rows → now ≡ rows_of (node_count cs) (ends_of (node_count cs) (triples_at cs) (end_in cs end)) (length rows) → RowsHeld cs (Some end) now
 unfolding end_rows
 held_anew cs kept end {rows} {now} h e = record {
   lent = record {
@@ -76,7 +56,7 @@ module _ (cs index : List ℕ) (t : Tables cs index) where
   ends_low x v w l h = (table_nodes cs index t x v w h).0 l
 
   -- row v
-  pub row_ends : (end : End) {rows : List ℕ} → RowsHeld cs (RowsOf end) rows → (v : ℕ) → v < node_count cs → (w : ℕ) → w < max_nodes → has (drop (16 * v) rows) w ≡ ends_of (node_count cs) (triples_at cs) (end_in cs end) v w
+  pub row_ends : (end : End) {rows : List ℕ} → RowsHeld cs (Some end) rows → (v : ℕ) → v < node_count cs → (w : ℕ) → w < max_nodes → has (drop (16 * v) rows) w ≡ ends_of (node_count cs) (triples_at cs) (end_in cs end) v w
   unfolding end_rows
   row_ends end {rows} h v l w lw =
       has-row (node_count cs) (ends_of (node_count cs) (triples_at cs) (end_in cs end)) (length rows) h.ends v (omega (arith, h.lent.room)) w lw

@@ -1,31 +1,12 @@
 -- Rows of ends, and rows that are kept from step to step.
-use Rattle.std.specs.Prelude.{ℕ, ◌*◌, ◌≤◌, List, Bool, true, false, ◌≡◌, eqb, length}
+use Rattle.std.specs.Prelude.{ℕ, ◌*◌, ◌≤◌, List, ◌≡◌, length, Option, Some, None}
+use Rattle.std.specs.Coded.{Coded-set, coded_list, coded_ℕ, le_prop, Unit-prop}
 use Rattle.model.specs.Paths.{ends_of}
 use Rattle.tables.specs.Layout.{node_count}
 use Rattle.tables.specs.Decode.{triples_at}
 use Rattle.paths.specs.Ends.{end_in}
 use Rattle.paths.specs.declared.End.{End}
-use Rattle.paths.specs.declared.End.TheVariants.{Itself, Link, Path}
-use Rattle.closure.specs.Rows.{rows_of, Within}
-use Rattle.stepsets.specs.declared.Kept.{Kept}
-use Rattle.stepsets.specs.declared.Kept.TheVariants.{Unfilled, RowsOf}
-
--- two ends are the same
-unfoldable pub same_end : End → End → Bool
-same_end Itself Itself = true
-same_end Itself (Link m) = false
-same_end Itself (Path q) = false
-same_end (Link l) Itself = false
-same_end (Link l) (Link m) = eqb l.0 m.0
-same_end (Link l) (Path q) = false
-same_end (Path p) Itself = false
-same_end (Path p) (Link m) = false
-same_end (Path p) (Path q) = eqb p q
-
--- what is kept is the rows of an end
-unfoldable pub keeps : Kept → End → Bool
-keeps Unfilled end = false
-keeps (RowsOf held) end = same_end held end
+use Rattle.closure.specs.Rows.{rows_of, leads, Within}
 
 -- the rows of an end
 unfoldable pub end_rows : List ℕ → End → ℕ → List ℕ
@@ -37,11 +18,25 @@ pub record RowsFor (cs rows : List ℕ) : Type 0 where
   pub within : Within (node_count cs) rows
 
 -- what rows hold, where it is known
-abbrev pub Holds : List ℕ → Kept → List ℕ → Type 0
-Holds cs Unfilled rows = Unit {0}
-Holds cs (RowsOf end) rows = rows ≡ end_rows cs end (length rows)
+abbrev pub Holds : List ℕ → Option End → List ℕ → Type 0
+Holds cs None rows = Unit {0}
+Holds cs (Some end) rows = rows ≡ end_rows cs end (length rows)
 
 -- such rows, which hold what is kept
-pub record RowsHeld (cs : List ℕ) (kept : Kept) (rows : List ℕ) : Type 0 where
+pub record RowsHeld (cs : List ℕ) (kept : Option End) (rows : List ℕ) : Type 0 where
   pub lent : RowsFor cs rows
   pub ends : Holds cs kept rows
+
+-- ---- that they are is one fact
+Holds-prop : (cs : List ℕ) (kept : Option End) (rows : List ℕ) → IsProp (Holds cs kept rows)
+Holds-prop cs None rows = Unit-prop
+Holds-prop cs (Some end) rows = Coded-set (coded_list coded_ℕ) rows (end_rows cs end (length rows))
+
+pub RowsHeld-prop : (cs : List ℕ) (kept : Option End) (rows : List ℕ) → IsProp (RowsHeld cs kept rows)
+RowsHeld-prop cs kept rows x y = λ i. record {
+  lent = record {
+    room = le_prop x.lent.room y.lent.room i;
+    within = Coded-set (coded_list coded_ℕ) rows (rows_of (node_count cs) (leads rows) (length rows)) x.lent.within y.lent.within i;
+  };
+  ends = Holds-prop cs kept rows x.ends y.ends i;
+}

@@ -1,46 +1,25 @@
 -- Nodes and columns of cells looked at without early exit, and the facts column by column.
-use Prim.Native.Nat.{ℕ, zero, suc, ◌+◌, ◌-◌, ◌≤◌}
-use mathlib.Core.List.{List}
+use Prim.Native.Nat.{ℕ, zero, suc, ◌≤◌}
+use mathlib.Core.List.{List, [], ◌∷◌, ◌++◌}
 use mathlib.Core.Bool.{Bool, true, false, ◌&&◌, ◌||◌, and-true, and_comm, and_assoc}
-use mathlib.Core.Path.{◌≡◌, refl, sym, ap, ◌∙◌}
+use mathlib.Core.Path.{◌≡◌, refl, sym, ap, ap₂, ◌∙◌}
 use mathlib.Core.Logic.{⊎_elim}
+use native.Mathlib.Nat.{zero-add}
 use native.Mathlib.Numerals.{add-one}
 use native.Mathlib.Omega.{arith}
 use lib.Arith.{lt_of_le-ne}
 use lib.Dec.{eqb, ltb}
-use lib.ListN.{length, get_or, take, drop, length-take, length-drop, drop_of_length-le, get_or-eq_default}
-use lib.Seq.{take_all, take-nil, get_or-take, get_or-drop}
+use lib.ListN.{length, get_or, take, drop, length-take, length-append, get_or-append, get_or-eq_default}
+use lib.Seq.{get_or-append_seam, get_or-take, get_or-drop}
 use borrow.Author.Tests.{eqb-true, eqb-false, ltb-true, ltb-false}
+use Rattle.std.specs.List.{range_with_len}
+use Rattle.std.proofs.lemmas.List.FromFn.{length-range_with_len, get_or-range_with_len}
 use Rattle.base.specs.Bounded.{every}
 use Rattle.base.proofs.Bools.{bool_cases, same_test, and_left, and_right, and_both, or_cases}
 use Rattle.base.proofs.Bounded.{every-at, every-all, every_ext}
 use Rattle.tables.specs.Layout.{subjects, predicates, objects, node_count, link_count, fact_count}
 use Rattle.tables.specs.WellFormed.{fact_ok}
 use Rattle.tablecheck.specs.Parts.{place_below}
-
--- ---- a column as a part of the cells
-module _ (cs : List ℕ) (base n : ℕ) where
-  pub column-none : length cs ≤ base → take (length cs - length cs) (drop (length cs) cs) ≡ take n (drop base cs)
-  column-none h = rw (drop_of_length-le cs {i = length cs} (omega arith), drop_of_length-le cs {i = base} h) (take-nil (length cs - length cs) ∙ sym (take-nil n))
-
-  pub column-short : length cs - base ≤ n → take (length cs - base) (drop base cs) ≡ take n (drop base cs)
-  column-short h = take_all (length cs - base) (drop base cs) (omega (arith, length-drop base cs)) ∙ sym (take_all n (drop base cs) (omega (arith, length-drop base cs)))
-
-  pub column-whole : take (base + n - base) (drop base cs) ≡ take n (drop base cs)
-  column-whole = let e : base + n - base ≡ n = omega arith in rw e
-
--- ---- a loop that goes on to the end: r is a first test f, and the test of all that it has passed
-module _ (f : Bool) (p : ℕ → Bool) where
-  pub passed_none : f ≡ (f && every p 0)
-  unfolding every
-  passed_none = sym (and-true f)
-
-  pub passed_next : (i : ℕ) {r x : Bool} → r ≡ (f && every p i) → x ≡ p i → (r && x) ≡ (f && every p (i + 1))
-  unfolding every
-  passed_next i e h = rw (e, h, add-one i) (and_assoc f (every p i) (p i) ∙ ap (λ (b : Bool). f && b) (and_comm (every p i) (p i)))
-
-  pub passed_end : (i n : ℕ) {r : Bool} → i ≡ n → r ≡ (f && every p i) → r ≡ (f && every p n)
-  passed_end i n q e = e ∙ ap (λ (k : ℕ). f && every p k) q
 
 -- ---- each place below a bound
 module _ (l : List ℕ) (bound : ℕ) where
@@ -74,10 +53,38 @@ module _ (l : List ℕ) (bound : ℕ) where
       parts : every cell_below n ≡ true → (rest_below n && every cell_below (length l)) ≡ true
       parts e = and_both (rest_below n) (every cell_below (length l)) (rest e) (every-all cell_below (length l) (λ i k. every-at cell_below n e i (omega arith)))
 
--- where the loop over a column ends
-pub column_done : (cs l : List ℕ) (base n bound i : ℕ) {r : Bool} → l ≡ take n (drop base cs) → i ≡ length l → r ≡ (rest_below l bound n && every (cell_below l bound) i) → r ≡ every (place_below cs base bound) n
-column_done cs l base n bound i e q h =
-    passed_end (rest_below l bound n) (cell_below l bound) i (length l) q h
+-- ---- a fold that goes on to the end: a is a first test f, and the test of all that it has passed
+module _ (f : Bool) (p : ℕ → Bool) where
+  abbrev pub Passed : List ℕ → Bool → Type 0
+  Passed l a = a ≡ (f && every (λ i. p (get_or l i 0)) (length l))
+
+  pub passed_none : Passed [] f
+  unfolding every
+  passed_none = sym (and-true f)
+
+  one-more : (l : List ℕ) (x : ℕ) → every (λ i. p (get_or (l ++ (x ∷ [])) i 0)) (length (l ++ (x ∷ []))) ≡ (p x && every (λ i. p (get_or l i 0)) (length l))
+  unfolding every
+  one-more l x =
+      ap (every (λ i. p (get_or (l ++ (x ∷ [])) i 0))) (length-append l (x ∷ []) ∙ add-one (length l))
+      ∙ ap₂ ◌&&◌ (ap p (get_or-append_seam l x [] 0)) (every_ext (λ i. p (get_or (l ++ (x ∷ [])) i 0)) (λ i. p (get_or l i 0)) (length l) (λ i h. ap p (get_or-append l (x ∷ []) 0 i h)))
+
+  pub passed_more : (l : List ℕ) (x : ℕ) {a b : Bool} → Passed l a → b ≡ (a && p x) → Passed (l ++ (x ∷ [])) b
+  passed_more l x e h =
+      h ∙ ap (λ (c : Bool). c && p x) e
+      ∙ and_assoc f (every (λ i. p (get_or l i 0)) (length l)) (p x)
+      ∙ ap (λ (c : Bool). f && c) (and_comm (every (λ i. p (get_or l i 0)) (length l)) (p x) ∙ sym (one-more l x))
+
+-- where the fold over 0..n ends
+pub range_done : (p : ℕ → Bool) (n : ℕ) {r : Bool} → Passed true p (range_with_len 0 n) r → r ≡ every p n
+range_done p n h =
+    h
+    ∙ ap (every (λ i. p (get_or (range_with_len 0 n) i 0))) (length-range_with_len 0 n)
+    ∙ every_ext (λ i. p (get_or (range_with_len 0 n) i 0)) p n (λ i l. ap p (get_or-range_with_len 0 n i 0 l ∙ zero-add i))
+
+-- where the fold over a column ends
+pub column_done : (cs l : List ℕ) (base n bound : ℕ) {r : Bool} → l ≡ take n (drop base cs) → Passed (rest_below l bound n) (λ x. ltb x bound) l r → r ≡ every (place_below cs base bound) n
+column_done cs l base n bound e h =
+    h
     ∙ column-all l bound n (omega (arith, ap (λ (x : List ℕ). length x) e, length-take n (drop base cs)))
     ∙ every_ext (cell_below l bound) (place_below cs base bound) n (λ j k. ap (λ (x : ℕ). ltb x bound) (ap (λ (x : List ℕ). get_or x j 0) e ∙ get_or-take n (drop base cs) j 0 k ∙ get_or-drop base cs j 0))
 

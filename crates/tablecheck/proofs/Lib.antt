@@ -1,4 +1,3 @@
 pub mod Codes
-pub mod Items
 pub mod Columns
 pub mod Parts

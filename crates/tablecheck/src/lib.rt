@@ -4,14 +4,14 @@
 
 ghost use Rattle.std.specs.Prelude.{◌≡◌, [], ◌&&◌, ◌+◌, ltb, take, drop};
 ghost use Rattle.base.specs.Bounded.{every};
-ghost use Rattle.tables.specs.Layout.{root_at, node_count, link_count, shape_count, fact_count};
+ghost use Rattle.tables.specs.Layout.{root_at, node_count, link_count, shape_count, fact_count, path_count, form_count, rule_count};
 ghost use Rattle.tables.specs.Decode.{path_entry_at, entry_at};
 ghost use Rattle.tables.specs.Entries.{Entry};
 ghost use Rattle.tables.specs.WellFormed.{counts_ok, node_ok, fact_ok, path_entry_ok, item_ok, items_ok, end_number_ok, entry_ok, rule_ok, well_formed};
-ghost use Rattle.tablecheck.specs.Parts.{place_below, item_bound, part_count, table_part_ok};
+ghost use Rattle.tablecheck.specs.Parts.{place_below};
 
 use model::{LinkNo, NodeNo};
-use tables::layout::{NO_NUMBER, OBJECTS, PREDICATES, SUBJECTS};
+use tables::layout::{LINK_COUNT, NO_NUMBER, NODE_COUNT, OBJECTS, PREDICATES, SUBJECTS};
 use tables::{codes, reads};
 
 fn below(x: u16, n: usize) -> bool
@@ -33,19 +33,20 @@ pub fn link_there(cells: &[u16], l: LinkNo) -> bool
     below(l.0, reads::link_count(cells))
 }
 
+#[tactic(auto, unfolding(tables::specs::WellFormed::counts_ok))]
 fn counts_ok(cells: &[u16]) -> bool
     ensures { result ≡ counts_ok cells.now }
 {
-    (reads::node_count(cells) <= model::MAX_NODES)
-        & ((reads::link_count(cells) <= model::MAX_LINKS)
-            & ((reads::type_count(cells) <= model::MAX_TYPES)
-                & ((reads::lang_count(cells) <= model::MAX_LANGS)
-                    & ((reads::shape_count(cells) <= model::MAX_SHAPES)
-                        & ((reads::fact_count(cells) <= model::MAX_FACTS)
-                            & ((reads::path_count(cells) <= model::MAX_PATHS)
-                                & ((reads::form_count(cells) <= model::MAX_FORMS)
-                                    & ((reads::item_count(cells) <= model::MAX_ITEMS)
-                                        & (reads::rule_count(cells) <= model::MAX_RULES)))))))))
+    reads::node_count(cells) <= model::MAX_NODES
+        && reads::link_count(cells) <= model::MAX_LINKS
+        && reads::type_count(cells) <= model::MAX_TYPES
+        && reads::lang_count(cells) <= model::MAX_LANGS
+        && reads::shape_count(cells) <= model::MAX_SHAPES
+        && reads::fact_count(cells) <= model::MAX_FACTS
+        && reads::path_count(cells) <= model::MAX_PATHS
+        && reads::form_count(cells) <= model::MAX_FORMS
+        && reads::item_count(cells) <= model::MAX_ITEMS
+        && reads::rule_count(cells) <= model::MAX_RULES
 }
 
 fn node_ok(cells: &[u16], v: NodeNo) -> bool
@@ -62,30 +63,19 @@ fn node_ok(cells: &[u16], v: NodeNo) -> bool
     }
 }
 
+// No early exit: with one (`all`) the whole check takes twice as long.
 fn nodes_ok(cells: &[u16]) -> bool
     ensures { result ≡ every (node_ok cells.now) (node_count cells.now) }
 {
-    let n = reads::node_count(cells);
-    let mut ok = true;
-    for v in 0..n {
-        ok = ok & node_ok(cells, NodeNo(v as u16));
-    }
-    ok
+    (0..reads::cell_at(cells, 0, NODE_COUNT)).fold(true, |ok, v| ok & node_ok(cells, NodeNo(v)))
 }
 
 // The cells of len places from base on, as far as there are cells.
 fn column(cells: &[u16], base: usize, len: usize) -> &[u16]
     ensures { result.now ≡ take len (drop base cells.now) }
 {
-    if cells.len() <= base {
-        let end = cells.len();
-        return &cells[end..];
-    }
-    if cells.len() - base <= len {
-        return &cells[base..];
-    }
-    let end = base + len;
-    &cells[base..end]
+    let rest = &cells[base.min(cells.len())..];
+    &rest[..len.min(rest.len())]
 }
 
 // Each of len places of the column that begins at base is below the bound. A place past the end reads as zero.
@@ -94,11 +84,8 @@ fn column_below(cells: &[u16], base: usize, len: usize, bound: u16) -> bool
     ensures { result ≡ every (place_below cells.now base bound) len }
 {
     let there = column(cells, base, len);
-    let mut ok = (there.len() == len) | (0 < bound);
-    for i in 0..there.len() {
-        ok = ok & (there[i] < bound);
-    }
-    ok
+    let rest = (there.len() == len) | (0 < bound);
+    there.iter().fold(rest, |ok, x| ok & (*x < bound))
 }
 
 // Column by column: subjects, predicates, objects.
@@ -106,8 +93,8 @@ fn facts_ok(cells: &[u16]) -> bool
     ensures { result ≡ every (fact_ok cells.now) (fact_count cells.now) }
 {
     let n = reads::fact_count(cells);
-    let nodes = reads::cell_at(cells, 0, 0);
-    let links = reads::cell_at(cells, 0, 1);
+    let nodes = reads::cell_at(cells, 0, NODE_COUNT);
+    let links = reads::cell_at(cells, 0, LINK_COUNT);
     column_below(cells, SUBJECTS, n, nodes)
         & (column_below(cells, PREDICATES, n, links) & column_below(cells, OBJECTS, n, nodes))
 }
@@ -125,36 +112,19 @@ fn path_ok(cells: &[u16], e: usize) -> bool
     }
 }
 
-// What a list's items are: languages (`lang`), links (`closed`).
-#[derive(Clone, Copy)]
-enum ItemsOf {
-    Langs,
-    Links,
-}
-
-// Item i is there, and the tables have what it names.
-fn item_ok(cells: &[u16], listed: ItemsOf, i: usize) -> bool
-    ensures { result ≡ item_ok cells.now (item_bound cells.now listed) i }
+// Item i is there, and is below the bound.
+fn item_ok(cells: &[u16], bound: usize, i: usize) -> bool
+    ensures { result ≡ item_ok cells.now bound i }
 {
-    let there = i < reads::item_count(cells);
-    match listed {
-        ItemsOf::Langs => there & below(reads::item(cells, i), reads::lang_count(cells)),
-        ItemsOf::Links => there & link_there(cells, reads::item_link(cells, i)),
-    }
+    (i < reads::item_count(cells)) & below(reads::item(cells, i), bound)
 }
 
 // n items from number i on.
-fn items_ok(cells: &[u16], listed: ItemsOf, i: u16, n: u16) -> bool
-    ensures { result ≡ items_ok cells.now (item_bound cells.now listed) i n }
+fn items_ok(cells: &[u16], bound: usize, i: u16, n: u16) -> bool
+    ensures { result ≡ items_ok cells.now bound i n }
 {
     let from = reads::wide(i);
-    let count = reads::wide(n);
-    for k in 0..count {
-        if !item_ok(cells, listed, from + k) {
-            return false;
-        }
-    }
-    true
+    (from..from + reads::wide(n)).all(|k| item_ok(cells, bound, k))
 }
 
 // Shape s begins with an entry before e.
@@ -193,7 +163,7 @@ fn entry_ok(cells: &[u16], e: usize) -> bool
         codes::FORM_NOT => below(a, e),
         codes::FORM_KIND => a < codes::KIND_UNKNOWN,
         codes::FORM_DATATYPE => below(a, reads::type_count(cells)),
-        codes::FORM_LANG => items_ok(cells, ItemsOf::Langs, a, b),
+        codes::FORM_LANG => items_ok(cells, reads::lang_count(cells), a, b),
         codes::FORM_FROM..=codes::FORM_BELOW => true,
         codes::FORM_COUNT => count_ok(
             cells,
@@ -206,7 +176,7 @@ fn entry_ok(cells: &[u16], e: usize) -> bool
         codes::FORM_ALL => below(a, reads::path_count(cells)) & below(b, e),
         codes::FORM_EQUAL | codes::FORM_APART => end_ok(cells, reads::wide(a))
             & link_there(cells, reads::form_link(cells, e)),
-        codes::FORM_CLOSED => items_ok(cells, ItemsOf::Links, a, b),
+        codes::FORM_CLOSED => items_ok(cells, reads::link_count(cells), a, b),
         codes::FORM_LESS | codes::FORM_LESSEQ => below(a, reads::path_count(cells))
             & link_there(cells, reads::form_link(cells, e)),
         codes::FORM_ONELANG => below(a, reads::path_count(cells)),
@@ -230,60 +200,41 @@ fn rule_ok(cells: &[u16], k: usize) -> bool
     }
 }
 
-// The shorter parts; nodes and facts have loops of their own.
-#[derive(Clone, Copy)]
-enum Part {
-    Paths,
-    Forms,
-    Shapes,
-    Rules,
+fn paths_ok(cells: &[u16]) -> bool
+    ensures { result ≡ every (λ e. path_entry_ok cells.now e (path_entry_at cells.now e)) (path_count cells.now) }
+{
+    (0..reads::path_count(cells)).all(|e| path_ok(cells, e))
 }
 
-fn part_count(cells: &[u16], part: Part) -> usize
-    ensures { result ≡ part_count cells.now part }
+fn forms_ok(cells: &[u16]) -> bool
+    ensures { result ≡ every (λ e. entry_ok cells.now e (entry_at cells.now [] e)) (form_count cells.now) }
 {
-    match part {
-        Part::Paths => reads::path_count(cells),
-        Part::Forms => reads::form_count(cells),
-        Part::Shapes => reads::shape_count(cells),
-        Part::Rules => reads::rule_count(cells),
-    }
+    (0..reads::form_count(cells)).all(|e| entry_ok(cells, e))
 }
 
-fn part_ok(cells: &[u16], part: Part, i: usize) -> bool
-    ensures { result ≡ table_part_ok cells.now part i }
+fn shapes_ok(cells: &[u16]) -> bool
+    ensures { result ≡ every (λ s. ltb (root_at cells.now s) (form_count cells.now)) (shape_count cells.now) }
 {
-    match part {
-        Part::Paths => path_ok(cells, i),
-        Part::Forms => entry_ok(cells, i),
-        Part::Shapes => reads::root(cells, i) < reads::form_count(cells),
-        Part::Rules => rule_ok(cells, i),
-    }
+    (0..reads::shape_count(cells)).all(|s| reads::root(cells, s) < reads::form_count(cells))
 }
 
-fn all_ok(cells: &[u16], part: Part) -> bool
-    ensures { result ≡ every (table_part_ok cells.now part) (part_count cells.now part) }
+fn rules_ok(cells: &[u16]) -> bool
+    ensures { result ≡ every (rule_ok cells.now) (rule_count cells.now) }
 {
-    let n = part_count(cells, part);
-    for i in 0..n {
-        if !part_ok(cells, part, i) {
-            return false;
-        }
-    }
-    true
+    (0..reads::rule_count(cells)).all(|k| rule_ok(cells, k))
 }
 
 // Refusal 9 is for tables of which this is false; of a longer slice the caller lends the part up to CELLS. The counts are
 // looked at first: no loop is longer than its limit.
+#[tactic(auto, unfolding(tables::specs::WellFormed::well_formed))]
 pub fn well_formed(cells: &[u16]) -> bool
     ensures { result ≡ well_formed cells.now }
 {
-    if !counts_ok(cells) {
-        return false;
-    }
-    nodes_ok(cells)
-        & (facts_ok(cells)
-            & (all_ok(cells, Part::Paths)
-                & (all_ok(cells, Part::Forms)
-                    & (all_ok(cells, Part::Shapes) & all_ok(cells, Part::Rules)))))
+    counts_ok(cells)
+        && nodes_ok(cells)
+        && facts_ok(cells)
+        && paths_ok(cells)
+        && forms_ok(cells)
+        && shapes_ok(cells)
+        && rules_ok(cells)
 }

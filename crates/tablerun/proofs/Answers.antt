@@ -1,5 +1,6 @@
 -- Tables that are long enough and well formed get no refusal: not from compile, and not from run on the plan that compile left.
 use Prim.Native.Nat.{ℕ, ◌≤◌}
+use Rattle.std.specs.Prelude.{Result, Ok, IsOk}
 use mathlib.Core.List.{List, ◌++◌}
 use mathlib.Core.Option.{Option}
 use mathlib.Core.Bool.{true, ◌&&◌}
@@ -12,8 +13,8 @@ use lib.Seq.{take_at}
 use borrow.Author.Tests.{le-leb}
 use Rattle.base.proofs.Bools.{and_both}
 use Rattle.model.specs.declared.Refusal.{Refusal}
-use Rattle.model.specs.Answers.{value}
-use Rattle.model.proofs.Answers.{same-value, not_refused, done}
+use Rattle.model.specs.Answers.{value, answer_of, is_given}
+use Rattle.model.proofs.Answers.{same-value, given-ok, done}
 use Rattle.tables.specs.Layout.{name_count, cell_count, value_count, rule_count}
 use Rattle.tables.specs.Names.{sub_class_at}
 use Rattle.tables.specs.Sizes.{long_enough}
@@ -23,12 +24,8 @@ use Rattle.plan.specs.WellFormed.{plan_well_formed}
 use Rattle.plancheck.proofs.Both.{both_formed}
 use Rattle.translation.specs.Compile.{steps_of, plan_of}
 use Rattle.translation.proofs.Plans.{length-plan_of}
-use Rattle.compiler.specs.declared.Compiled.{Compiled}
-use Rattle.compiler.specs.declared.Compiled.TheVariants as compiled
 use Rattle.compiler.specs.Answers as compiles
 use Rattle.compiler.proofs.Answers.{compile_answers, long-both}
-use Rattle.runner.specs.declared.Ran.{Ran}
-use Rattle.runner.specs.declared.Ran.TheVariants as ran
 use Rattle.runner.specs.Run as runs
 use Rattle.runner.proofs.Answers.{run-answers}
 use Rattle.lists.specs.Rows.{list_in, with_rows, with_lengths}
@@ -50,11 +47,11 @@ module _ (ns cells : List ℕ) (values : List ℤ) (ps : List ℕ) (long : long_
   pub compile_value : compiles.compile_answer ns cells values ps ≡ value (length (steps_of cs))
   compile_value = sym compile_done.0
 
-  pub never_refused : (x : Compiled) (r : Refusal) → compiles.answer_of x ≡ compiles.compile_answer ns cells values ps → x ≡ compiled.Refused r → ⊥
-  never_refused x r e f = not_refused (sym (ap compiles.answer_of (sym f) ∙ e ∙ compile_value))
+  pub is-compiled : (x : Result ℕ Refusal) → answer_of x ≡ compiles.compile_answer ns cells values ps → IsOk x
+  is-compiled x e = given-ok x ∙ ap is_given (e ∙ compile_value)
 
-  pub steps-told : (x : Compiled) (n : ℕ) → compiles.answer_of x ≡ compiles.compile_answer ns cells values ps → x ≡ compiled.Steps n → n ≡ length (steps_of cs)
-  steps-told x n e f = same-value (ap compiles.answer_of (sym f) ∙ e ∙ compile_value)
+  pub steps-told : (x : Result ℕ Refusal) (n : ℕ) → answer_of x ≡ compiles.compile_answer ns cells values ps → x ≡ Ok n → n ≡ length (steps_of cs)
+  steps-told x n e f = same-value (ap answer_of (sym f) ∙ e ∙ compile_value)
 
   pub plan-left : compiles.plan_after ns cells values ps ≡ plan_of cs ++ drop plan_count ps
   plan-left = sym compile_done.1
@@ -80,8 +77,8 @@ module _ (ns cells : List ℕ) (values : List ℤ) (ps : List ℕ) (long : long_
     pub run_value : runs.run_answer ns cells values qs ws ≡ value tt
     run_value = sym run_done.0
 
-    pub run_never_refused : (x : Ran) (r : Refusal) → runs.answer_of x ≡ runs.run_answer ns cells values qs ws → x ≡ ran.Refused r → ⊥
-    run_never_refused x r e f = not_refused (sym (ap runs.answer_of (sym f) ∙ e ∙ run_value))
+    pub is_run : (x : Result (Unit {0}) Refusal) → answer_of x ≡ runs.run_answer ns cells values qs ws → IsOk x
+    is_run x e = given-ok x ∙ ap is_given (e ∙ run_value)
 
     pub work-left : runs.work_after ns cells values qs ws ≡ runs.filled sub cs (take value_count values) (plan_of cs) ws
     work-left = sym run_done.1 ∙ ap (λ p. runs.filled sub cs (take value_count values) p ws) plan-cells

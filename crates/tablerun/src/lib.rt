@@ -13,10 +13,10 @@ ghost use Rattle.runner.specs.Run.{work_count, filled};
 ghost use Rattle.lists.specs.Rows.{list_count, length_count, with_rows, with_lengths};
 ghost use Rattle.tablerun.specs.Lists.{list_at};
 
-use compiler::{Compiled, compile};
+use compiler::compile;
 use lists::list_rows;
 use plan::PLAN_CELLS;
-use runner::{Ran, run};
+use runner::run;
 use tables::layout::CELLS;
 
 // The plan of the tables, and each step's set in the work space. The number of steps.
@@ -32,14 +32,8 @@ fn plan_and_run(
     ensures new_plan { plan.new ≡ plan_of (take cell_count cells.now) ++ drop plan_count plan.old }
     ensures new_work { work.new ≡ filled (sub_class_at (take name_count names.now) (take cell_count cells.now)) (take cell_count cells.now) (take value_count values.now) (plan_of (take cell_count cells.now)) work.old }
 {
-    let made = compile(names, cells, values, plan);
-    let Compiled::Steps(n) = made else {
-        return 0;
-    };
-    let ran = run(names, cells, values, &plan[..], work);
-    let Ran::Done = ran else {
-        return 0;
-    };
+    let n = compile(names, cells, values, plan).unwrap();
+    run(names, cells, values, &plan[..], work).unwrap();
     n
 }
 

@@ -1,4 +1,5 @@
 // What stands at a place of the tables. A place past the end of a lent slice reads as zero. Node and link numbers are wrapped here.
+// Each read has a name of its own: one read by a column, `cell_at`, would leave the column and the wrapping to every caller.
 ghost use Rattle.std.specs.Prelude.{◌≡◌, ◌+◌, get_or};
 ghost use Rattle.tables.specs.Layout.{node_count, link_count, type_count, lang_count, shape_count, fact_count, path_count, form_count, item_count, rule_count, kind_at, type_at, lang_at, predicate_at, path_code_at, path_first_at, path_second_at, form_code_at, form_first_at, form_second_at, form_third_at, form_fourth_at, item_at, root_at, rule_shape_at, rule_target_at, rule_operand_at, number_at, limit_at};
 
@@ -8,26 +9,28 @@ use crate::layout::{
     NODE_TYPES, PATH_CODES, PATH_COUNT, PATH_FIRSTS, PATH_SECONDS, PREDICATES, ROOTS, RULE_COUNT,
     RULE_OPERANDS, RULE_SHAPES, RULE_TARGETS, SHAPE_COUNT, TYPE_COUNT,
 };
+use base::cell;
 use model::{LinkNo, NodeNo};
 
-// Place i of the column that begins at base.
+// Place i of the column that begins at base, the default past the end.
+fn at<T: Copy>(list: &[T], base: usize, i: usize, default: T) -> T
+    ensures { result ≡ get_or list.now (base + i) default }
+{
+    cell(list, base.saturating_add(i), default)
+}
+
+// The same of the cells.
 pub fn cell_at(cells: &[u16], base: usize, i: usize) -> u16
     ensures { result ≡ get_or cells.now (base + i) 0 }
 {
-    if cells.len() <= base {
-        return 0;
-    }
-    if cells.len() - base <= i {
-        return 0;
-    }
-    cells[base + i]
+    at(cells, base, i, 0)
 }
 
-// A cell as an index.
+// A cell as an index: `usize::from` by a name that says what the number is for.
 pub fn wide(x: u16) -> usize
     ensures { result ≡ x }
 {
-    x as usize
+    usize::from(x)
 }
 
 pub fn node_count(cells: &[u16]) -> usize
@@ -233,18 +236,11 @@ pub fn rule_link(cells: &[u16], k: usize) -> LinkNo
 pub fn number(values: &[i64], v: NodeNo) -> i64
     ensures { result ≡ number_at values.now v.0 }
 {
-    let i = v.0 as usize;
-    if i < values.len() { values[i] } else { 0 }
+    at(values, 0, v.0 as usize, 0)
 }
 
 pub fn limit(values: &[i64], e: usize) -> i64
     ensures { result ≡ limit_at values.now e }
 {
-    if values.len() <= FORM_VALUES {
-        return 0;
-    }
-    if values.len() - FORM_VALUES <= e {
-        return 0;
-    }
-    values[FORM_VALUES + e]
+    at(values, FORM_VALUES, e, 0)
 }

@@ -1,91 +1,61 @@
--- A stored name held against a word, byte by byte; and the lowest link of a name, found from the last link on.
-use Prim.Native.Nat.{ℕ, suc, ◌+◌, ◌<◌, ◌≤◌}
+-- A stored name held against a word, and the lowest link of a name.
+use Prim.Native.Nat.{ℕ, zero, suc, ◌+◌, ◌-◌, ◌<◌, ◌≤◌}
 use mathlib.Core.Bool.{Bool, true, false, not, cond, ◌&&◌, ◌||◌}
 use mathlib.Core.List.{List, [], ◌∷◌}
 use mathlib.Core.Option.{Option}
 use mathlib.Core.Path.{◌≡◌, refl, sym, ap, ap₂, ◌∙◌}
-use native.Mathlib.Numerals.{add-one}
 use native.Mathlib.Omega.{arith}
 use lib.Dec.{eqb}
-use lib.ListN.{length, get_or, take, drop, drop_of_length-le}
-use lib.Seq.{drop-cons}
-use borrow.Author.Tests.{eq-eqb, ne_eqb, eqb-true, eqb-false, lt-ltb, le-ltb, not-true}
+use lib.ListN.{length, get_or, take, drop, length-drop}
+use lib.Pointwise.{pointwise}
+use lib.Seq.{get_or-drop}
+use borrow.Author.Tests.{eq-eqb, ne_eqb, eqb-true, lt-ltb, not-true}
 use Rattle.base.specs.Bytes.{eql}
-use Rattle.base.specs.Least.{next_from, least, least_of}
+use Rattle.base.specs.Least.{least_of}
 use Rattle.base.specs.Lists.{allb}
-use Rattle.base.proofs.Bools.{bool_cases}
-use Rattle.base.proofs.Least.{next-step, least_of_lem}
-use Rattle.base.proofs.Lists.{allb-at}
+use Rattle.base.proofs.Bools.{bool_cases, and_left, and_right, same_test, eqb_comm}
+use Rattle.base.proofs.Least.{least-is, least_of_lem, least_of_none}
 use Rattle.model.specs.Limits.{max_name, name_bytes}
 use Rattle.tables.specs.Names.{before_zero, name_from}
-use Rattle.tables.proofs.Names.{name_byte_lem, name_full}
 
-module _ (ns : List ℕ) (at : ℕ) (w : List ℕ) where
-  -- the bytes in which the name stands
-  abbrev s : List ℕ
-  s = take max_name (drop at ns)
+suc_test : (a b : ℕ) → eqb (suc a) (suc b) ≡ eqb a b
+suc_test a b = same_test (eqb (suc a) (suc b)) (eqb a b) (λ h. let e : suc a ≡ suc b = eqb-true (suc a) (suc b) h in eq-eqb a b (omega arith)) (λ h. let e : a ≡ b = eqb-true a b h in eq-eqb (suc a) (suc b) (omega arith))
 
-  -- up to j they are those of the word
-  abbrev pub Rest : ℕ → Type 0
-  Rest j = eql w (name_from ns at) ≡ eql (drop j w) (before_zero (drop j s))
+-- the first bytes are the word, and there the name is over: by its length, or by a zero
+held : (w d : List ℕ) (m : ℕ) → length w ≤ m → m < length d → allb (λ x. not (eqb x 0)) w ≡ true → (pointwise eqb (take (length w) d) w && (eqb (length w) m || eqb (get_or d (length w) 0) 0)) ≡ eql w (before_zero (take m d))
+unfolding eql before_zero allb
+held [] d zero short room full = refl
+held [] [] (suc m) short room full = absurd (omega (arith, room))
+held [] (y ∷ d) (suc m) short room full = ap (λ (b : Bool). b || eqb y 0) (ne_eqb 0 (suc m) (λ e. let z : ⊥ = omega arith in z)) ∙ bool_cases (λ b. b ≡ eql [] (cond b [] (y ∷ before_zero (take m d)))) (eqb y 0) (λ _. refl) (λ _. refl)
+held (x ∷ w) d zero short room full = absurd (omega (arith, short))
+held (x ∷ w) [] (suc m) short room full = absurd (omega (arith, room))
+held (x ∷ w) (y ∷ d) (suc m) short room full =
+    let rest = held w d m (omega (arith, short)) (omega (arith, room)) (and_right (not (eqb x 0)) (allb (λ x. not (eqb x 0)) w) full) in
+    let p : Bool = pointwise eqb (take (length w) d) w in
+    let z : Bool = eqb (get_or d (length w) 0) 0 in
+    let t : List ℕ = before_zero (take m d) in
+    ap₂ (λ (a b : Bool). (a && p) && (b || z)) (eqb_comm y x) (suc_test (length w) m)
+    ∙ assoc (eqb x y) p (eqb (length w) m || z)
+    ∙ ap (λ (b : Bool). eqb x y && b) rest
+    ∙ bool_cases (λ b. eqb y 0 ≡ b → (eqb x y && eql w t) ≡ eql (x ∷ w) (cond b [] (y ∷ t))) (eqb y 0)
+    (λ _ h. ap (λ (b : Bool). b && eql w t) (ap (eqb x) (eqb-true y 0 h) ∙ not-true (eqb x 0) (and_left (not (eqb x 0)) (allb (λ x. not (eqb x 0)) w) full)))
+    (λ _ h. refl) refl
+  where
+    assoc : (a b c : Bool) → ((a && b) && c) ≡ (a && (b && c))
+    assoc true b c = refl
+    assoc false b c = refl
 
-  pub rest-none : Rest 0
-  unfolding name_from
-  rest-none = refl
+pub named : (ns : List ℕ) (at : ℕ) (w : List ℕ) {same : Bool} → at + name_bytes ≤ length ns → length w ≤ max_name → allb (λ x. not (eqb x 0)) w ≡ true
+    → same ≡ pointwise eqb (take (at + length w - at) (drop at ns)) w → (same && (eqb (length w) max_name || eqb (get_or ns (at + length w) 0) 0)) ≡ eql w (name_from ns at)
+unfolding name_from
+named ns at w room short full e =
+    ap₂ (λ (a : Bool) (k : ℕ). a && (eqb (length w) max_name || eqb k 0)) (e ∙ ap (λ (k : ℕ). pointwise eqb (take k (drop at ns)) w) (let z : at + length w - at ≡ length w = omega arith in z)) (sym (get_or-drop at ns (length w) 0))
+    ∙ held w (drop at ns) max_name short (omega (arith, room, length-drop at ns)) full
 
-  module _ (room : at + name_bytes ≤ length ns) (short : length w ≤ max_name) (full : allb (λ x. not (eqb x 0)) w ≡ true) where
-    -- byte j of the name, and of the word
-    here : (j : ℕ) → j < max_name → drop j s ≡ get_or ns (at + j) 0 ∷ drop (suc j) s
-    here j l = drop-cons s j 0 (omega (arith, name_full ns at (omega arith))) ∙ ap (λ (x : ℕ). x ∷ drop (suc j) s) (name_byte_lem ns at j l)
-
-    letter : (j : ℕ) → j < length w → drop j w ≡ get_or w j 0 ∷ drop (suc j) w
-    letter j l = drop-cons w j 0 l
-
-    not_zero : (j : ℕ) → j < length w → eqb (get_or w j 0) 0 ≡ false
-    not_zero j l = not-true (eqb (get_or w j 0) 0) (allb-at (λ x. not (eqb x 0)) w 0 full j l)
-
-    -- what is left at byte j: a zero ends the name, another byte begins its rest
-    left : (j : ℕ) → j < max_name → before_zero (drop j s) ≡ cond (eqb (get_or ns (at + j) 0) 0) [] (get_or ns (at + j) 0 ∷ before_zero (drop (suc j) s))
-    unfolding before_zero
-    left j l = ap before_zero (here j l)
-
-    pub rest_more : (j : ℕ) → j < length w → get_or ns (at + j) 0 ≡ get_or w j 0 → Rest j → Rest (j + 1)
-    unfolding eql
-    rest_more j l e r =
-        let x : ℕ = get_or w j 0 in
-        r ∙ ap₂ eql (letter j l) (left j (omega arith) ∙ ap (λ (y : ℕ). cond (eqb y 0) [] (y ∷ before_zero (drop (suc j) s))) e ∙ ap (λ (b : Bool). cond b [] (x ∷ before_zero (drop (suc j) s))) (not_zero j l))
-        ∙ ap (λ (b : Bool). b && eql (drop (suc j) w) (before_zero (drop (suc j) s))) (eq-eqb x x refl)
-        ∙ ap (λ (k : ℕ). eql (drop k w) (before_zero (drop k s))) (sym (add-one j))
-
-    -- another byte than the word's
-    pub rest-fails : (j : ℕ) → j < length w → (get_or ns (at + j) 0 ≡ get_or w j 0 → ⊥) → Rest j → false ≡ eql w (name_from ns at)
-    unfolding eql
-    rest-fails j l ne r =
-        let x : ℕ = get_or w j 0 in
-        let y : ℕ = get_or ns (at + j) 0 in
-        let t : List ℕ = before_zero (drop (suc j) s) in
-        sym (r ∙ ap₂ eql (letter j l) (left j (omega arith))
-        ∙ bool_cases (λ b. eqb y 0 ≡ b → eql (x ∷ drop (suc j) w) (cond b [] (y ∷ t)) ≡ false) (eqb y 0) (λ _ _. refl) (λ _ _. ap (λ (b : Bool). b && eql (drop (suc j) w) t) (ne_eqb x y (λ e. ne (sym e)))) refl)
-
-    -- the word is over, and so must the name be
-    pub rest-ends : (j : ℕ) → j ≡ length w → Rest j → (eqb j max_name || eqb (get_or ns (at + j) 0) 0) ≡ eql w (name_from ns at)
-    unfolding eql before_zero
-    rest-ends j e r = sym (r ∙ ap (λ (u : List ℕ). eql u (before_zero (drop j s))) (drop_of_length-le w {i = j} (omega arith)) ∙ bool_cases (λ b. eqb j max_name ≡ b → eql [] (before_zero (drop j s)) ≡ (b || eqb y 0)) (eqb j max_name)
-        (λ _ q. ap (λ (u : List ℕ). eql [] (before_zero u)) (drop_of_length-le s {i = j} (omega (arith, eqb-true j max_name q, name_full ns at (omega arith)))))
-        (λ _ q. let ne : j ≡ max_name → ⊥ = eqb-false j max_name q in ap (eql []) (left j (omega arith)) ∙ bool_cases (λ b. eql [] (cond b [] (y ∷ before_zero (drop (suc j) s))) ≡ b) (eqb y 0) (λ _. refl) (λ _. refl)) refl)
-      where
-        y : ℕ
-        y = get_or ns (at + j) 0
-
--- ---- the lowest number that has a property, from the last on
+-- ---- the lowest number that has a property: the first that a loop finds, or there is none
 module _ (p : ℕ → Bool) (n : ℕ) where
-  -- one number lower
-  pub found-more : (k : ℕ) {found : ℕ} {b : Bool} → k < n → b ≡ p k → found ≡ next_from p (suc k) n → cond b k found ≡ next_from p k n
-  found-more k l e f = ap₂ (λ (b : Bool) (r : ℕ). cond b k r) e f ∙ sym (next-step p n k l)
+  pub found_here : (k : ℕ) → k < n → ((j : ℕ) → j < k → p j ≡ false) → p k ≡ true → Option.some k ≡ least_of p n
+  found_here k l none hit = sym (least_of_lem p n (sym (least-is p n k l none hit)) ∙ ap (λ (b : Bool). cond b (Option.some k) Option.none) (lt-ltb k n l))
 
-  -- all of them: found, or there is none
-  pub found_there : {found : ℕ} → found ≡ least p n → found < n → Option.some found ≡ least_of p n
-  found_there {found} e l = sym (least_of_lem p n e ∙ ap (λ (b : Bool). cond b (Option.some found) Option.none) (lt-ltb found n l))
-
-  pub found_none : {found : ℕ} → found ≡ least p n → n ≤ found → Option.none ≡ least_of p n
-  found_none {found} e l = sym (least_of_lem p n e ∙ ap (λ (b : Bool). cond b (Option.some found) Option.none) (le-ltb found n l))
+  pub found_none : ((j : ℕ) → j < n → p j ≡ false) → Option.none ≡ least_of p n
+  found_none none = sym ((least_of_none p n).1 none)

@@ -10,43 +10,43 @@ use native.Mathlib.Omega.{arith}
 use borrow.Author.Tests.{leb-true, ltb-false, ne_eqb, le-ltb, lt-ltb, lt-leb}
 use lib.Dec.{ltb, leb, eqb}
 use lib.IntN.{ℤ, pos, negsuc, neg_ℤ, ◌-ℤ◌}
-use lib.ListN.{length, get_or}
-use lib.Seq.{slice, length-slice, slice-cons, slice_empty}
+use lib.ListN.{length, get_or, drop, drop_of_length-le}
+use lib.Seq.{slice, length-slice, slice-cons, slice_empty, drop-cons}
 use mir.Syntax.{w64}
 use mir.Val.{to_z, of_z, SFits}
 use mir.Facts.{to_z-of_z}
 use Rattle.base.specs.Lists.{allb}
 use Rattle.text.specs.Decimals.{digit, value_from, is_mag, mag_of, positive_of, negative_of, number_of, bound_of}
-use Rattle.text.specs.declared.Number.{Number}
-use Rattle.text.specs.declared.Bound.{Bound}
-use Rattle.text.specs.declared.Mag.{Mag}
 use Rattle.model.specs.Limits.{max_count}
+use Rattle.std.specs.Prelude.{Ok, Err}
+use Rattle.text.specs.declared.NumberError.{NumberError}
+use Rattle.text.specs.declared.NumberError.TheVariants.{Malformed, Range}
 
--- ---- digits of a part
-module _ (s : List ℕ) (t i : ℕ) (h : i < t) (k : t ≤ length s) where
-  pub digits-first : allb digit (slice i t s) ≡ true → (48 ≤ get_or s i 0) × (get_or s i 0 ≤ 57) × (allb digit (slice (i + 1) t s) ≡ true)
+-- ---- digits from a place on
+module _ (w : List ℕ) (i : ℕ) (h : i < length w) where
+  pub digits-first : allb digit (drop i w) ≡ true → (48 ≤ get_or w i 0) × (get_or w i 0 ≤ 57) × (allb digit (drop (i + 1) w) ≡ true)
   unfolding digit allb
   digits-first e =
-      let e' = rw (slice-cons i t s 0 h k) at e in
+      let e' = rw (drop-cons w i 0 h) at e in
       let p = (and-eq-true_iff _ _).0 e' in
       let q = (and-eq-true_iff _ _).0 p.0 in
       (leb-true 48 _ q.0, leb-true _ 57 q.1, rw add-one p.1)
 
-  pub value-step : (v : ℕ) → value_from v (slice i t s) ≡ value_from (v * 10 + (get_or s i 0 - 48)) (slice (i + 1) t s)
+  pub value-step : (v : ℕ) → value_from v (drop i w) ≡ value_from (v * 10 + (get_or w i 0 - 48)) (drop (i + 1) w)
   unfolding value_from
-  value-step v = rw (add-one i) (rw (slice-cons i t s 0 h k))
+  value-step v = rw (add-one i) (rw (drop-cons w i 0 h))
 
 pub value_grows : (v : ℕ) (w : List ℕ) → v ≤ value_from v w
 unfolding value_from
 value_grows v [] = le_refl v
 value_grows v (d ∷ w) = omega (arith, value_grows (v * 10 + (d - 48)) w)
 
-pub value_none : (v : ℕ) (s : List ℕ) (t : ℕ) → value_from v (slice t t s) ≡ v
+pub value_none : (v : ℕ) (w : List ℕ) (i : ℕ) → length w ≤ i → value_from v (drop i w) ≡ v
 unfolding value_from
-value_none v s t = rw slice_empty
+value_none v w i h = rw (drop_of_length-le w h)
 
-pub value-over : (s : List ℕ) (t i : ℕ) → i < t → t ≤ length s → (v : ℕ) → 1000000000000000000 ≤ v → 10000000000000000000 ≤ value_from v (slice i t s)
-value-over s t i h k v l = rw (value-step s t i h k v) (omega (arith, value_grows (v * 10 + (get_or s i 0 - 48)) (slice (i + 1) t s)))
+pub value-over : (w : List ℕ) (i : ℕ) → i < length w → (v : ℕ) → 1000000000000000000 ≤ v → 10000000000000000000 ≤ value_from v (drop i w)
+value-over w i h v l = rw (value-step w i h v) (omega (arith, value_grows (v * 10 + (get_or w i 0 - 48)) (drop (i + 1) w)))
 
 pub is_mag-at : (s : List ℕ) (f t : ℕ) → f ≤ t → t ≤ length s
     → (ltb f t && (allb digit (slice f t s) && (not (eqb (get_or s f 0) 48) || eqb (t - f) 1))) ≡ is_mag (slice f t s)
@@ -64,42 +64,42 @@ mag_digits s e =
 
 -- ---- a magnitude and its value
 module _ (s : List ℕ) where
-  pub mag_not : is_mag s ≡ false → mag_of s ≡ Mag.Not
+  pub mag_not : is_mag s ≡ false → mag_of s ≡ Err Malformed
   unfolding mag_of
   mag_not e = rw e
 
-  pub mag_over : is_mag s ≡ true → 10000000000000000000 ≤ value_from 0 s → mag_of s ≡ Mag.Over
+  pub mag_over : is_mag s ≡ true → 10000000000000000000 ≤ value_from 0 s → mag_of s ≡ Err Range
   unfolding mag_of
   mag_over e h = rw (e, le-ltb (value_from 0 s) 10000000000000000000 h)
 
-  pub mag_is : is_mag s ≡ true → (v : ℕ) → value_from 0 s ≡ v → v < 10000000000000000000 → mag_of s ≡ Mag.Is v
+  pub mag_is : is_mag s ≡ true → (v : ℕ) → value_from 0 s ≡ v → v < 10000000000000000000 → mag_of s ≡ Ok v
   unfolding mag_of
   mag_is e v p h = rw (e, p, lt-ltb v 10000000000000000000 h)
 
   -- and back
-  pub not_mag : mag_of s ≡ Mag.Not → is_mag s ≡ false
+  pub not_mag : mag_of s ≡ Err Malformed → is_mag s ≡ false
   unfolding mag_of
   not_mag p = go (is_mag s) (ltb (value_from 0 s) 10000000000000000000) p
     where
-      go : (a b : Bool) → cond a (cond b (Mag.Is (value_from 0 s)) Mag.Over) Mag.Not ≡ Mag.Not → a ≡ false
+      go : (a b : Bool) → cond a (cond b (Ok (value_from 0 s)) (Err Range)) (Err Malformed) ≡ Err Malformed → a ≡ false
       go true true p = let z : ◌≡◌ {A = ℕ} 0 1 = cc in absurd (omega arith)
       go true false p = let z : ◌≡◌ {A = ℕ} 0 1 = cc in absurd (omega arith)
       go false b p = refl
 
-  pub over_mag : mag_of s ≡ Mag.Over → (is_mag s ≡ true) × (10000000000000000000 ≤ value_from 0 s)
+  pub over_mag : mag_of s ≡ Err Range → (is_mag s ≡ true) × (10000000000000000000 ≤ value_from 0 s)
   unfolding mag_of
   over_mag p = let q = go (is_mag s) (ltb (value_from 0 s) 10000000000000000000) p in (q.0, ltb-false (value_from 0 s) 10000000000000000000 q.1)
     where
-      go : (a b : Bool) → cond a (cond b (Mag.Is (value_from 0 s)) Mag.Over) Mag.Not ≡ Mag.Over → (a ≡ true) × (b ≡ false)
+      go : (a b : Bool) → cond a (cond b (Ok (value_from 0 s)) (Err Range)) (Err Malformed) ≡ Err Range → (a ≡ true) × (b ≡ false)
       go true true p = let z : ◌≡◌ {A = ℕ} 0 1 = cc in absurd (omega arith)
       go true false p = (refl, refl)
       go false b p = let z : ◌≡◌ {A = ℕ} 0 1 = cc in absurd (omega arith)
 
-  pub is_mag_lem : (v : ℕ) → mag_of s ≡ Mag.Is v → (is_mag s ≡ true) × (value_from 0 s ≡ v)
+  pub is_mag_lem : (v : ℕ) → mag_of s ≡ Ok v → (is_mag s ≡ true) × (value_from 0 s ≡ v)
   unfolding mag_of
   is_mag_lem v p = go (is_mag s) (ltb (value_from 0 s) 10000000000000000000) p
     where
-      go : (a b : Bool) → cond a (cond b (Mag.Is (value_from 0 s)) Mag.Over) Mag.Not ≡ Mag.Is v → (a ≡ true) × (value_from 0 s ≡ v)
+      go : (a b : Bool) → cond a (cond b (Ok (value_from 0 s)) (Err Range)) (Err Malformed) ≡ Ok v → (a ≡ true) × (value_from 0 s ≡ v)
       go true true p = (refl, cc)
       go true false p = let z : ◌≡◌ {A = ℕ} 0 1 = cc in absurd (omega arith)
       go false b p = let z : ◌≡◌ {A = ℕ} 0 1 = cc in absurd (omega arith)
@@ -109,52 +109,43 @@ neg_suc zero n = absurd (n refl)
 neg_suc (suc v) n = rw sub-one
 
 -- ---- the readings, by magnitude
-module _ (s : List ℕ) (e : mag_of s ≡ Mag.Not) where
-  pub positive-none : positive_of s ≡ Number.Not
+-- no magnitude, no reading, for the same reason
+module _ (s : List ℕ) where
+  pub positive_err : (e : NumberError) → mag_of s ≡ Err e → positive_of s ≡ Err e
   unfolding positive_of
-  positive-none = rw (not_mag s e)
+  positive_err Malformed e = rw (not_mag s e)
+  positive_err Range e = let m = over_mag s e in rw (m.0, le-ltb (value_from 0 s) 9223372036854775808 (omega arith))
 
-  pub negative_none : negative_of s ≡ Number.Not
+  pub negative_err : (e : NumberError) → mag_of s ≡ Err e → negative_of s ≡ Err e
   unfolding negative_of
-  negative_none = rw (not_mag s e)
+  negative_err Malformed e = rw (not_mag s e)
+  negative_err Range e = let m = over_mag s e in rw (m.0, ne_eqb (value_from 0 s) 0 (λ z. omega arith), lt-leb (value_from 0 s) 9223372036854775808 (omega arith))
 
-  pub bound-none : bound_of s ≡ Bound.Not
+  pub bound_err : (e : NumberError) → mag_of s ≡ Err e → bound_of s ≡ Err e
   unfolding bound_of
-  bound-none = rw (not_mag s e)
+  bound_err Malformed e = rw (not_mag s e)
+  bound_err Range e = let m = over_mag s e in rw (m.0, lt-leb (value_from 0 s) max_count (omega arith))
 
-module _ (s : List ℕ) (e : mag_of s ≡ Mag.Over) where
-  pub positive-long : positive_of s ≡ Number.Range
-  unfolding positive_of
-  positive-long = let m = over_mag s e in rw (m.0, le-ltb (value_from 0 s) 9223372036854775808 (omega arith))
-
-  pub negative_long : negative_of s ≡ Number.Range
-  unfolding negative_of
-  negative_long = let m = over_mag s e in rw (m.0, ne_eqb (value_from 0 s) 0 (λ z. omega arith), lt-leb (value_from 0 s) 9223372036854775808 (omega arith))
-
-  pub bound-long : bound_of s ≡ Bound.Over
-  unfolding bound_of
-  bound-long = let m = over_mag s e in rw (m.0, lt-leb (value_from 0 s) max_count (omega arith))
-
-module _ (s : List ℕ) (v : ℕ) (e : mag_of s ≡ Mag.Is v) where
-  pub positive-is : positive_of s ≡ cond (ltb v 9223372036854775808) (Number.Value (pos v)) Number.Range
+module _ (s : List ℕ) (v : ℕ) (e : mag_of s ≡ Ok v) where
+  pub positive-is : positive_of s ≡ cond (ltb v 9223372036854775808) (Ok (pos v)) (Err Range)
   unfolding positive_of
   positive-is = let m = is_mag_lem s v e in rw (m.0, m.1)
 
-  pub negative_zero : v ≡ 0 → negative_of s ≡ Number.Not
+  pub negative_zero : v ≡ 0 → negative_of s ≡ Err Malformed
   unfolding negative_of
   negative_zero z = let m = is_mag_lem s v e in rw (m.0, m.1, z)
 
-  pub negative_is : (v ≡ 0 → ⊥) → negative_of s ≡ cond (leb v 9223372036854775808) (Number.Value (negsuc (v - 1))) Number.Range
+  pub negative_is : (v ≡ 0 → ⊥) → negative_of s ≡ cond (leb v 9223372036854775808) (Ok (negsuc (v - 1))) (Err Range)
   unfolding negative_of
-  negative_is n = let m = is_mag_lem s v e in rw (m.0, m.1, ne_eqb v 0 n) (ap (λ (z : ℤ). cond (leb v 9223372036854775808) (Number.Value z) Number.Range) (neg_suc v n))
+  negative_is n = let m = is_mag_lem s v e in rw (m.0, m.1, ne_eqb v 0 n) (ap (λ (z : ℤ). cond (leb v 9223372036854775808) (Ok z) (Err Range)) (neg_suc v n))
 
-  pub bound-is : bound_of s ≡ cond (leb v max_count) (Bound.Value v) Bound.Over
+  pub bound-is : bound_of s ≡ cond (leb v max_count) (Ok v) (Err Range)
   unfolding bound_of
   bound-is = let m = is_mag_lem s v e in rw (m.0, m.1)
 
 -- ---- the sign
 module _ (s : List ℕ) (f t : ℕ) (k : t ≤ length s) where
-  pub number-none : f ≡ t → number_of (slice f t s) ≡ Number.Not
+  pub number-none : f ≡ t → number_of (slice f t s) ≡ Err Malformed
   unfolding number_of positive_of is_mag
   number-none e = rw (e, slice_empty t s)
 

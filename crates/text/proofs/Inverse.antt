@@ -17,10 +17,11 @@ use Rattle.base.proofs.Bools.{bool_cases, and_left, and_right, and_both, or_case
 use Rattle.base.proofs.Lists.{allb_append}
 use Rattle.text.specs.Items.{edge}
 use Rattle.text.specs.Decimals.{digits_of, decimal, signed, digit, value_from, is_mag, positive_of, negative_of, number_of, bound_of}
-use Rattle.text.specs.declared.Number.{Number}
-use Rattle.text.specs.declared.Bound.{Bound}
 use Rattle.text.proofs.Words.{plain, digits-plain}
 use Rattle.model.specs.Limits.{max_count}
+use Rattle.std.specs.Prelude.{Result, Ok, Err}
+use Rattle.text.specs.declared.NumberError.{NumberError}
+use Rattle.text.specs.declared.NumberError.TheVariants.{Malformed, Range}
 
 -- ---- the two equations of `decimal`
 -- any bound above n gives the same digits
@@ -228,13 +229,13 @@ module _ where
       (λ e. let h = ltb-true n 9223372036854775808 e in le-leb n 9223372036854775807 (omega arith))
       (λ e. let h = leb-true n 9223372036854775807 e in lt-ltb n 9223372036854775808 (omega arith))
 
-  signed_forth : (z : ℤ) → number_of (signed z) ≡ cond (in_range z) (Number.Value z) Number.Range
+  signed_forth : (z : ℤ) → number_of (signed z) ≡ cond (in_range z) (Ok z) (Err Range)
   unfolding number_of positive_of negative_of signed in_range
   signed_forth (pos n) = rw (no_minus n, decimal_mag n, value-decimal n, low_test n)
   signed_forth (negsuc n) = rw (decimal_mag (suc n), value-decimal (suc n), ne_eqb (suc n) 0 (λ z. omega arith), low_test n, and-true (leb n 9223372036854775807))
 
   abbrev Written : List ℕ → Type 0
-  Written s = (number_of s ≡ Number.Not) ⊎ ((z : ℤ) × (s ≡ signed z))
+  Written s = (number_of s ≡ Err Malformed) ⊎ ((z : ℤ) × (s ≡ signed z))
 
   -- after a minus
   minus-back : (w : List ℕ) → Written (45 ∷ w)
@@ -264,58 +265,58 @@ module _ where
       (λ _ e. plain_back (x ∷ s) e)
       refl
 
-abbrev tell_number : Number → ℕ
-tell_number (Number.Value z) = 0
-tell_number Number.Range = 1
-tell_number Number.Not = 2
+abbrev tell_number : Result ℤ NumberError → ℕ
+tell_number (Ok z) = 0
+tell_number (Err Range) = 1
+tell_number (Err Malformed) = 2
 
-numbers : Reading signed in_range number_of Number.Value Number.Range Number.Not
+numbers : Reading signed in_range number_of Ok (Err Range) (Err Malformed)
 numbers = record { tell = tell_number; tells = λ a. (refl, refl, refl); same = λ a b e. cc; forth = signed_forth; back = signed_back }
 
 -- a number of the range is read from what is written of it, and from no other text
-pub number-value : (s : List ℕ) (z : ℤ) → (number_of s ≡ Number.Value z) ↔ ((s ≡ signed z) × (in_range z ≡ true))
+pub number-value : (s : List ℕ) (z : ℤ) → (number_of s ≡ Ok z) ↔ ((s ≡ signed z) × (in_range z ≡ true))
 number-value = value_iff numbers
 
 -- out of the range: what is written of a number that is not in it
-pub number_range : (s : List ℕ) → (number_of s ≡ Number.Range) ↔ ((z : ℤ) × (s ≡ signed z) × (in_range z ≡ false))
+pub number_range : (s : List ℕ) → (number_of s ≡ Err Range) ↔ ((z : ℤ) × (s ≡ signed z) × (in_range z ≡ false))
 number_range = out_iff numbers (pos 0)
 
 -- not a number: what is written of none
-pub number-not : (s : List ℕ) → (number_of s ≡ Number.Not) ↔ ((z : ℤ) → s ≡ signed z → ⊥)
+pub number-not : (s : List ℕ) → (number_of s ≡ Err Malformed) ↔ ((z : ℤ) → s ≡ signed z → ⊥)
 number-not = none_iff numbers
 
 -- ---- bounds
 module _ where
-  bound_forth : (n : ℕ) → bound_of (decimal n) ≡ cond (leb n max_count) (Bound.Value n) Bound.Over
+  bound_forth : (n : ℕ) → bound_of (decimal n) ≡ cond (leb n max_count) (Ok n) (Err Range)
   unfolding bound_of
   bound_forth n = rw (decimal_mag n, value-decimal n)
 
-  bound-back : (s : List ℕ) → (bound_of s ≡ Bound.Not) ⊎ ((n : ℕ) × (s ≡ decimal n))
+  bound-back : (s : List ℕ) → (bound_of s ≡ Err Malformed) ⊎ ((n : ℕ) × (s ≡ decimal n))
   unfolding bound_of
-  bound-back s = bool_cases (λ b. is_mag s ≡ b → (bound_of s ≡ Bound.Not) ⊎ ((n : ℕ) × (s ≡ decimal n))) (is_mag s)
+  bound-back s = bool_cases (λ b. is_mag s ≡ b → (bound_of s ≡ Err Malformed) ⊎ ((n : ℕ) × (s ≡ decimal n))) (is_mag s)
       (λ _ e. inr (value_from 0 s, sym (mag_decimal s e)))
       (λ _ e. inl (rw e))
       refl
 
-abbrev tell_bound : Bound → ℕ
-tell_bound (Bound.Value n) = 0
-tell_bound Bound.Over = 1
-tell_bound Bound.Not = 2
+abbrev tell_bound : Result ℕ NumberError → ℕ
+tell_bound (Ok n) = 0
+tell_bound (Err Range) = 1
+tell_bound (Err Malformed) = 2
 
-bounds : Reading decimal (λ n. leb n max_count) bound_of Bound.Value Bound.Over Bound.Not
+bounds : Reading decimal (λ n. leb n max_count) bound_of Ok (Err Range) (Err Malformed)
 bounds = record { tell = tell_bound; tells = λ a. (refl, refl, refl); same = λ a b e. cc; forth = bound_forth; back = bound-back }
 
-pub bound-value : (s : List ℕ) (n : ℕ) → (bound_of s ≡ Bound.Value n) ↔ ((s ≡ decimal n) × (n ≤ max_count))
+pub bound-value : (s : List ℕ) (n : ℕ) → (bound_of s ≡ Ok n) ↔ ((s ≡ decimal n) × (n ≤ max_count))
 bound-value s n =
     let i = value_iff bounds s n in
     (λ e. ((i.0 e).0, leb-true n max_count (i.0 e).1), λ w. i.1 (w.0, le-leb n max_count w.1))
 
-pub bound-over : (s : List ℕ) → (bound_of s ≡ Bound.Over) ↔ ((n : ℕ) × (s ≡ decimal n) × (max_count < n))
+pub bound-over : (s : List ℕ) → (bound_of s ≡ Err Range) ↔ ((n : ℕ) × (s ≡ decimal n) × (max_count < n))
 bound-over s =
     let i = out_iff bounds 0 s in
     (λ e. let w = i.0 e in (w.0, w.1, leb-false w.0 max_count w.2), λ w. i.1 (w.0, w.1, lt-leb w.0 max_count w.2))
 
-pub bound-not : (s : List ℕ) → (bound_of s ≡ Bound.Not) ↔ ((n : ℕ) → s ≡ decimal n → ⊥)
+pub bound-not : (s : List ℕ) → (bound_of s ≡ Err Malformed) ↔ ((n : ℕ) → s ≡ decimal n → ⊥)
 bound-not = none_iff bounds
 
 -- ---- a decimal is an item
@@ -330,10 +331,10 @@ signed-plain (negsuc n) = decimal-plain (suc n)
 -- ---- the edges, computed
 abbrev Cases : Type 0
 Cases =
-    (map (λ s. number_of (bytes s)) ("-0" ∷ "+1" ∷ "01" ∷ "--1" ∷ "" ∷ "-" ∷ []) ≡ Number.Not ∷ Number.Not ∷ Number.Not ∷ Number.Not ∷ Number.Not ∷ Number.Not ∷ [])
-    × (map (λ s. number_of (bytes s)) ("9223372036854775807" ∷ "-9223372036854775808" ∷ "0" ∷ "-1" ∷ []) ≡ map Number.Value (pos 9223372036854775807 ∷ neg_ℤ (pos 9223372036854775808) ∷ pos 0 ∷ neg_ℤ (pos 1) ∷ []))
-    × (map (λ s. number_of (bytes s)) ("9223372036854775808" ∷ "-9223372036854775809" ∷ []) ≡ Number.Range ∷ Number.Range ∷ [])
-    × (map (λ s. bound_of (bytes s)) ("0" ∷ "1024" ∷ "1025" ∷ "99999999999999999999" ∷ "01" ∷ "-1" ∷ "" ∷ []) ≡ Bound.Value 0 ∷ Bound.Value 1024 ∷ Bound.Over ∷ Bound.Over ∷ Bound.Not ∷ Bound.Not ∷ Bound.Not ∷ [])
+    (map (λ s. number_of (bytes s)) ("-0" ∷ "+1" ∷ "01" ∷ "--1" ∷ "" ∷ "-" ∷ []) ≡ Err Malformed ∷ (Err Malformed) ∷ (Err Malformed) ∷ (Err Malformed) ∷ (Err Malformed) ∷ (Err Malformed) ∷ [])
+    × (map (λ s. number_of (bytes s)) ("9223372036854775807" ∷ "-9223372036854775808" ∷ "0" ∷ "-1" ∷ []) ≡ map Ok (pos 9223372036854775807 ∷ neg_ℤ (pos 9223372036854775808) ∷ pos 0 ∷ neg_ℤ (pos 1) ∷ []))
+    × (map (λ s. number_of (bytes s)) ("9223372036854775808" ∷ "-9223372036854775809" ∷ []) ≡ Err Range ∷ (Err Range) ∷ [])
+    × (map (λ s. bound_of (bytes s)) ("0" ∷ "1024" ∷ "1025" ∷ "99999999999999999999" ∷ "01" ∷ "-1" ∷ "" ∷ []) ≡ Ok 0 ∷ Ok 1024 ∷ (Err Range) ∷ (Err Range) ∷ (Err Malformed) ∷ (Err Malformed) ∷ (Err Malformed) ∷ [])
     × (map signed (neg_ℤ (pos 9223372036854775808) ∷ pos 0 ∷ pos 1024 ∷ []) ≡ bytes "-9223372036854775808" ∷ bytes "0" ∷ bytes "1024" ∷ [])
 
 pub cases : Cases

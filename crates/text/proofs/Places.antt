@@ -14,13 +14,12 @@ use Rattle.base.proofs.Bools.{bool_cases, and_left, and_right, never_both, same_
 use Rattle.base.proofs.Bytes.{eql_true, eql-refl}
 use Rattle.text.specs.Items.{is_name, name_byte}
 use Rattle.text.specs.Pool.{padded, all_names, pool_of, first_from, index_of, place, find}
-use Rattle.text.specs.declared.Found.{Found}
-use Rattle.text.specs.declared.Found.TheVariants.{At, Nothing}
 use Rattle.text.proofs.Items.{name_short, name_bytes_lem}
 use Rattle.text.proofs.Pool.{padded-length}
 use Rattle.text.specs.Spans.{Span}
 use Rattle.text.proofs.Spans.{span_split}
 use Rattle.model.specs.Limits.{name_bytes}
+use Rattle.std.specs.Prelude.{Option, Some, None}
 
 -- ---- the first number that passes
 -- k is the first of the n numbers from i on that passes
@@ -31,12 +30,12 @@ pub record First (p : ℕ → Bool) (n i k : ℕ) : Type 0 where
   pub others : (j : ℕ) → i ≤ j → j < k → p j ≡ false
 
 module _ (p : ℕ → Bool) where
-  pub first-at : (n i k : ℕ) → first_from p n i ≡ At k → First p n i k
+  pub first-at : (n i k : ℕ) → first_from p n i ≡ Some k → First p n i k
   unfolding first_from
   first-at zero i k e = let z : ◌≡◌ {A = ℕ} 0 1 = cc in absurd (omega arith)
   first-at (suc n) i k e = go (first-at n (suc i) k) (p i) refl e
     where
-      go : (first_from p n (suc i) ≡ At k → First p n (suc i) k) → (b : Bool) → p i ≡ b → cond b (At i) (first_from p n (suc i)) ≡ At k → First p (suc n) i k
+      go : (first_from p n (suc i) ≡ Some k → First p n (suc i) k) → (b : Bool) → p i ≡ b → cond b (Some i) (first_from p n (suc i)) ≡ Some k → First p (suc n) i k
       go ih true q e =
           let z : i ≡ k = cc in
           record { low = omega arith; high = omega arith; passes = ap p (sym z) ∙ q; others = λ j l h. absurd (omega arith) }
@@ -46,24 +45,24 @@ module _ (p : ℕ → Bool) where
           let h = f.high in
           record { low = omega arith; high = omega arith; passes = f.passes; others = λ j a b. ⊎_elim (λ z. ap p (sym z) ∙ q) (λ a'. f.others j a' b) (eq-or-lt_of_le a) }
 
-  pub at_first : (n i k : ℕ) → First p n i k → first_from p n i ≡ At k
+  pub at_first : (n i k : ℕ) → First p n i k → first_from p n i ≡ Some k
   unfolding first_from
   at_first zero i k f = let l = f.low in let h = f.high in absurd (omega arith)
   at_first (suc n) i k f = ⊎_elim
-      (λ (z : i ≡ k). let q : p i ≡ true = ap p z ∙ f.passes in rw q (ap At z))
+      (λ (z : i ≡ k). let q : p i ≡ true = ap p z ∙ f.passes in rw q (ap Some z))
       (λ (l : i < k). let h = f.high in rw (f.others i (le_refl i) l) (at_first n (suc i) k (record { low = l; high = omega arith; passes = f.passes; others = λ j a b. f.others j (omega arith) b })))
       (eq-or-lt_of_le f.low)
 
-  pub first-nothing : (n i : ℕ) → first_from p n i ≡ Nothing → (j : ℕ) → i ≤ j → j < i + n → p j ≡ false
+  pub first-nothing : (n i : ℕ) → first_from p n i ≡ None → (j : ℕ) → i ≤ j → j < i + n → p j ≡ false
   unfolding first_from
   first-nothing zero i e j a b = absurd (omega arith)
   first-nothing (suc n) i e j a b = go (first-nothing n (suc i)) (p i) refl e
     where
-      go : (first_from p n (suc i) ≡ Nothing → (j : ℕ) → suc i ≤ j → j < suc i + n → p j ≡ false) → (b : Bool) → p i ≡ b → cond b (At i) (first_from p n (suc i)) ≡ Nothing → p j ≡ false
+      go : (first_from p n (suc i) ≡ None → (j : ℕ) → suc i ≤ j → j < suc i + n → p j ≡ false) → (b : Bool) → p i ≡ b → cond b (Some i) (first_from p n (suc i)) ≡ None → p j ≡ false
       go ih true q e = let z : ◌≡◌ {A = ℕ} 0 1 = cc in absurd (omega arith)
       go ih false q e = ⊎_elim (λ z. ap p (sym z) ∙ q) (λ a'. ih e j a' (omega arith)) (eq-or-lt_of_le a)
 
-  pub nothing-first : (n i : ℕ) → ((j : ℕ) → i ≤ j → j < i + n → p j ≡ false) → first_from p n i ≡ Nothing
+  pub nothing-first : (n i : ℕ) → ((j : ℕ) → i ≤ j → j < i + n → p j ≡ false) → first_from p n i ≡ None
   unfolding first_from
   nothing-first zero i h = refl
   nothing-first (suc n) i h = rw (h i (le_refl i) (omega arith)) (nothing-first n (suc i) (λ j a b. h j (omega arith) (omega arith)))
@@ -71,7 +70,7 @@ module _ (p : ℕ → Bool) where
 pub first_ext : (p q : ℕ → Bool) (n i : ℕ) → ((j : ℕ) → i ≤ j → j < i + n → p j ≡ q j) → first_from p n i ≡ first_from q n i
 unfolding first_from
 first_ext p q zero i h = refl
-first_ext p q (suc n) i h = ap₂ (λ (b : Bool) (f : Found). cond b (At i) f) (h i (le_refl i) (omega arith)) (first_ext p q n (suc i) (λ j a b. h j (omega arith) (omega arith)))
+first_ext p q (suc n) i h = ap₂ (λ (b : Bool) (f : Option ℕ). cond b (Some i) f) (h i (le_refl i) (omega arith)) (first_ext p q n (suc i) (λ j a b. h j (omega arith) (omega arith)))
 
 -- ---- the first of n lists that is w
 abbrev pub FirstOf : (ℕ → List ℕ) → ℕ → List ℕ → ℕ → Type 0
@@ -87,13 +86,13 @@ eql_false : (a b : List ℕ) → eql a b ≡ false → b ≡ a → ⊥
 eql_false a b e q = never_both (ap (eql a) q ∙ eql-refl a) e
 
 module _ (f : ℕ → List ℕ) (n : ℕ) (w : List ℕ) where
-  search_at : (k : ℕ) → (first_from (λ j. eql w (f j)) n 0 ≡ At k) ↔ FirstOf f n w k
+  search_at : (k : ℕ) → (first_from (λ j. eql w (f j)) n 0 ≡ Some k) ↔ FirstOf f n w k
   search_at k = (
     λ e. let g = first-at (λ j. eql w (f j)) n 0 k e in let h = g.high in (omega arith, sym (eql_true w (f k) g.passes), λ j l q. eql_false w (f j) (g.others j (omega arith) l) q),
     λ g. at_first (λ j. eql w (f j)) n 0 k (let h = g.0 in record { low = omega arith; high = omega arith; passes = ap (eql w) g.1 ∙ eql-refl w; others = λ j _ l. eql_differs w (f j) (g.2 j l) }),
   )
 
-  search_nothing : (first_from (λ j. eql w (f j)) n 0 ≡ Nothing) ↔ NoneOf f n w
+  search_nothing : (first_from (λ j. eql w (f j)) n 0 ≡ None) ↔ NoneOf f n w
   search_nothing = (
     λ e j l q. eql_false w (f j) (first-nothing (λ j. eql w (f j)) n 0 e j (omega arith) (omega arith)) q,
     λ g. nothing-first (λ j. eql w (f j)) n 0 (λ j _ l. eql_differs w (f j) (g j (omega arith))),
@@ -101,17 +100,17 @@ module _ (f : ℕ → List ℕ) (n : ℕ) (w : List ℕ) where
 
 -- a search in a pool finds the first place with the padded name, and nothing exactly where none has it
 module _ (names : List ℕ) (base count : ℕ) (w : List ℕ) where
-  pub find_at : (k : ℕ) → (find names base count w ≡ At k) ↔ FirstOf (place names base) count (padded w) k
+  pub find_at : (k : ℕ) → (find names base count w ≡ Some k) ↔ FirstOf (place names base) count (padded w) k
   unfolding find
   find_at k = search_at (place names base) count (padded w) k
 
 -- and so in a list of names
 module _ (ws : List (List ℕ)) (w : List ℕ) where
-  pub index_at : (k : ℕ) → (index_of ws w ≡ At k) ↔ FirstOf (λ k. get_or ws k []) (length ws) w k
+  pub index_at : (k : ℕ) → (index_of ws w ≡ Some k) ↔ FirstOf (λ k. get_or ws k []) (length ws) w k
   unfolding index_of
   index_at k = search_at (λ k. get_or ws k []) (length ws) w k
 
-  pub index_nothing : (index_of ws w ≡ Nothing) ↔ NoneOf (λ k. get_or ws k []) (length ws) w
+  pub index_nothing : (index_of ws w ≡ None) ↔ NoneOf (λ k. get_or ws k []) (length ws) w
   unfolding index_of
   index_nothing = search_nothing (λ k. get_or ws k []) (length ws) w
 
@@ -189,7 +188,7 @@ find_pool ws {names} {base} {end} w a b p =
     (λ k _ l. let h : k < length ws = omega arith in ap (eql (padded w)) (pool_place ws a p k h) ∙ eql-padded w (get_or ws k []) b (names_at ws a k h))
 
 -- a new name has the next number
-pub index_new : (ws vs : List (List ℕ)) (w : List ℕ) → index_of ws w ≡ Nothing → index_of (ws ++ (w ∷ vs)) w ≡ At (length ws)
+pub index_new : (ws vs : List (List ℕ)) (w : List ℕ) → index_of ws w ≡ None → index_of (ws ++ (w ∷ vs)) w ≡ Some (length ws)
 index_new ws vs w e =
     (index_at (ws ++ (w ∷ vs)) w (length ws)).1 (
       omega (arith, length-append ws (w ∷ vs)),

@@ -1,17 +1,19 @@
 -- Padded names and the search for one, by position.
 use Prim.Native.Nat.{ℕ, suc, ◌+◌, ◌-◌, ◌<◌, ◌≤◌}
 use mathlib.Core.Path.{◌≡◌, sym, ap, ◌∙◌}
-use mathlib.Core.List.{List, append_assoc}
+use mathlib.Core.List.{List, ◌++◌, append_assoc}
 use mathlib.Core.Bool.{Bool, true, false}
 use native.Mathlib.Numerals.{add-one}
 use native.Mathlib.Omega.{arith}
-use lib.ListN.{length, get_or, take, drop, replicate, length-append, length-replicate, get_or-append}
-use lib.Seq.{slice, length-slice, get_or-append-add, paste, take_all}
+use lib.ListN.{length, get_or, take, drop, replicate, length-append, length-drop, length-replicate, get_or-append}
+use lib.Seq.{slice, length-slice, get_or-append-add, drop-drop, length-take-le}
+use borrow.Rule.Slice.PartMut.{put_mid, drop_put}
+use Rattle.std.proofs.lemmas.Slice.{take-put_mid}
 use Rattle.base.proofs.Lists.{zeros_at}
 use Rattle.text.specs.Pool.{padded, first_from, store}
-use Rattle.text.specs.declared.Found.TheVariants.{At, Nothing}
 use Rattle.text.proofs.Parts.{slice_at}
 use Rattle.model.specs.Limits.{name_bytes}
+use Rattle.std.specs.Prelude.{Some, None}
 
 module _ (s : List ℕ) (f t : ℕ) (k : t ≤ length s) where
   pub padded_in : (j : ℕ) → j < t - f → get_or (padded (slice f t s)) j 0 ≡ get_or s (f + j) 0
@@ -39,7 +41,7 @@ module _ (p : ℕ → Bool) (n k : ℕ) (l : k < n) where
   left : n - k ≡ suc (n - (k + 1))
   left = omega arith
 
-  pub first_here : p k ≡ true → first_from p (n - k) k ≡ At k
+  pub first_here : p k ≡ true → first_from p (n - k) k ≡ Some k
   unfolding first_from
   first_here e = rw (left, e)
 
@@ -47,10 +49,26 @@ module _ (p : ℕ → Bool) (n k : ℕ) (l : k < n) where
   unfolding first_from
   first_step e = rw (left, e, add-one k)
 
-pub first-none : (p : ℕ → Bool) (n k : ℕ) → n ≤ k → first_from p (n - k) k ≡ Nothing
+pub first-none : (p : ℕ → Bool) (n k : ℕ) → n ≤ k → first_from p (n - k) k ≡ None
 unfolding first_from
 first-none p n k h = let e : n - k ≡ 0 = omega arith in rw e
 
-pub store_done : (l v : List ℕ) (i : ℕ) → paste l i v (length v) ≡ store l i v
-unfolding store
-store_done l v i = rw (take_all (length v) v (omega arith)) (append_assoc (take i l) v (drop (i + length v) l))
+-- a word that is copied to its place, and then the zeros after it
+pub put_padded : (l w : List ℕ) {x z : List ℕ} (p e : ℕ) → e ≡ p + length w → p + name_bytes ≤ length l → length w ≤ name_bytes
+    → x ≡ w → z ≡ replicate (length (take (p + name_bytes - e) (drop e (put_mid p (e - p) l x)))) 0 → put_mid e (p + name_bytes - e) (put_mid p (e - p) l x) z ≡ store l p (padded w)
+unfolding padded store
+put_padded l w {x} {z} p e h room short qx qz =
+    let q : ℕ = p + name_bytes - e in
+    let zs : List ℕ = replicate (name_bytes - length w) 0 in
+    let lp = padded-length w short in
+    let past = drop_put p e l w (omega arith) (omega arith) (omega arith) in
+    let n : q ≡ name_bytes - length w = omega arith in
+    let s : e + q ≡ p + length (padded w) = omega arith in
+    let held : length (take q (drop e (put_mid p (e - p) l x))) ≡ name_bytes - length w =
+    ap (λ (y : List ℕ). length (take q (drop e (put_mid p (e - p) l y)))) qx ∙ ap (λ (y : List ℕ). length (take q y)) past ∙ length-take-le q (drop e l) (omega (arith, length-drop e l)) ∙ n in
+    ap (λ (a : List ℕ). put_mid e q (put_mid p (e - p) l a) z) qx
+    ∙ ap (put_mid e q (put_mid p (e - p) l w)) (qz ∙ ap (λ (k : ℕ). replicate k 0) held)
+    ∙ ap (λ (a : List ℕ). a ++ (zs ++ drop q (drop e (put_mid p (e - p) l w)))) (take-put_mid p (e - p) l w e h (omega arith))
+    ∙ ap (λ (b : List ℕ). (take p l ++ w) ++ (zs ++ b)) (ap (drop q) past ∙ drop-drop q e l ∙ ap (λ (k : ℕ). drop k l) s)
+    ∙ append_assoc (take p l) w (zs ++ drop (p + length (padded w)) l)
+    ∙ ap (λ (r : List ℕ). take p l ++ r) (sym (append_assoc w zs (drop (p + length (padded w)) l)))

@@ -3,9 +3,8 @@ use Rattle.std.specs.Prelude.{ℕ, zero, suc, ◌+◌, ◌-◌, ◌*◌, ◌%◌
 use Rattle.std.proofs.Math.Seq.{slice}
 use Rattle.base.specs.Bytes.{eql}
 use Rattle.text.specs.Items.{is_name}
-use Rattle.text.specs.declared.Found.{Found}
-use Rattle.text.specs.declared.Found.TheVariants.{At, Nothing}
 use Rattle.model.specs.Limits.{name_bytes}
+use Rattle.std.specs.Prelude.{Option, Some, None}
 
 -- a name in its bytes
 unfoldable pub padded : List ℕ → List ℕ
@@ -29,12 +28,12 @@ pool_of [] = []
 pool_of (w ∷ ws) = padded w ++ pool_of ws
 
 -- the first of n numbers from k on that passes a test
-unfoldable pub first_from : (ℕ → Bool) → ℕ → ℕ → Found
-first_from p zero k = Nothing
-first_from p (suc n) k = cond (p k) (At k) (first_from p n (suc k))
+unfoldable pub first_from : (ℕ → Bool) → ℕ → ℕ → Option ℕ
+first_from p zero k = None
+first_from p (suc n) k = cond (p k) (Some k) (first_from p n (suc k))
 
 -- the number of w in a list of names: its first place, from 0
-unfoldable pub index_of : List (List ℕ) → List ℕ → Found
+unfoldable pub index_of : List (List ℕ) → List ℕ → Option ℕ
 index_of ws w = first_from (λ k. eql w (get_or ws k [])) (length ws) 0
 
 -- the bytes of number k in the pool that starts at base
@@ -51,7 +50,7 @@ abbrev pub name_key : List ℕ → ℕ → ℕ → ℕ → ℕ
 name_key names base slots k = hash_of (place names base k) % slots
 
 -- the number of w in the pool of count names that starts at base
-unfoldable pub find : List ℕ → ℕ → ℕ → List ℕ → Found
+unfoldable pub find : List ℕ → ℕ → ℕ → List ℕ → Option ℕ
 find names base count w = first_from (λ k. eql (padded w) (place names base k)) count 0
 
 -- l, with the elements from i on replaced by those of v

@@ -2,50 +2,37 @@
 // Functions for the crates above, on positions of a text that these have shown to lie within it. Operations: none.
 #![tactic(auto)]
 
-ghost use Rattle.std.specs.Prelude.{◌≡◌, true, cond, ◌≤◌, ◌<◌, ◌+◌, ◌*◌, ◌-◌, length, get_or};
+ghost use Rattle.std.specs.Prelude.{◌≡◌, true, cond, ◌≤◌, ◌<◌, ◌+◌, ◌*◌, ◌-◌, nat_eq, position, length, get_or};
+ghost use Rattle.std.specs.Cmp.Lexicographic.{pointwise};
 ghost use Rattle.std.proofs.Math.Seq.{slice};
 ghost use Rattle.base.specs.Bounded.{every};
 ghost use Rattle.base.specs.Lists.{allb};
 ghost use Rattle.base.specs.Bytes.{eql};
 ghost use Rattle.chains.specs.Chains.{Chained};
 ghost use Rattle.text.specs.Items.{edge, item_end, name_byte, is_name};
-ghost use Rattle.text.specs.Decimals.{digit, is_mag, mag_of, positive_of, negative_of, number_of, bound_of};
+ghost use Rattle.text.specs.Decimals.{digit, is_mag, mag_of, positive_of, negative_of, number_of, bound_of, number_fault};
 ghost use Rattle.text.specs.Pool.{padded, same_at, zero_at, hash_of, name_key, find, store};
-ghost use Rattle.text.specs.declared.Found.TheVariants.{At};
 ghost use Rattle.model.specs.Limits.{max_name, name_bytes};
 
 use base::cell;
-use model::{MAX_COUNT, MAX_NAME, NAME_BYTES};
+use model::{Fault, MAX_COUNT, MAX_NAME, NAME_BYTES};
 
-// A signed decimal of the 64-bit range; a well written decimal out of it; anything else.
-#[derive(Clone, Copy)]
-pub enum Number {
-    Not,
+// Why a text is no number: it is not written as one; or it is, and stands for one out of the range.
+#[derive(Clone, Copy, Debug, PartialEq, Eq)]
+pub enum NumberError {
+    Malformed,
     Range,
-    Value(i64),
 }
 
-// An unsigned decimal up to 1,024; a greater one; anything else.
-#[derive(Clone, Copy)]
-pub enum Bound {
-    Not,
-    Over,
-    Value(u16),
-}
+impl From<NumberError> for Fault {
+    ghost from_gives = { λ e f. f ≡ number_fault e };
 
-// The number of a name in its pool.
-#[derive(Clone, Copy)]
-pub enum Found {
-    At(usize),
-    Nothing,
-}
-
-// The value of decimal digits without a leading zero, or that it is 10^19 or more; anything else.
-#[derive(Clone, Copy)]
-pub enum Mag {
-    Not,
-    Over,
-    Is(u64),
+    fn from(e: NumberError) -> Fault {
+        match e {
+            NumberError::Malformed => Fault::Grammar,
+            NumberError::Range => Fault::Range,
+        }
+    }
 }
 
 // The byte at a position, or 0 past the end.
@@ -66,14 +53,8 @@ pub fn is_edge(b: u8) -> bool
 pub fn item_end(book: &[u8], at: usize) -> usize
     ensures { result ≡ item_end book.now at }
 {
-    let mut i = at;
-    while i < book.len() {
-        if is_edge(book[i]) {
-            return i;
-        }
-        i += 1;
-    }
-    i
+    let rest = &book[at.min(book.len())..];
+    at + rest.iter().position(|b| is_edge(*b)).unwrap_or(rest.len())
 }
 
 fn is_name_byte(b: u8) -> bool
@@ -93,14 +74,7 @@ pub fn is_name(book: &[u8], at: usize, end: usize) -> bool
     if MAX_NAME < end - at {
         return false;
     }
-    let mut i = at;
-    while i < end {
-        if !is_name_byte(book[i]) {
-            return false;
-        }
-        i += 1;
-    }
-    true
+    book[at..end].iter().all(|b| is_name_byte(*b))
 }
 
 // The bytes from at to end are the word.
@@ -108,17 +82,7 @@ pub fn is_word(book: &[u8], at: usize, end: usize, word: &[u8]) -> bool
     requires { (at ≤ end) × (end ≤ length book.now) }
     ensures { result ≡ eql (slice at end book.now) word.now }
 {
-    if end - at != word.len() {
-        return false;
-    }
-    let mut j = 0;
-    while j < word.len() {
-        if book[at + j] != word[j] {
-            return false;
-        }
-        j += 1;
-    }
-    true
+    &book[at..end] == word
 }
 
 fn is_digit(b: u8) -> bool
@@ -131,14 +95,7 @@ fn all_digits(book: &[u8], at: usize, end: usize) -> bool
     requires { (at ≤ end) × (end ≤ length book.now) }
     ensures { result ≡ allb digit (slice at end book.now) }
 {
-    let mut i = at;
-    while i < end {
-        if !is_digit(book[i]) {
-            return false;
-        }
-        i += 1;
-    }
-    true
+    book[at..end].iter().all(|b| is_digit(*b))
 }
 
 // Digits without a leading zero.
@@ -150,70 +107,58 @@ fn is_mag(book: &[u8], at: usize, end: usize) -> bool
     (at < end) & (all_digits(book, at, end) & ((b != 48) | (end - at == 1)))
 }
 
-// The value of digits, however many: the sum stops before it could wrap.
-fn magnitude(book: &[u8], at: usize, end: usize) -> Mag
+// The value of digits, however many, below 10^19: the sum stops before it could wrap.
+fn magnitude(book: &[u8], at: usize, end: usize) -> Result<u64, NumberError>
     requires { (at ≤ end) × (end ≤ length book.now) }
     ensures { result ≡ mag_of (slice at end book.now) }
 {
     if !is_mag(book, at, end) {
-        return Mag::Not;
+        return Err(NumberError::Malformed);
     }
     let mut v: u64 = 0;
-    let mut i = at;
-    while i < end {
+    for b in &book[at..end] {
         if 1000000000000000000 <= v {
-            return Mag::Over;
+            return Err(NumberError::Range);
         }
-        v = v * 10 + (book[i] as u64 - 48);
-        i += 1;
+        v = v * 10 + (*b as u64 - 48);
     }
-    Mag::Is(v)
+    Ok(v)
 }
 
-fn positive(book: &[u8], at: usize, end: usize) -> Number
+fn positive(book: &[u8], at: usize, end: usize) -> Result<i64, NumberError>
     requires { (at ≤ end) × (end ≤ length book.now) }
     ensures { result ≡ positive_of (slice at end book.now) }
 {
-    match magnitude(book, at, end) {
-        Mag::Not => Number::Not,
-        Mag::Over => Number::Range,
-        Mag::Is(v) => {
-            if v < 9223372036854775808 {
-                Number::Value(v as i64)
-            } else {
-                Number::Range
-            }
-        }
+    let v = magnitude(book, at, end)?;
+    if v < 9223372036854775808 {
+        Ok(v as i64)
+    } else {
+        Err(NumberError::Range)
     }
 }
 
 // What stands after a minus: the least i64 has no positive counterpart, so it is reached from -1.
-fn negative(book: &[u8], at: usize, end: usize) -> Number
+fn negative(book: &[u8], at: usize, end: usize) -> Result<i64, NumberError>
     requires { (at ≤ end) × (end ≤ length book.now) }
     ensures { result ≡ negative_of (slice at end book.now) }
 {
-    match magnitude(book, at, end) {
-        Mag::Not => Number::Not,
-        Mag::Over => Number::Range,
-        Mag::Is(v) => {
-            if v == 0 {
-                return Number::Not;
-            }
-            if 9223372036854775808 < v {
-                return Number::Range;
-            }
-            Number::Value(-1 - ((v - 1) as i64))
-        }
+    let v = magnitude(book, at, end)?;
+    if v == 0 {
+        return Err(NumberError::Malformed);
     }
+    if 9223372036854775808 < v {
+        return Err(NumberError::Range);
+    }
+    Ok(-1 - ((v - 1) as i64))
 }
 
 // The signed decimal from at to end.
-pub fn number_at(book: &[u8], at: usize, end: usize) -> Number
+pub fn number_at(book: &[u8], at: usize, end: usize) -> Result<i64, NumberError>
     requires { (at ≤ end) × (end ≤ length book.now) }
     ensures { result ≡ number_of (slice at end book.now) }
 {
     if at == end {
-        return Number::Not;
+        return Err(NumberError::Malformed);
     }
     if byte(book, at) == 45 {
         return negative(book, at + 1, end);
@@ -225,29 +170,16 @@ pub fn number_at(book: &[u8], at: usize, end: usize) -> Number
 const MOST_COUNT: u64 = MAX_COUNT as u64;
 
 // The bound of a count from at to end.
-pub fn bound_at(book: &[u8], at: usize, end: usize) -> Bound
+pub fn bound_at(book: &[u8], at: usize, end: usize) -> Result<u16, NumberError>
     requires { (at ≤ end) × (end ≤ length book.now) }
     ensures { result ≡ bound_of (slice at end book.now) }
 {
-    match magnitude(book, at, end) {
-        Mag::Not => Bound::Not,
-        Mag::Over => Bound::Over,
-        Mag::Is(v) => {
-            if v <= MOST_COUNT {
-                Bound::Value(v as u16)
-            } else {
-                Bound::Over
-            }
-        }
+    let v = magnitude(book, at, end)?;
+    if v <= MOST_COUNT {
+        Ok(v as u16)
+    } else {
+        Err(NumberError::Range)
     }
-}
-
-// Byte j of the word from at to end, or 0 past it.
-pub fn letter(book: &[u8], at: usize, end: usize, j: usize) -> u8
-    requires { (at ≤ end) × (end ≤ length book.now) }
-    ensures { result ≡ get_or (padded (slice at end book.now)) j 0 }
-{
-    if j < end - at { book[at + j] } else { 0 }
 }
 
 // The len bytes from place on and those from at on are the same. No early exit: many bytes are compared at once.
@@ -283,6 +215,13 @@ pub fn same_name(names: &[u8], place: usize, book: &[u8], at: usize, end: usize)
     same_bytes(names, place, book, at, len) & zeros(names, place + len, NAME_BYTES - len)
 }
 
+// The number of a word in a list of words.
+pub fn find_word(words: &[&[u8]], word: &[u8]) -> Option<usize>
+    ensures { result ≡ position (λ w. pointwise nat_eq w.now word.now) words.now }
+{
+    words.iter().position(|w| *w == word)
+}
+
 // The number of the word from at to end in the pool of count names that starts at base.
 pub fn find_name(
     names: &[u8],
@@ -291,18 +230,18 @@ pub fn find_name(
     book: &[u8],
     at: usize,
     end: usize,
-) -> Found
+) -> Option<usize>
     requires { (at ≤ end) × (end ≤ length book.now) × (end - at ≤ max_name) × (base + count * name_bytes ≤ length names.now) }
     ensures { result ≡ find names.now base count (slice at end book.now) }
 {
     let mut k = 0;
     while k < count {
         if same_name(names, base + k * NAME_BYTES, book, at, end) {
-            return Found::At(k);
+            return Some(k);
         }
         k += 1;
     }
-    Found::Nothing
+    None
 }
 
 // The number of the bytes from at to end by which a chain is chosen.
@@ -311,19 +250,10 @@ pub fn hash(book: &[u8], at: usize, end: usize) -> usize
     ensures { result ≡ hash_of (slice at end book.now) }
 {
     let mut h = 0;
-    let mut i = end;
-    while at < i {
-        i -= 1;
-        h = (book[i] as usize + 131 * h) % 65536;
+    for b in book[at..end].iter().rev() {
+        h = (*b as usize + 131 * h) % 65536;
     }
     h
-}
-
-// Number i where it is the same, else what was found before.
-fn found_if(same: bool, i: usize, found: Found) -> Found
-    ensures { result ≡ cond same (At i) found }
-{
-    if same { Found::At(i) } else { found }
 }
 
 // As `find_name`, along the chain of the word's key; the chain goes downward, so the last match on it is the first of the pool.
@@ -338,20 +268,18 @@ pub fn find_chained(
     book: &[u8],
     at: usize,
     end: usize,
-) -> Found
+) -> Option<usize>
     requires { (at ≤ end) × (end ≤ length book.now) × (end - at ≤ max_name) × (base + count * name_bytes ≤ length names.now) × (heads + slots ≤ 65536) × (nexts + count ≤ 65536) × (0 < slots) × Chained (name_key names.now base slots) count slots heads nexts index.now }
     ensures { result ≡ find names.now base count (slice at end book.now) }
 {
-    let mut found = Found::Nothing;
-    let mut e = cell(index, heads + hash(book, at, end) % slots) as usize;
+    let mut found = None;
+    let mut e = cell(index, heads + hash(book, at, end) % slots, 0) as usize;
     while 0 < e {
         let i = e - 1;
-        found = found_if(
-            same_name(names, base + i * NAME_BYTES, book, at, end),
-            i,
-            found,
-        );
-        e = cell(index, nexts + i) as usize;
+        if same_name(names, base + i * NAME_BYTES, book, at, end) {
+            found = Some(i);
+        }
+        e = cell(index, nexts + i, 0) as usize;
     }
     found
 }
@@ -361,9 +289,7 @@ pub fn put_name(names: &mut [u8], place: usize, book: &[u8], at: usize, end: usi
     requires { (at ≤ end) × (end ≤ length book.now) × (end - at ≤ max_name) × (place + name_bytes ≤ length names.old) }
     ensures { names.new ≡ store names.old place (padded (slice at end book.now)) }
 {
-    let mut i = 0;
-    while i < NAME_BYTES {
-        names[place + i] = letter(book, at, end, i);
-        i += 1;
-    }
+    let last = place + (end - at);
+    names[place..last].copy_from_slice(&book[at..end]);
+    names[last..place + NAME_BYTES].fill(0);
 }

@@ -2,27 +2,26 @@
 #![tactic(auto)]
 
 ghost use Rattle.std.specs.Prelude.{◌≤◌, IfOk, length};
-ghost use Rattle.model.specs.Answers.{value_or};
-ghost use Rattle.report.specs.Answers.{answer_of};
+ghost use Rattle.model.specs.Answers.{answer_of, value_or};
 
 use lists::{LENGTH_PLACES, LIST_PLACES};
 use model::{MAX_BYTES, Refusal};
 use plan::PLAN_CELLS;
-use report::{PAGE_BYTES, Page, report_part, report_refusal};
+use report::{PAGE_BYTES, report_part, report_refusal};
 use runner::WORK_WORDS;
 use std::io;
 use std::io::{ErrorKind, Read};
 use tables::layout::{CELLS, NAMES, VALUES};
 use tables::reads::rule_count;
-use validation::{Validated, validate};
+use validation::validate;
 
 // What was written to the page; nothing where that was refused.
-fn print(rt: &impl Print, page: &[u8], written: Page) -> io::Result<()>
+fn print(rt: &impl Print, page: &[u8], written: Result<usize, Refusal>) -> io::Result<()>
     requires { value_or 0 (answer_of written) ≤ length page.now }
 {
     match written {
-        Page::Bytes(n) => rt.write_all(&page[..n]),
-        Page::Refused(_) => Ok(()),
+        Ok(n) => rt.write_all(&page[..n]),
+        Err(_) => Ok(()),
     }
 }
 
@@ -72,6 +71,7 @@ fn read_book(rt: &impl Input, book: &mut [u8]) -> io::Result<usize>
 // One byte more than a book may have, so that a longer one is seen to be too long.
 const BOOK_BYTES: usize = MAX_BYTES + 1;
 
+// The buffers are arrays of fixed length: nothing of the program is on a heap.
 fn main(rt: HostRuntime) -> io::Result<()> {
     let mut book = [0u8; BOOK_BYTES];
     let mut names = [0u8; NAMES];
@@ -94,9 +94,7 @@ fn main(rt: HostRuntime) -> io::Result<()> {
         &mut lengths,
     );
     match answer {
-        Validated::Refused(r) => print_refusal(&rt, r, &mut page),
-        Validated::Steps(_) => {
-            print_report(&rt, &names, &cells, &values, &lists, &lengths, &mut page)
-        }
+        Err(r) => print_refusal(&rt, r, &mut page),
+        Ok(_) => { print_report(&rt, &names, &cells, &values, &lists, &lengths, &mut page) }
     }
 }

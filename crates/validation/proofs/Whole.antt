@@ -12,7 +12,7 @@ use borrow.Author.Tests.{leb-true}
 use Rattle.base.specs.Lists.{member, ascending}
 use Rattle.base.proofs.Bools.{and_left, and_right}
 use Rattle.model.specs.declared.Refusal.{Refusal}
-use Rattle.model.specs.Answers.{Answer, value, refusal, map_value}
+use Rattle.model.specs.Answers.{answer_of, Answer, value, refusal, map_value}
 use Rattle.model.proofs.Answers.{same_refusal, not_refused}
 use Rattle.model.specs.Refusals.{code_of, line_of}
 use Rattle.model.specs.Books.{Book, links, sub_class_of, rules, list_of}
@@ -33,8 +33,7 @@ use Rattle.grammar.proofs.Books.{reading_iff, one_book, refused_only, valid-admi
 use Rattle.plan.specs.Layout.{plan_count, step_count}
 use Rattle.translation.specs.Compile.{steps_of, plan_of}
 use Rattle.translation.proofs.Plans.{plan-count, length-plan_of}
-use Rattle.reader.specs.declared.ReadAnswer.{ReadAnswer}
-use Rattle.reader.specs.declared.ReadAnswer.TheVariants as answers
+use Rattle.std.specs.Prelude.{Result, Ok, Err}
 use Rattle.reader.specs.Answers as reads
 use Rattle.runner.specs.Run.{work_count, set_words}
 use Rattle.runner.proofs.Work.{filled-words}
@@ -176,17 +175,17 @@ module _ (s ns cs : List ℕ) (vs : List ℤ) (e : long_enough ns cs vs ≡ true
   unfolding reads.read_answer
   by_reading = rw e refl
 
-  pub was_refused : (x : ReadAnswer) (r : Refusal) → reads.answer_of x ≡ reads.read_answer s ns cs vs → x ≡ answers.Refused r → reading s ≡ refusal (code_of r) (line_of r)
-  was_refused x r p q = go (reading s) refl (ap reads.answer_of (sym q) ∙ p ∙ by_reading)
+  pub was_refused : (x : Result Counts Refusal) (r : Refusal) → answer_of x ≡ reads.read_answer s ns cs vs → x ≡ Err r → reading s ≡ refusal (code_of r) (line_of r)
+  was_refused x r p q = go (reading s) refl (ap answer_of (sym q) ∙ p ∙ by_reading)
     where
-      go : (o : Answer Book) → reading s ≡ o → reads.answer_of (answers.Refused r) ≡ map_value counts_in (reading s) → reading s ≡ refusal (code_of r) (line_of r)
+      go : (o : Answer Book) → reading s ≡ o → answer_of (Err r) ≡ map_value counts_in (reading s) → reading s ≡ refusal (code_of r) (line_of r)
       go (value b) a d = absurd (not_refused (sym (d ∙ ap (map_value counts_in) a)))
       go (refusal k line) a d = let y = same_refusal (d ∙ ap (map_value counts_in) a) in a ∙ ap₂ refusal (sym y.0) (sym y.1)
 
-  pub was_accepted : (x : ReadAnswer) (n : Counts) → reads.answer_of x ≡ reads.read_answer s ns cs vs → x ≡ answers.Accepted n → (b : Book) × (reading s ≡ value b)
-  was_accepted x n p q = go (reading s) refl (ap reads.answer_of (sym q) ∙ p ∙ by_reading)
+  pub was_accepted : (x : Result Counts Refusal) (n : Counts) → answer_of x ≡ reads.read_answer s ns cs vs → x ≡ Ok n → (b : Book) × (reading s ≡ value b)
+  was_accepted x n p q = go (reading s) refl (ap answer_of (sym q) ∙ p ∙ by_reading)
     where
-      go : (o : Answer Book) → reading s ≡ o → reads.answer_of (answers.Accepted n) ≡ map_value counts_in (reading s) → (b : Book) × (reading s ≡ value b)
+      go : (o : Answer Book) → reading s ≡ o → answer_of (Ok n) ≡ map_value counts_in (reading s) → (b : Book) × (reading s ≡ value b)
       go (value b) a d = (b, a)
       go (refusal k line) a d = absurd (not_refused (d ∙ ap (map_value counts_in) a))
 
@@ -212,7 +211,7 @@ pub record Accepted (s : List ℕ) (l : Lent) (ns cs : List ℕ) (vs : List ℤ)
   pub cells : cs ≡ encode_cells book ++ drop cell_count l.cells
   pub values : vs ≡ encode_values book ++ drop value_count l.values
 
-pub accepted : (s : List ℕ) (l : Lent) → validate_long l ≡ true → (x : ReadAnswer) (n : Counts) {ns cs : List ℕ} {vs : List ℤ} → reads.answer_of x ≡ reads.read_answer s l.names l.cells l.values → x ≡ answers.Accepted n
+pub accepted : (s : List ℕ) (l : Lent) → validate_long l ≡ true → (x : Result Counts Refusal) (n : Counts) {ns cs : List ℕ} {vs : List ℤ} → answer_of x ≡ reads.read_answer s l.names l.cells l.values → x ≡ Ok n
     → ns ≡ reads.names_of s l.names l.cells l.values → cs ≡ reads.cells_of s l.names l.cells l.values → vs ≡ reads.values_of s l.names l.cells l.values → Accepted s l ns cs vs
 accepted s l e x n p q en ec ev =
     let t = (room l e).tables in
@@ -269,7 +268,3 @@ module _ {s : List ℕ} {l : Lent} {names cells : List ℕ} {values : List ℤ} 
 pub long_kept : (ns ns' cs cs' : List ℕ) (vs vs' : List ℤ) → long_enough ns cs vs ≡ true → length ns' ≡ length ns → length cs' ≡ length cs → length vs' ≡ length vs → long_enough ns' cs' vs' ≡ true
 unfolding long_enough
 long_kept ns ns' cs cs' vs vs' e p q r = rw (p, q, r) e
-
-pub long_by : (l : Lent) {tables : Bool} → tables ≡ long_enough l.names l.cells l.values → (tables && (leb plan_count (length l.plan) && (leb work_count (length l.work) && (leb list_count (length l.lists) && leb length_count (length l.lengths))))) ≡ validate_long l
-unfolding validate_long
-long_by l e = ap (λ (t : Bool). t && (leb plan_count (length l.plan) && (leb work_count (length l.work) && (leb list_count (length l.lists) && leb length_count (length l.lengths))))) e

@@ -4,7 +4,7 @@
 -- work space (lists: `list_in`, `row_in`) and how long the lent slices must be (`validate_long`).
 use Rattle.std.specs.Prelude.{ℕ, ◌+◌, ◌*◌, ◌<◌, ◌≤◌, ◌≡◌, List, Bool, true, false, ◌&&◌, ltb, length, take, drop, get_or}
 use Rattle.base.specs.Lists.{member, ascending}
-use Rattle.model.specs.Answers.{Answer, value, refusal, refusal_of}
+use Rattle.model.specs.Answers.{Answer, value, refusal}
 use Rattle.model.specs.Rules.{Rule, violates, no_rule}
 use Rattle.model.specs.Books.{Book, sub_class_of, graph_of, schema, rules}
 use Rattle.model.specs.Sizes.{forms_in}
@@ -16,8 +16,6 @@ use Rattle.translation.specs.Compile.{plan_of}
 use Rattle.runner.specs.Run.{set_words}
 use Rattle.lists.specs.Rows.{list_in, row_in}
 use Rattle.validation.specs.Lent.{Lent, validate_long, names_in, cells_in, values_in, plan_in, sub_class_in}
-use Rattle.validation.specs.declared.Validated.{Validated}
-use Rattle.validation.specs.declared.Validated.TheVariants.{Steps, Refused}
 
 -- rule r of a book, by its order among the rule lines
 abbrev pub rule_of : Book → ℕ → Rule
@@ -46,11 +44,6 @@ pub record Right (b : Book) (after : Lent) (steps : ℕ) : Type 0 where
   -- the number of steps is the plan's, at most four for each form entry and two for each rule
   pub counted : step_count (plan_in after) ≡ steps
   pub few : steps ≤ 4 * forms_in b + 2 * length (rules b)
-
--- ---- each case of the answer: the number of steps, or the refusal
-abbrev pub answer_of : Validated → Answer ℕ
-answer_of (Steps n) = value n
-answer_of (Refused r) = refusal_of r
 
 -- what is answered for the book b and left in the slices is right; the one refusal is 8, exactly where a slice is too short, and
 -- then nothing has changed

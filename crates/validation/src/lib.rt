@@ -3,26 +3,21 @@
 #![tactic(auto)]
 
 ghost use Rattle.std.specs.Prelude.{◌≡◌};
-ghost use Rattle.validation.specs.Claim.{answer_of, Demand3};
+ghost use Rattle.model.specs.Answers.{answer_of};
+ghost use Rattle.validation.specs.Claim.{Demand3};
 ghost use Rattle.validation.specs.Lent.{lent, validate_long};
 ghost use Rattle.validation.specs.Whole.{validate_answer, after};
 
 use lists::{LENGTH_PLACES, LIST_PLACES};
 use model::Refusal;
 use plan::PLAN_CELLS;
-use reader::{ReadAnswer, read};
+use reader::read;
 use runner::WORK_WORDS;
 use tablerun::run_tables;
 use tables::lent::enough;
 
-// The number of steps of the plan; or why the book is refused.
-#[derive(Clone, Copy)]
-pub enum Validated {
-    Steps(usize),
-    Refused(Refusal),
-}
-
 // Refusal 8 is for slices of which this is false.
+#[tactic(auto, unfolding(crate::specs::Lent::validate_long))]
 fn long_enough(
     names: &[u8],
     cells: &[u16],
@@ -35,9 +30,10 @@ fn long_enough(
     ensures { result ≡ validate_long (lent names.now cells.now values.now plan.now work.now lists.now lengths.now) }
 {
     enough(names, cells, values)
-        & ((PLAN_CELLS <= plan.len())
-            & ((WORK_WORDS <= work.len())
-                & ((LIST_PLACES <= lists.len()) & (LENGTH_PLACES <= lengths.len()))))
+        && PLAN_CELLS <= plan.len()
+        && WORK_WORDS <= work.len()
+        && LIST_PLACES <= lists.len()
+        && LENGTH_PLACES <= lengths.len()
 }
 
 // The operation. Demand 3: for every valid book with these bytes, whatever the slices held, the answer is 8 exactly where a slice
@@ -54,7 +50,7 @@ pub fn validate(
     work: &mut [u64],
     lists: &mut [u16],
     lengths: &mut [u16],
-) -> Validated
+) -> Result<usize, Refusal>
     ensures demand3 { Demand3 book.now (lent names.old cells.old values.old plan.old work.old lists.old lengths.old) (answer_of result) (lent names.new cells.new values.new plan.new work.new lists.new lengths.new) }
     ensures result_value { answer_of result ≡ validate_answer book.now (lent names.old cells.old values.old plan.old work.old lists.old lengths.old) }
     ensures new_lent { lent names.new cells.new values.new plan.new work.new lists.new lengths.new ≡ after book.now (lent names.old cells.old values.old plan.old work.old lists.old lengths.old) }
@@ -68,12 +64,12 @@ pub fn validate(
         &lists[..],
         &lengths[..],
     ) {
-        return Validated::Refused(Refusal::Short);
+        return Err(Refusal::Short);
     }
     match read(book, names, cells, values) {
-        ReadAnswer::Refused(r) => Validated::Refused(r),
-        ReadAnswer::Accepted(_) => {
-            Validated::Steps(run_tables(
+        Err(r) => Err(r),
+        Ok(_) => {
+            Ok(run_tables(
                 plan,
                 work,
                 lists,

@@ -6,3 +6,4 @@ pub mod Settling
 pub mod Answers
 pub mod Sessions
 pub mod Calls
+pub mod Known

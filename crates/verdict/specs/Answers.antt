@@ -1,15 +1,13 @@
 -- What the verdict answers to a direct question, in the words of document 01: yes or no, or a refusal's number and line; and the
 -- tallies that are handed back, one for each console (document 02, Job 2).
-use Rattle.std.specs.Prelude.{ℕ, List, Bool, true, false, cond, ◌&&◌, leb, ltb, ℤ, length, take}
+use Rattle.std.specs.Prelude.{ℕ, List, Bool, true, cond, ◌&&◌, leb, ltb, ℤ, length, take}
 use Rattle.consoles.specs.Tallies.{console_count, counted}
-use Rattle.model.specs.Answers.{Answer, value, refusal, refusal_of, checked_then, unless_refused}
+use Rattle.model.specs.Answers.{Answer, value, refusal, answer_of, checked_then, unless_refused}
 use Rattle.model.specs.Shapes.{conforms}
 use Rattle.tables.specs.Layout.{cell_count, value_count, node_count, shape_count, root_at}
 use Rattle.tables.specs.Decode.{graph_at, shape_at}
 use Rattle.tables.specs.WellFormed.{well_formed}
 use Rattle.tables.specs.Sizes.{long_enough}
-use Rattle.verdict.specs.declared.Judged.{Judged}
-use Rattle.verdict.specs.declared.Judged.TheVariants.{Yes, No, Refused}
 use Rattle.verdict.specs.declared.Outcome.{Outcome}
 
 -- a direct question: the number of the console that puts it, of the node and of the shape
@@ -25,12 +23,6 @@ question console node shape = record { console = console; node = node; shape = s
 pub record Reply : Type 0 where
   pub answer : Answer Bool
   pub tallies : List ℕ
-
--- each case of the answer: yes or no, or the refusal
-abbrev pub answer_of : Judged → Answer Bool
-answer_of Yes = value true
-answer_of No = value false
-answer_of (Refused r) = refusal_of r
 
 abbrev pub reply_of : Outcome → Reply
 reply_of o = record { answer = answer_of o.answer; tallies = o.tallies.counts }

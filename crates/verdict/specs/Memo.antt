@@ -1,6 +1,7 @@
 -- What is kept while a verdict is found: a set of numbers, each a verdict on a form entry and a node. No promise of the
 -- operation speaks of it; `Decided` is what is promised of the nodes of a set to the crates above.
 use Rattle.std.specs.Prelude.{ℕ, ◌+◌, ◌*◌, ◌<◌, List, Bool, true, false, ◌||◌, ◌≡◌, ℤ, length}
+use Rattle.std.specs.Coded.{Coded-set, coded_bool, le_prop}
 use Rattle.nodeset.specs.Words.{has}
 use Rattle.model.specs.Shapes.{conforms}
 use Rattle.model.specs.Limits.{max_nodes, max_forms}
@@ -28,6 +29,14 @@ pub record MemoRight (cs : List ℕ) (vs : List ℤ) (memo : List ℕ) : Type 0 
   pub low : (e v : ℕ) → v < max_nodes → has memo (yes_place e v) ≡ true → v < node_count cs
   pub yes : (e v : ℕ) → v < max_nodes → has memo (yes_place e v) ≡ true → conforms (graph_at cs vs) (shape_at cs vs e) v ≡ true
   pub no : (e v : ℕ) → v < max_nodes → has memo (no_place e v) ≡ true → conforms (graph_at cs vs) (shape_at cs vs e) v ≡ false
+
+-- that it is is one fact
+pub MemoRight-prop : (cs : List ℕ) (vs : List ℤ) (memo : List ℕ) → IsProp (MemoRight cs vs memo)
+MemoRight-prop cs vs memo x y = λ i. record {
+  low = λ e v l h. le_prop (x.low e v l h) (y.low e v l h) i;
+  yes = λ e v l h. Coded-set coded_bool (conforms (graph_at cs vs) (shape_at cs vs e) v) true (x.yes e v l h) (y.yes e v l h) i;
+  no = λ e v l h. Coded-set coded_bool (conforms (graph_at cs vs) (shape_at cs vs e) v) false (x.no e v l h) (y.no e v l h) i;
+}
 
 -- an entry is to be settled
 pub record Ready (cs index : List ℕ) (vs : List ℤ) (memo : List ℕ) (e : ℕ) : Type 0 where

@@ -3,7 +3,7 @@ use Prim.Native.Nat.{ℕ, ◌+◌, ◌*◌}
 use mathlib.Core.Path.{◌≡◌, subst}
 use native.Mathlib.Omega.{arith}
 use Rattle.closure.specs.Closing.{Closing}
-use Rattle.closure.proofs.Blocks.{closing-start, closing_again, closing-on, closing_done}
+use Rattle.closure.proofs.Blocks.{closing-start, closing_again, closing-on, closing_done, blocks_of}
 use borrow.Author.Rules.{rules}
 use Rattle.closure.proofs.close.Goals as goal
 
@@ -15,10 +15,10 @@ pass-requires c =
     let a = c.args in
     let pre = c.requires in
     let t = c.loop-j in
-    (record { few = pre.0; words = omega (arith, pre.1, t.invariant.1.long) }, omega (arith, c.loop-j-test.true, c.block_count-blocks.ensures.1), closing_again a.n (64 * t.j) a.rows.now t.rows t.invariant.1)
+    (record { few = pre.0; words = omega (arith, pre.1, t.invariant.1.long) }, omega (arith, c.loop-j-test.true, (blocks_of c.args.n c.div_ceil-blocks.result c.div_ceil-blocks.ensures).1), closing_again a.n (64 * t.j) a.rows.now t.rows t.invariant.1)
 
 pub overflow_step-j : goal.overflow_step-j
-overflow_step-j c = omega (arith, c.loop-j-test.true, c.block_count-blocks.ensures.1, c.requires.0)
+overflow_step-j c = omega (arith, c.loop-j-test.true, (blocks_of c.args.n c.div_ceil-blocks.result c.div_ceil-blocks.ensures).1, c.requires.0)
 
 pub loop-j-preserved : goal.loop-j-preserved
 loop-j-preserved c =
@@ -33,4 +33,4 @@ pub returns : goal.returns
 returns c =
     let a = c.args in
     let t = c.loop-j in
-    closing_done a.n (64 * t.j) a.rows.now t.rows (omega (arith, c.loop-j-test.false, t.invariant.0, c.block_count-blocks.ensures.0)) t.invariant.1
+    closing_done a.n (64 * t.j) a.rows.now t.rows (omega (arith, c.loop-j-test.false, t.invariant.0, (blocks_of c.args.n c.div_ceil-blocks.result c.div_ceil-blocks.ensures).0)) t.invariant.1

@@ -20,20 +20,20 @@ pub overflow_add-v : goal.overflow_add-v
 overflow_add-v c = omega (arith, c.loop-v-test.true, c.requires.1.few, c.requires.0)
 
 pub union_after-sum-requires : goal.union_after-sum-requires
-union_after-sum-requires c = let a = c.args in let pre = c.requires in (c.loop-v.invariant.2, pre.0, part-named a.j c.word.result a.mask a.from.now pre.2)
+union_after-sum-requires c = let a = c.args in let pre = c.requires in (c.loop-v.invariant.2, pre.0, part-named a.j c.cell.result a.mask a.from.now pre.2)
 
 pub take_if-requires : goal.take_if-requires
 take_if-requires c =
     let a = c.args in
     let pre = c.requires in
-    (omega (arith, c.loop-v-test.true, c.loop-v.invariant.1, pre.1.words), le_of_eq (sym (length_of (union_of a.from.now a.j (bit_and c.word.result a.mask)) 16 c.union_after-sum.ensures)))
+    (omega (arith, c.loop-v-test.true, c.loop-v.invariant.1, pre.1.words), le_of_eq (sym (length_of (union_of a.from.now a.j (bit_and c.cell.result a.mask)) 16 c.union_after-sum.ensures)))
 
 pub loop-v-preserved : goal.loop-v-preserved
 loop-v-preserved c =
     let a = c.args in
     let t = c.loop-v in
-    let x = bit_and c.word.result a.mask in
-    (search rules, c.take_if.auto.rows ∙ t.invariant.1, c.union_after-sum.ensures, c.take_if.ensures ∙ word_more a.into.now a.rows.now a.from.now a.j a.mask t.v x (ap (λ (y : ℕ). bit_and y a.mask) c.word.ensures) refl c.union_after-sum.ensures t.invariant.3)
+    let x = bit_and c.cell.result a.mask in
+    (search rules, c.take_if.auto.rows ∙ t.invariant.1, c.union_after-sum.ensures, c.take_if.ensures ∙ word_more a.into.now a.rows.now a.from.now a.j a.mask t.v x (ap (λ (y : ℕ). bit_and y a.mask) c.cell.ensures) refl c.union_after-sum.ensures t.invariant.3)
 
 pub returns : goal.returns
 returns c =

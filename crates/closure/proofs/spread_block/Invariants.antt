@@ -6,7 +6,7 @@ use Rattle.closure.specs.Closing.{gained, in_first, across}
 use Rattle.closure.proofs.spread_block.Given as goal
 
 abbrev pub invariant-loop-v : goal.invariant-loop-v
-invariant-loop-v l = (l.v ≤ l.n) × (length l.rows ≡ length l.initial.rows) × (l.rows ≡ gained l.initial.rows (in_first l.v (across (leads l.initial.rows) (64 * l.j) l.end)))
+invariant-loop-v l = (l.v ≤ l.block.n) × (length l.rows ≡ length l.initial.rows) × (l.rows ≡ gained l.initial.rows (in_first l.v (across (leads l.initial.rows) (64 * l.block.number) l.block.end)))
 
 abbrev pub decreases-loop-v : goal.decreases-loop-v
-decreases-loop-v l = l.n - l.v
+decreases-loop-v l = l.block.n - l.v

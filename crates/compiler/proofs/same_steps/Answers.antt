@@ -1,8 +1,11 @@
-use Prim.Native.Nat.{ℕ}
-use mathlib.Core.Path.{refl, ap, ◌∙◌}
-use lib.ListN.{get_or}
-use Rattle.tables.specs.Layout.{root_at}
+use mathlib.Core.Path.{◌≡◌, ap, ◌∙◌}
+use Rattle.tables.specs.Layout.{form_first_at, root_at}
+use Rattle.compiler.proofs.Laws.{keep_at, break_at}
 use Rattle.compiler.proofs.same_steps.Goals as goal
 
 pub returns : goal.returns
-returns c = (refl, (c.cell.ensures ∙ ap (λ (i : ℕ). get_or c.args.keeps.now i 0) (c.root-a.ensures ∙ ap (root_at c.args.cells.now) (c.wide.ensures ∙ c.form_first.ensures))), (c.cell-2.ensures ∙ ap (λ (i : ℕ). get_or c.args.breaks.now i 0) (c.root-a.ensures ∙ ap (root_at c.args.cells.now) (c.wide.ensures ∙ c.form_first.ensures))))
+returns c =
+    let cs = c.args.cells.now in
+    let ps = c.args.pairs.now in
+    let e : c.root.result ≡ root_at cs (form_first_at cs c.args.e) = c.root.ensures ∙ ap (root_at cs) (c.wide.ensures ∙ c.form_first.ensures) in
+    (keep_at ps c.cell.ensures e, break_at ps c.cell.ensures e)

@@ -1,7 +1,8 @@
-use Prim.Native.Nat.{ℕ}
-use mathlib.Core.Path.{refl, ap, ◌∙◌}
-use lib.ListN.{get_or}
+use mathlib.Core.Path.{ap, ◌∙◌}
+use Rattle.compiler.specs.Stores.{keep_of, break_of}
 use Rattle.compiler.proofs.swapped.Goals as goal
 
 pub returns : goal.returns
-returns c = (refl, (c.cell.ensures ∙ ap (λ (i : ℕ). get_or c.args.breaks.now i 0) (c.wide-a.ensures ∙ c.form_first.ensures)), (c.cell-2.ensures ∙ ap (λ (i : ℕ). get_or c.args.keeps.now i 0) (c.wide-a.ensures ∙ c.form_first.ensures)))
+returns c =
+    let ps = c.args.pairs.now in
+    (c.pair_of-a.ensures.1 ∙ ap (break_of ps) c.form_first.ensures, c.pair_of-a.ensures.0 ∙ ap (keep_of ps) c.form_first.ensures)

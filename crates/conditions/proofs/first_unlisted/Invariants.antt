@@ -6,7 +6,7 @@ use Rattle.conditions.proofs.Items.{chain_of, Sought}
 use Rattle.conditions.proofs.first_unlisted.Given as goal
 
 abbrev pub invariant-loop-next : goal.invariant-loop-next
-invariant-loop-next l = (v : ℕ) → l.initial.next ≡ chain_of l.index v → Sought l.cells (has l.links) v l.next (before l.lowest)
+invariant-loop-next l = (v : ℕ) → l.initial.next ≡ chain_of l.tables.index.now v → Sought l.cells (has l.links) v l.next (before l.lowest)
 
 abbrev pub decreases-loop-next : goal.decreases-loop-next
 decreases-loop-next l = l.next

@@ -7,8 +7,5 @@ use Rattle.paths.specs.Ends.{end_in}
 use Rattle.entries.proofs.Ends.{image_zeros}
 use Rattle.entries.proofs.ends_from.Goals as goal
 
-pub add_table_ends-requires : goal.add_table_ends-requires
-add_table_ends-requires c = let p = c.requires in p
-
 pub returns : goal.returns
-returns c = let a = c.args in let cs = a.cells.now in c.add_table_ends.ensures ∙ image_zeros (node_count cs) (ends_of (node_count cs) (triples_at cs) (end_in cs a.end)) a.from.now
+returns c = let a = c.args in let cs = a.tables.cells.now in c.add_table_ends.ensures ∙ image_zeros (node_count cs) (ends_of (node_count cs) (triples_at cs) (end_in cs a.end)) a.from.now

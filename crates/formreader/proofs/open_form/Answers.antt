@@ -1,54 +1,41 @@
-use Prim.Native.Nat.{◌+◌, ◌<◌}
-use mathlib.Core.Path.{refl, sym, ◌∙◌}
-use native.Mathlib.Omega.{arith}
-use borrow.Author.Tests.{leb-false}
-use lib.ListN.{length}
-use Rattle.text.proofs.Parts.{inside}
-use Rattle.model.specs.Limits.{max_forms}
-use Rattle.grammar.specs.Reading.{form_begun}
-use Rattle.itemreader.proofs.Heads.{headed-word}
-use Rattle.leafreader.proofs.Forms.{form_no, form_is_lem}
-use Rattle.formreader.proofs.Frames.{form_unspaced, form_bare, form_head_refused, form_word_lem}
+use Prim.Native.Nat.{◌+◌, ◌-◌}
+use mathlib.Core.Path.{refl, sym, ap, ◌∙◌}
+use Rattle.std.specs.Prelude.{Ok, Err}
+use Rattle.grammar.specs.Reading.{form_begun, readers_at}
+use Rattle.itemreader.proofs.Items.{passed_on}
+use Rattle.leafreader.proofs.Forms.{form_is_lem, form_refused}
+use Rattle.formreader.proofs.Frames.{fault_read, form_unspaced, form_bare, form_head_refused, form_word_lem}
 use Rattle.formreader.proofs.open_form.Goals as goal
 
-pub returns-then-byte-ne32 : goal.returns-then-byte-ne32
-returns-then-byte-ne32 c =
+pub returns-then-byte-ne32-clause-open_read : goal.returns-then-byte-ne32-clause-open_read
+returns-then-byte-ne32-clause-open_read c =
     let s = c.args in
-    record { open_read = λ a h b f p i. form_no 2 (form_unspaced s.book.now a b s.at (s.n.forms + s.up) f s.left (λ e. c.if-byte-ne32.true (c.byte.ensures ∙ e))) refl; opened = tt; cells_unchanged = refl; values_unchanged = refl }
+    λ a h b f p i. fault_read s.book.now a (readers_at s.book.now a (s.left - 1)) (form_begun b) _ _ _ _ _ 2 (form_unspaced s.book.now a b s.at (s.n.forms + s.up) f s.left (λ e. c.if-byte-ne32.true (c.byte.ensures ∙ e))) refl
 
-pub form_head-requires : goal.form_head-requires
-form_head-requires c =
+pub returns-in_err-code-clause-open_read : goal.returns-in_err-code-clause-open_read
+returns-in_err-code-clause-open_read c =
     let s = c.args in
-    let i : s.at < length s.book.now = inside s.book.now s.at (λ e. omega (arith, c.byte.ensures, c.if-byte-ne32.false)) in
-    omega arith
+    λ a h b f p i.
+    let (k, x, w) = form_head_refused s.book.now a b s.at (s.n.forms + s.up) f (sym c.byte.ensures ∙ c.if-byte-ne32.false) s.left c.in_err-code.field-0.0 c.in_err-code.ensures.value in
+    fault_read s.book.now a (readers_at s.book.now a (s.left - 1)) (form_begun b) _ _ _ _ _ k x (passed_on c.from_residual.result _ c.from_residual.ensures.1 ∙ ap Err w)
 
-pub read_true-requires : goal.read_true-requires
-read_true-requires c =
+pub returns-in_err-m-clause-open_read : goal.returns-in_err-m-clause-open_read
+returns-in_err-m-clause-open_read c =
     let s = c.args in
-    let p = c.requires in
-    let i : s.at < length s.book.now = inside s.book.now s.at (λ e. omega (arith, c.byte.ensures, c.if-byte-ne32.false)) in
-    (omega arith, p.2, p.4, p.5, p.6)
+    let v = ap Ok (sym c.in_default.is) ∙ c.in_ok-code.ensures.value in
+    λ a h b f p i.
+    let (k, x, w) = form_refused (c.in_err-m.ensures.form_read a s.values.now) in
+    fault_read s.book.now a (readers_at s.book.now a (s.left - 1)) (form_begun b) _ _ _ _ _ k (form_bare s.book.now a b s.at (s.n.forms + s.up) f (sym c.byte.ensures ∙ c.if-byte-ne32.false) s.left v ∙ x) (passed_on c.from_residual-in_err-m.result _ c.from_residual-in_err-m.ensures.1 ∙ ap Err w)
 
-pub open_word-requires : goal.open_word-requires
-open_word-requires c =
+pub returns-in_default-clause-open_read : goal.returns-in_default-clause-open_read
+returns-in_default-clause-open_read c =
     let s = c.args in
-    let p = c.requires in
-    let w = headed-word _ _ _ _ c.form_head.result _ _ c.form_head.ensures.headed c.in-Word.is in
-    let u = leb-false max_forms (s.n.forms + s.up) w.2 in
-    (w.3, p.1, p.2, p.3, w.1, omega arith, p.5, p.6, p.7, w.0, p.8)
+    let v = ap Ok (sym c.in_default.is) ∙ c.in_ok-code.ensures.value in
+    λ a h b f p i. form_is_lem (form_bare s.book.now a b s.at (s.n.forms + s.up) f (sym c.byte.ensures ∙ c.if-byte-ne32.false) s.left v) (c.in_ok-m.ensures.form_read a s.values.now)
 
-pub returns-in-Bare : goal.returns-in-Bare
-returns-in-Bare c =
+pub returns-clause-open_read : goal.returns-clause-open_read
+returns-clause-open_read c =
     let s = c.args in
-    record { open_read = λ a h b f p i. form_is_lem (form_bare s.book.now a b s.at (s.n.forms + s.up) f (sym c.byte.ensures ∙ c.if-byte-ne32.false) s.left c.form_head.result c.form_head.ensures.value c.in-Bare.is) (c.read_true.ensures.form_read a s.values.now); opened = c.read_true.ensures.forms_within; cells_unchanged = c.read_true.ensures.cells_unchanged; values_unchanged = refl }
-
-pub returns-in-No : goal.returns-in-No
-returns-in-No c =
-    let s = c.args in
-    record { open_read = λ a h b f p i. form_no c.in-No.k (form_head_refused s.book.now a b s.at (s.n.forms + s.up) f (sym c.byte.ensures ∙ c.if-byte-ne32.false) s.left c.form_head.result c.form_head.ensures.value c.in-No.k c.in-No.is) refl; opened = tt; cells_unchanged = refl; values_unchanged = refl }
-
-pub returns-in-Word : goal.returns-in-Word
-returns-in-Word c =
-    let s = c.args in
-    let l = (headed-word _ _ _ _ c.form_head.result _ _ c.form_head.ensures.headed c.in-Word.is).1 in
-    record { open_read = λ a h b f p i. rw (form_word_lem s.book.now a b s.at (s.n.forms + s.up) f (sym c.byte.ensures ∙ c.if-byte-ne32.false) s.left c.form_head.result c.form_head.ensures.value c.in-Word.code c.in-Word.end l c.in-Word.is) (c.open_word.ensures.open_read a h (form_begun b) p i); opened = c.open_word.ensures.opened; cells_unchanged = c.open_word.ensures.cells_unchanged; values_unchanged = c.open_word.ensures.values_unchanged }
+    let v = ap Ok (sym c.in-Some.is) ∙ c.in_ok-code.ensures.value in
+    let l = (rw c.in-Some.is at c.in_ok-code.ensures.headed).1 in
+    λ a h b f p i. rw (form_word_lem s.book.now a b s.at (s.n.forms + s.up) f (sym c.byte.ensures ∙ c.if-byte-ne32.false) s.left c.in-Some.code c.in-Some.end l v) (c.open_word.ensures.open_read a h (form_begun b) p i)

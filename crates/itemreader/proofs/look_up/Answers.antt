@@ -6,12 +6,13 @@ use Rattle.itemreader.proofs.look_up.Goals as goal
 
 pub find_chained-requires : goal.find_chained-requires
 find_chained-requires c =
-    let w = pool_within c.args.counts c.args.pool c.requires.4 in
+    let p = c.args.pools in
+    let w = pool_within p.counts c.args.pool p.limits in
     let l = pool_inside (pool_of c.args.pool) in
     let f = l.0 in
-    let k = count-within c.args.counts (pool_of c.args.pool) c.requires.4 in
-    let n = c.requires.3 in
-    rw (c.base-first.ensures, c.count.ensures, c.most.ensures) (c.requires.0, c.requires.1, c.requires.2, omega arith, omega arith, omega arith, l.1, c.requires.5.chains (pool_of c.args.pool))
+    let k = count-within p.counts (pool_of c.args.pool) p.limits in
+    let n = p.long in
+    rw (c.base-first.ensures, c.count.ensures, c.most.ensures) (c.requires.0, c.requires.1, c.requires.2, omega arith, omega arith, omega arith, l.1, p.indexed.chains (pool_of c.args.pool))
 
 pub returns : goal.returns
 returns c = rw (c.find_chained.ensures, c.base-first.ensures, c.count.ensures)

@@ -1,33 +1,33 @@
-use mathlib.Core.Path.{◌∙◌}
 use borrow.Author.Tests.{eq-eqb, ne_eqb}
+use Rattle.std.proofs.lemmas.Result.{err_from_is_err_and}
 use Rattle.grammar.specs.Syntax.{used}
 use Rattle.model.specs.Books.{types}
 use Rattle.grammar.specs.Reading.{arg_at}
 use Rattle.itemreader.specs.Answers.{same}
-use Rattle.itemreader.proofs.Items.{number_got, item_refused, below-is, type_refused, type_got}
+use Rattle.itemreader.proofs.Items.{number_got, item_refused, type_refused, type_got}
 use Rattle.itemreader.proofs.read_type.Goals as goal
 
-pub returns-in_default : goal.returns-in_default
-returns-in_default c =
+pub returns-in_err-t-clause-reads : goal.returns-in_err-t-clause-reads
+returns-in_err-t-clause-reads c =
     let s = c.args in
-    record { reads = λ a h R b. c.in_default.is ∙ rw (type_refused s.book.now a R b s.at c.in_default.field-0 (item_refused same (arg_at s.book.now a R (used types) b s.at) c.read_used-used.result c.in_default.field-0 (c.read_used-used.ensures.reads a h R b) c.in_default.is)); below = rw c.in_default.is tt }
+    let p = err_from_is_err_and c.from_residual.result c.from_residual.ensures.1 in
+    λ a h R b.
+    let (k, x, e) = item_refused same (arg_at s.book.now a R (used types) b s.at) c.in_err-t.field-0.0 (c.in_err-t.ensures.reads a h R b) in
+    rw (p.1, p.2, e, type_refused s.book.now a R b s.at k x)
 
-pub returns-then-t-eq0 : goal.returns-then-t-eq0
-returns-then-t-eq0 c =
+pub returns-then-t-eq0-clause-reads : goal.returns-then-t-eq0-clause-reads
+returns-then-t-eq0-clause-reads c =
     let s = c.args in
-    record {
-      reads = λ a h R b.
-          let g = number_got (arg_at s.book.now a R (used types) b s.at) c.read_used-used.result c.in-Is.t c.in-Is.next (c.read_used-used.ensures.reads a h R b) c.in-Is.is in
-          rw (type_got s.book.now a R b s.at c.in-Is.t c.in-Is.next g, eq-eqb c.in-Is.t 0 c.if-t-eq0.true);
-      below = tt;
-    }
+    λ a h R b.
+    let g = number_got (arg_at s.book.now a R (used types) b s.at) c.in_ok-t.t c.in_ok-t.next (c.in_ok-t.ensures.reads a h R b) in
+    rw (type_got s.book.now a R b s.at c.in_ok-t.t c.in_ok-t.next g, eq-eqb c.in_ok-t.t 0 c.if-t-eq0.true)
 
 pub returns : goal.returns
 returns c =
     let s = c.args in
     record {
       reads = λ a h R b.
-          let g = number_got (arg_at s.book.now a R (used types) b s.at) c.read_used-used.result c.in-Is.t c.in-Is.next (c.read_used-used.ensures.reads a h R b) c.in-Is.is in
-          rw (type_got s.book.now a R b s.at c.in-Is.t c.in-Is.next g, ne_eqb c.in-Is.t 0 c.if-t-eq0.false);
-      below = below-is _ _ c.read_used-used.result _ _ c.read_used-used.ensures.below c.in-Is.is;
+          let g = number_got (arg_at s.book.now a R (used types) b s.at) c.in_ok-t.t c.in_ok-t.next (c.in_ok-t.ensures.reads a h R b) in
+          rw (type_got s.book.now a R b s.at c.in_ok-t.t c.in_ok-t.next g, ne_eqb c.in_ok-t.t 0 c.if-t-eq0.false);
+      below = c.in_ok-t.ensures.below;
     }

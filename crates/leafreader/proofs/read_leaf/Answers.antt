@@ -15,7 +15,7 @@ use Rattle.leafreader.proofs.read_leaf.Goals as goal
 pub item_form-requires : goal.item_form-requires
 item_form-requires c =
     let p = c.requires in
-    (p.4, p.5, p.6, p.2, below_more _ 65536 _ c.read_kind.result (omega arith) c.read_kind.ensures.below)
+    (p.3, p.4, p.5, p.1, below_more _ 65536 _ c.read_kind.result (omega arith) c.read_kind.ensures.below)
 
 pub returns-in-0 : goal.returns-in-0
 unfolding body_at
@@ -106,5 +106,5 @@ unfolding body_at
 returns-in_default c =
     let s = c.args in
     let p = c.requires in
-    let e = last_leaf s.code p.8 p.9 c.in_default.in_default-own.rest.0.0.0.0.0.0.0.0.0.0.0.0.0.1 c.in_default.in_default-own.rest.0.0.0.0.0.0.0.0.0.0.0.0.1 c.in_default.in_default-own.rest.0.0.0.0.0.0.0.0.0.0.0.1 c.in_default.in_default-own.rest.0.0.0.0.0.0.0.0.0.0.1 c.in_default.in_default-own.rest.0.0.0.0.0.0.0.0.0.1 c.in_default.in_default-own.rest.0.0.0.0.0.0.0.0.1 c.in_default.in_default-own.rest.0.0.0.0.0.0.0.1 c.in_default.in_default-own.rest.0.0.0.0.0.0.1 c.in_default.in_default-own.rest.0.0.0.0.0.1 c.in_default.in_default-own.rest.0.0.0.0.1 c.in_default.in_default-own.rest.0.0.0.1 c.in_default.in_default-own.rest.0.0.1 c.in_default.in_default-own.rest.0.1 c.in_default.in_default-own.rest.1 in
+    let e = last_leaf s.code p.6 p.7 c.in_default.in_default-own.rest.0.0.0.0.0.0.0.0.0.0.0.0.0.1 c.in_default.in_default-own.rest.0.0.0.0.0.0.0.0.0.0.0.0.1 c.in_default.in_default-own.rest.0.0.0.0.0.0.0.0.0.0.0.1 c.in_default.in_default-own.rest.0.0.0.0.0.0.0.0.0.0.1 c.in_default.in_default-own.rest.0.0.0.0.0.0.0.0.0.1 c.in_default.in_default-own.rest.0.0.0.0.0.0.0.0.1 c.in_default.in_default-own.rest.0.0.0.0.0.0.0.1 c.in_default.in_default-own.rest.0.0.0.0.0.0.1 c.in_default.in_default-own.rest.0.0.0.0.0.1 c.in_default.in_default-own.rest.0.0.0.0.1 c.in_default.in_default-own.rest.0.0.0.1 c.in_default.in_default-own.rest.0.0.1 c.in_default.in_default-own.rest.0.1 c.in_default.in_default-own.rest.1 in
     record { form_read = λ a h b q i. form_is_lem (body_is s.book.now a s.left s.code 19 b s.at e) (c.onelang_form.ensures.form_read a h b q s.values.now); forms_within = c.onelang_form.ensures.forms_within; cells_unchanged = c.onelang_form.ensures.cells_unchanged; values_unchanged = refl }

@@ -1,88 +1,75 @@
+use Prim.Native.Nat.{ℕ}
 use mathlib.Core.Path.{sym, ap, ◌∙◌}
-use native.Mathlib.Omega.{arith}
+use mathlib.Core.Bool.{false}
 use lib.ListN.{length}
-use Rattle.text.proofs.Parts.{inside}
+use Rattle.std.specs.Prelude.{Ok, Err}
 use Rattle.model.specs.Books.{Pool}
 use Rattle.grammar.specs.Syntax.{used}
 use Rattle.grammar.specs.Reading.{max_within, arg_at, readers_at}
 use Rattle.itemreader.specs.Answers.{pool_of, same}
-use Rattle.itemreader.proofs.Items.{below-is, number_got, count_limit}
+use Rattle.itemreader.proofs.Items.{number_got, item_refused, passed_on}
+use Rattle.itemreader.proofs.Heads.{headed-word}
 use Rattle.linereader.specs.Storing.{target_answer}
-use Rattle.linereader.proofs.Bodies.{item-no}
-use Rattle.linereader.proofs.Targets.{headed-is, target-bare, target-closed, target-unknown, target-word, target-stop, target_open, target_got}
+use Rattle.linereader.proofs.Targets.{target-bare, target-closed, target-unknown, target-word, target-stop, target_open, target_got}
 use Rattle.linereader.proofs.read_target.Goals as goal
+use Rattle.linereader.proofs.read_target.Goals.{In-Some}
 
-pub returns-then-byte-ne32 : goal.returns-then-byte-ne32
-returns-then-byte-ne32 c =
+-- the word's number and the reading after it
+low : (c : In-Some) → Prim.Native.Nat.◌<◌ c.in-Some.k 4
+low c = (headed-word 4 max_within false (length c.args.book.now) (Ok c.in_ok-k.field-0) c.in-Some.k c.in-Some.end c.in_ok-k.ensures.headed (ap Ok c.in-Some.is)).0
+
+pub returns-then-byte-ne32-clause-value : goal.returns-then-byte-ne32-clause-value
+returns-then-byte-ne32-clause-value c =
     let s = c.args in
-    record { value = λ a b h. rw (target-bare s.book.now a b s.at (λ e. c.if-byte-ne32.true (c.byte.ensures ∙ e))); targeted = tt }
+    λ a b h. rw (target-bare s.book.now a b s.at (λ e. c.if-byte-ne32.true (c.byte.ensures ∙ e)))
 
-pub target_head-requires : goal.target_head-requires
-target_head-requires c =
+pub returns-in_err-k-clause-value : goal.returns-in_err-k-clause-value
+returns-in_err-k-clause-value c =
     let s = c.args in
     let z = sym c.byte.ensures ∙ c.if-byte-ne32.false in
-    let i = inside s.book.now s.at (λ e. omega arith) in
-    omega arith
+    λ a b h.
+    let (m, x, e) = target-unknown s.book.now a b s.at z c.in_err-k.field-0.0 (sym c.in_err-k.ensures.value) in
+    passed_on c.from_residual.result _ c.from_residual.ensures.1 ∙ ap Err e ∙ sym (ap target_answer x)
 
-pub read_used-used-requires : goal.read_used-used-requires
-read_used-used-requires c =
+pub returns-in_default-clause-value : goal.returns-in_default-clause-value
+returns-in_default-clause-value c =
     let s = c.args in
-    let p = c.requires in
-    ((headed-is 4 max_within (length s.book.now) c.target_head.result c.in-Word.k c.in-Word.end c.target_head.ensures.headed c.in-Word.is).2, p.1, p.2, p.3)
+    let z = sym c.byte.ensures ∙ c.if-byte-ne32.false in
+    λ a b h. sym (ap target_answer (target-closed s.book.now a b s.at z (sym c.in_ok-k.ensures.value ∙ ap Ok c.in_default.is)))
 
-pub returns-in_default : goal.returns-in_default
-returns-in_default c =
+pub returns-in_err-x-clause-value : goal.returns-in_err-x-clause-value
+returns-in_err-x-clause-value c =
     let s = c.args in
     let S = s.book.now in
     let z = sym c.byte.ensures ∙ c.if-byte-ne32.false in
-    let w = headed-is 4 max_within (length S) c.target_head.result c.in-Word.k c.in-Word.end c.target_head.ensures.headed c.in-Word.is in
     let p = c.operand_pool in
-    let m = c.refusal.result in
-    record { value = λ a b h. rw (target-word S a b s.at z c.in-Word.k c.in-Word.end (sym c.target_head.ensures.value ∙ c.in-Word.is) ∙ target-stop S a (readers_at S a 30) b c.in-Word.end c.in-Word.k m w.0 (ap (λ (q : Pool). arg_at S a (readers_at S a 30) (used q) b c.in-Word.end) (sym p.ensures) ∙ item-no S a (readers_at S a 30) (used (pool_of p.result)) same b c.in-Word.end c.read_used-used.result c.in_default.field-0 m (c.read_used-used.ensures.reads a h) c.in_default.is c.refusal.ensures)); targeted = tt }
+    λ a b h.
+    let R = readers_at S a 30 in
+    let (m, x, e) = item_refused same (arg_at S a R (used (pool_of p.result)) b c.in-Some.end) c.in_err-x.field-0.0 (c.in_err-x.ensures.reads a h R b) in
+    let stop = target-word S a b s.at z c.in-Some.k c.in-Some.end (sym c.in_ok-k.ensures.value ∙ ap Ok c.in-Some.is) ∙ target-stop S a R b c.in-Some.end c.in-Some.k m (low (goal.at.returns-in_err-x-clause-value c).In-Some) (ap (λ (q : Pool). arg_at S a R (used q) b c.in-Some.end) (sym p.ensures) ∙ x) in
+    passed_on c.from_residual-in_err-x.result _ c.from_residual-in_err-x.ensures.1 ∙ ap Err e ∙ sym (ap target_answer stop)
 
-pub returns-then-byte-ne41 : goal.returns-then-byte-ne41
-returns-then-byte-ne41 c =
+pub returns-then-byte-ne41-clause-value : goal.returns-then-byte-ne41-clause-value
+returns-then-byte-ne41-clause-value c =
     let s = c.args in
     let S = s.book.now in
     let z = sym c.byte.ensures ∙ c.if-byte-ne32.false in
-    let w = headed-is 4 max_within (length S) c.target_head.result c.in-Word.k c.in-Word.end c.target_head.ensures.headed c.in-Word.is in
     let p = c.operand_pool in
-    record { value = λ a b h. rw (target-word S a b s.at z c.in-Word.k c.in-Word.end (sym c.target_head.ensures.value ∙ c.in-Word.is) ∙ target_open S a (readers_at S a 30) b c.in-Word.end c.in-Word.k c.in-Is.x c.in-Is.last w.0 (ap (λ (q : Pool). arg_at S a (readers_at S a 30) (used q) b c.in-Word.end) (sym p.ensures) ∙ number_got (arg_at S a (readers_at S a 30) (used (pool_of p.result)) b c.in-Word.end) c.read_used-used.result c.in-Is.x c.in-Is.last (c.read_used-used.ensures.reads a h (readers_at S a 30) b) c.in-Is.is) (λ e. c.if-byte-ne41.true (c.byte-in-Word.ensures ∙ e))); targeted = tt }
+    λ a b h.
+    let R = readers_at S a 30 in
+    let g = number_got (arg_at S a R (used (pool_of p.result)) b c.in-Some.end) c.in_ok-x.x c.in_ok-x.last (c.in_ok-x.ensures.reads a h R b) in
+    let stop = target-word S a b s.at z c.in-Some.k c.in-Some.end (sym c.in_ok-k.ensures.value ∙ ap Ok c.in-Some.is) ∙ target_open S a R b c.in-Some.end c.in-Some.k c.in_ok-x.x c.in_ok-x.last (low (goal.at.returns-then-byte-ne41-clause-value c).In-Some) (ap (λ (q : Pool). arg_at S a R (used q) b c.in-Some.end) (sym p.ensures) ∙ g) (λ e. c.if-byte-ne41.true (c.byte-2.ensures ∙ e)) in
+    sym (ap target_answer stop)
 
-pub overflow_cast-result : goal.overflow_cast-result
-overflow_cast-result c =
-    let s = c.args in
-    let w = (headed-is 4 max_within (length s.book.now) c.target_head.result c.in-Word.k c.in-Word.end c.target_head.ensures.headed c.in-Word.is).0 in
-    omega arith
-
-pub overflow_add-result : goal.overflow_add-result
-overflow_add-result c =
-    let s = c.args in
-    let b = (below-is _ _ c.read_used-used.result _ _ c.read_used-used.ensures.below c.in-Is.is).1 in
-    omega (arith, c.well_formed)
-
-pub returns-in-Bare : goal.returns-in-Bare
-returns-in-Bare c =
+pub returns-clause-value : goal.returns-clause-value
+returns-clause-value c =
     let s = c.args in
     let S = s.book.now in
     let z = sym c.byte.ensures ∙ c.if-byte-ne32.false in
-    record { value = λ a b h. rw (target-closed S a b s.at z (sym c.target_head.ensures.value ∙ c.in-Bare.is)); targeted = tt }
-
-pub returns-in-No : goal.returns-in-No
-returns-in-No c =
-    let s = c.args in
-    let S = s.book.now in
-    let z = sym c.byte.ensures ∙ c.if-byte-ne32.false in
-    record { value = λ a b h. rw (target-unknown S a b s.at z c.in-No.k (sym c.target_head.ensures.value ∙ c.in-No.is)); targeted = tt }
-
-pub returns-else-byte-ne41 : goal.returns-else-byte-ne41
-returns-else-byte-ne41 c =
-    let s = c.args in
-    let S = s.book.now in
-    let z = sym c.byte.ensures ∙ c.if-byte-ne32.false in
-    let w = headed-is 4 max_within (length S) c.target_head.result c.in-Word.k c.in-Word.end c.target_head.ensures.headed c.in-Word.is in
     let p = c.operand_pool in
-    let y = sym c.byte-in-Word.ensures ∙ c.if-byte-ne41.false in
-    let i = inside S c.in-Is.last (λ e. omega arith) in
-    let l = (below-is _ _ c.read_used-used.result _ _ c.read_used-used.ensures.below c.in-Is.is).0 in
-    let m = count_limit s.counts (pool_of p.result) c.requires.2 in record { value = λ a b h. target_got S a (readers_at S a 30) b c.in-Word.end c.in-Word.k c.in-Is.x c.in-Is.last w.0 (ap (λ (q : Pool). arg_at S a (readers_at S a 30) (used q) b c.in-Word.end) (sym p.ensures) ∙ number_got (arg_at S a (readers_at S a 30) (used (pool_of p.result)) b c.in-Word.end) c.read_used-used.result c.in-Is.x c.in-Is.last (c.read_used-used.ensures.reads a h (readers_at S a 30) b) c.in-Is.is) y ∙ ap target_answer (sym (target-word S a b s.at z c.in-Word.k c.in-Word.end (sym c.target_head.ensures.value ∙ c.in-Word.is))); targeted = (w.0, omega arith, omega arith) }
+    let y = sym c.byte-2.ensures ∙ c.if-byte-ne41.false in
+    λ a b h.
+    let R = readers_at S a 30 in
+    let g = number_got (arg_at S a R (used (pool_of p.result)) b c.in-Some.end) c.in_ok-x.x c.in_ok-x.last (c.in_ok-x.ensures.reads a h R b) in
+    target_got S a R b c.in-Some.end c.in-Some.k c.in_ok-x.x c.in_ok-x.last (low (goal.at.returns-clause-value c).In-Some) (ap (λ (q : Pool). arg_at S a R (used q) b c.in-Some.end) (sym p.ensures) ∙ g) y
+    ∙ ap target_answer (sym (target-word S a b s.at z c.in-Some.k c.in-Some.end (sym c.in_ok-k.ensures.value ∙ ap Ok c.in-Some.is)))

@@ -11,64 +11,62 @@ use Rattle.grammar.specs.Syntax.{new, used, words_l, line_family}
 use Rattle.grammar.specs.Reading.{max_within, arg_at, after, readers_at, line_room, begun_above}
 use Rattle.encoding.specs.Rows.{node_row}
 use Rattle.itemreader.specs.Answers.{same}
-use Rattle.itemreader.proofs.Items.{below-is, number_got}
+use Rattle.itemreader.proofs.Items.{number_got}
 use Rattle.linereader.specs.Storing.{line_end, line_body}
-use Rattle.linereader.proofs.Bodies.{item-stop, new_got, new_facts, node-room, done_no, done_same, body_is, stop₁, stop₂, all₂}
+use Rattle.linereader.proofs.Bodies.{item-stop, new_got, new_facts, node-room, done_stop, done_same, body_is, stop₁, stop₂, all₂}
 use Rattle.linereader.proofs.words_line.Goals as goal
 
-pub returns-in_default : goal.returns-in_default
-returns-in_default c =
+pub returns-in_err-end : goal.returns-in_err-end
+returns-in_err-end c =
     let s = c.args in
     let S = s.book.now in
-    let m = c.refusal.result in
-    λ a h. done_no a s.counts (line_body S a words_l s.at) _ m s.names.now s.cells.now s.values.now
-    (body_is S a words_l s.at ∙ stop₁ S a (line_room S a words_l) (new nodes) ((used langs) ∷ []) (line_family.build words_l) (begun_above a) s.at m (item-stop S a (new nodes) length (begun_above a) s.at c.read_new-new.result c.in_default.field-0 m (c.read_new-new.ensures.reads a h) c.in_default.is c.refusal.ensures)) refl
-
-pub read_used-lang-requires : goal.read_used-lang-requires
-read_used-lang-requires c =
-    let p = c.requires in
-    ((below-is _ _ c.read_new-new.result _ _ c.read_new-new.ensures.below c.in-Is.is).1, p.1, p.4, p.6)
-
-pub returns-in_default-lang : goal.returns-in_default-lang
-returns-in_default-lang c =
-    let s = c.args in
-    let S = s.book.now in
-    let m = c.refusal-in_default-lang.result in
     λ a h.
-    let w = slice (s.at + 1) c.in-Is.end S in
+    let (m, x, e) = item-stop S a (new nodes) length (begun_above a) s.at c.in_err-end.field-0.0 (c.in_err-end.ensures.reads a h) in
+    done_stop a s.counts (line_body S a words_l s.at) _ c.in_err-end.field-0.0 m s.names.now s.cells.now s.values.now
+    (body_is S a words_l s.at ∙ stop₁ S a (line_room S a words_l) (new nodes) ((used langs) ∷ []) (line_family.build words_l) (begun_above a) s.at m x) e c.from_residual.ensures.1
+
+pub read_used-requires : goal.read_used-requires
+read_used-requires c = c.in_ok-end.ensures.below.1
+
+pub returns-in_err-l : goal.returns-in_err-l
+returns-in_err-l c =
+    let s = c.args in
+    let S = s.book.now in
+    λ a h.
+    let w = slice (s.at + 1) c.in_ok-end.end S in
     let b = begun_above a in
-    let e = new_got S a nodes (begun_above a) s.at c.read_new-new.result c.in-Is.field-0 c.in-Is.end (c.read_new-new.ensures.reads a h) c.in-Is.is in
-    done_no a s.counts (line_body S a words_l s.at) _ m s.names.now s.cells.now s.values.now
-    (body_is S a words_l s.at ∙ stop₂ S a (line_room S a words_l) (new nodes) (used langs) ([]) (line_family.build words_l) b s.at w c.in-Is.end e m (item-stop S a (used langs) same (after (new nodes) w b) c.in-Is.end c.read_used-lang.result c.in_default-lang.field-0 m (c.read_used-lang.ensures.reads a h) c.in_default-lang.is c.refusal-in_default-lang.ensures)) refl
+    let g = new_got S a nodes b s.at c.in_ok-end.field-0-0 c.in_ok-end.end (c.in_ok-end.ensures.reads a h) in
+    let (m, x, e) = item-stop S a (used langs) same (after (new nodes) w b) c.in_ok-end.end c.in_err-l.field-0.0 (c.in_err-l.ensures.reads a h) in
+    done_stop a s.counts (line_body S a words_l s.at) _ c.in_err-l.field-0.0 m s.names.now s.cells.now s.values.now
+    (body_is S a words_l s.at ∙ stop₂ S a (line_room S a words_l) (new nodes) (used langs) ([]) (line_family.build words_l) b s.at w c.in_ok-end.end g m x) e c.from_residual-in_err-l.ensures.1
 
 pub overflow_cast-x : goal.overflow_cast-x
 overflow_cast-x c =
-    let b = (below-is _ _ c.read_used-lang.result _ _ c.read_used-lang.ensures.below c.in-Is-lang.is).0 in
+    let b = c.in_ok-l.ensures.below.0 in
     let n = c.requires.4.lang_limit in
     omega arith
 
 pub node_end-requires : goal.node_end-requires
 node_end-requires c =
     let s = c.args in
-    let l = (below-is _ _ c.read_used-lang.result _ _ c.read_used-lang.ensures.below c.in-Is-lang.is).1 in
     let q = c.requires in
     let (a, h) = q.5 in
-    let f = new_facts s.book.now a nodes (begun_above a) s.at c.read_new-new.result c.in-Is.field-0 c.in-Is.end (c.read_new-new.ensures.reads a h) c.in-Is.is in
+    let f = new_facts s.book.now a nodes (begun_above a) s.at c.in_ok-end.field-0-0 c.in_ok-end.end (c.in_ok-end.ensures.reads a h) in
     let m = node-room s.counts.nodes (let x = f.room in let y = h.names_counted nodes in omega arith) in
-    (f.from, f.within, f.short, l, m, q.1, q.2, q.3, q.4)
+    (f.from, f.within, f.short, c.in_ok-l.ensures.below.1, m, q.1, q.2, q.3, q.4)
 
 pub returns : goal.returns
 unfolding line_room node_row
 returns c =
     let s = c.args in
     let S = s.book.now in
-    let o = c.node_end in
     λ a h.
-    let w = slice (s.at + 1) c.in-Is.end S in
+    let w = slice (s.at + 1) c.in_ok-end.end S in
     let R = readers_at S a max_within in
     let b = begun_above a in
     let b₁ = after (new nodes) w b in
-    let e = new_got S a nodes (begun_above a) s.at c.read_new-new.result c.in-Is.field-0 c.in-Is.end (c.read_new-new.ensures.reads a h) c.in-Is.is in
-    let e₂ = number_got (arg_at S a R (used langs) b₁ c.in-Is.end) c.read_used-lang.result c.in-Is-lang.l c.in-Is-lang.last (c.read_used-lang.ensures.reads a h R b₁) c.in-Is-lang.is in
-    let q = body_is S a words_l s.at ∙ all₂ S a true (new nodes) (used langs) (line_family.build words_l) b s.at w c.in-Is.end e c.in-Is-lang.l c.in-Is-lang.last e₂ in
-    done_same a s.counts (line_body S a words_l s.at) (line_end S a true (node w (tagged c.in-Is-lang.l)) c.in-Is-lang.last) _ s.names.now _ s.cells.now _ s.values.now _ q (o.ensures a (tagged c.in-Is-lang.l) h (refl, refl, refl, refl))
+    let g = new_got S a nodes b s.at c.in_ok-end.field-0-0 c.in_ok-end.end (c.in_ok-end.ensures.reads a h) in
+    let g₂ = number_got (arg_at S a R (used langs) b₁ c.in_ok-end.end) c.in_ok-l.l c.in_ok-l.last (c.in_ok-l.ensures.reads a h R b₁) in
+    let q = body_is S a words_l s.at ∙ all₂ S a true (new nodes) (used langs) (line_family.build words_l) b s.at w c.in_ok-end.end g c.in_ok-l.l c.in_ok-l.last g₂ in
+    let t = tagged c.in_ok-l.l in
+    done_same a s.counts (line_body S a words_l s.at) (line_end S a true (node w t) c.in_ok-l.last) _ s.names.now _ s.cells.now _ s.values.now _ q (c.node_end.ensures a t h (refl, refl, refl, refl))

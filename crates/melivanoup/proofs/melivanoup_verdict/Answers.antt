@@ -2,8 +2,9 @@
 use mathlib.Core.Path.{◌≡◌, sym, ap, ◌∙◌}
 use mathlib.Core.Bool.{Bool, false}
 use native.Mathlib.Omega.{arith}
-use Rattle.model.specs.Answers.{Answer, refusal_number, value_or}
-use Rattle.verdict.specs.Answers.{question, answer_of, verdict_answer, tallied}
+use Rattle.std.specs.Prelude.{Ok}
+use Rattle.model.specs.Answers.{answer_of, Answer, refusal_number, value_or}
+use Rattle.verdict.specs.Answers.{question, verdict_answer, tallied}
 use Rattle.verdict.proofs.Answers.{lent-short, lent-reply}
 use Rattle.melivanoup.specs.Numbers.{one_if}
 use Rattle.melivanoup.proofs.melivanoup_verdict.Goals as goal
@@ -23,20 +24,20 @@ handed c =
     let h = lent-reply a.names.now a.cells.now a.values.now a.tallies.now (question a.console a.node a.shape) (omega (arith, c.if-tallies-lt-CONSOLES.false)) c.load-held.ensures c.verdict-outcome.ensures in
     (h.0, c.store.ensures ∙ h.1)
 
-pub returns-in-Yes : goal.returns-in-Yes
-returns-in-Yes c =
-    let h = handed (goal.at.returns-in-Yes c).After-store in
-    let q = ap answer_of (sym c.in-Yes.is) ∙ h.0 in
+pub returns-in-Ok-true : goal.returns-in-Ok-true
+returns-in-Ok-true c =
+    let h = handed (goal.at.returns-in-Ok-true c).After-store in
+    let q = ap answer_of (sym (c.in-Ok-true.is ∙ ap Ok c.in-Ok-true.field-0-test)) ∙ h.0 in
     record { value = ap refusal_number q; new_conforms = ap (λ (x : Answer Bool). one_if (value_or false x)) q; new_tallies = h.1 }
 
-pub returns-in-No : goal.returns-in-No
-returns-in-No c =
-    let h = handed (goal.at.returns-in-No c).After-store in
-    let q = ap answer_of (sym c.in-No.is) ∙ h.0 in
+pub returns-in-Ok-false : goal.returns-in-Ok-false
+returns-in-Ok-false c =
+    let h = handed (goal.at.returns-in-Ok-false c).After-store in
+    let q = ap answer_of (sym (c.in-Ok-false.is ∙ ap Ok c.in-Ok-false.field-0-test)) ∙ h.0 in
     record { value = ap refusal_number q; new_conforms = ap (λ (x : Answer Bool). one_if (value_or false x)) q; new_tallies = h.1 }
 
-pub returns-in-Refused : goal.returns-in-Refused
-returns-in-Refused c =
-    let h = handed (goal.at.returns-in-Refused c).After-store in
-    let q = ap answer_of (sym c.in-Refused.is) ∙ h.0 in
-    record { value = c.number-in-Refused.ensures ∙ ap refusal_number q; new_conforms = ap (λ (x : Answer Bool). one_if (value_or false x)) q; new_tallies = h.1 }
+pub returns-in-Err : goal.returns-in-Err
+returns-in-Err c =
+    let h = handed (goal.at.returns-in-Err c).After-store in
+    let q = ap answer_of (sym c.in-Err.is) ∙ h.0 in
+    record { value = c.number-in-Err.ensures ∙ ap refusal_number q; new_conforms = ap (λ (x : Answer Bool). one_if (value_or false x)) q; new_tallies = h.1 }

@@ -1,14 +1,13 @@
 -- `nearest` meets its contract: 8, then 9, then 10, then the nearest.
 use Prim.Native.Nat.{ℕ, ◌<◌}
 use mathlib.Core.Bool.{true, ◌&&◌}
-use mathlib.Core.Path.{◌≡◌, refl, sym, ap, ◌∙◌, subst}
+use mathlib.Core.Path.{◌≡◌, sym, ap, ◌∙◌, subst}
 use native.Mathlib.Nat.{le_of_eq}
 use native.Mathlib.Omega.{arith}
 use lib.Dec.{ltb}
 use lib.ListN.{take}
 use lib.Seq.{length-take-le}
 use borrow.Author.Tests.{not-true, not-false}
-use Rattle.model.specs.Answers.{value}
 use Rattle.model.proofs.Answers.{is-short, is_malformed, is_absent, is_done}
 use Rattle.tables.specs.Layout.{cell_count, value_count, node_count, path_count, shape_count, form_count}
 use Rattle.tables.specs.Sizes.{long_enough}
@@ -67,5 +66,5 @@ spare_from-requires c =
 pub returns : goal.returns
 returns c =
     let a = c.args in
-    let given = c.spare_from.ensures ∙ ap (λ (e : ℕ). value (nearest_to (take cell_count a.cells.now) (take value_count a.values.now) a.node a.path e)) c.root.ensures in
-    given ∙ is_done (nearest-checked a.names.now a.cells.now a.values.now a.node a.path a.shape) (long (goal.at.returns c).Else-not-enough) (well (goal.at.returns c).Else-not-well_formed) (all (goal.at.returns c).Else-not-there) refl
+    let given = c.spare_from.ensures ∙ ap (λ (e : ℕ). nearest_to (take cell_count a.cells.now) (take value_count a.values.now) a.node a.path e) c.root.ensures in
+    is_done (nearest-checked a.names.now a.cells.now a.values.now a.node a.path a.shape) (long (goal.at.returns c).Else-not-enough) (well (goal.at.returns c).Else-not-well_formed) (all (goal.at.returns c).Else-not-there) given

@@ -9,6 +9,6 @@ use Rattle.nodeset.proofs.insert.Goals as goal
 pub returns : goal.returns
 returns c =
     let a = c.args in
-    c.put_word.ensures
-    ∙ ap (λ (x : ℕ). set a.words.now (a.n / 64) (bit_or x ((1 * 2 ^ (a.n % 64)) % 2 ^ 64))) c.word-old.ensures
+    c.put.ensures
+    ∙ ap (λ (x : ℕ). set a.words.now (a.n / 64) (bit_or x ((1 * 2 ^ (a.n % 64)) % 2 ^ 64))) c.cell-old.ensures
     ∙ insert-code a.words.now a.n (λ i. (c.slice_known-1.given i).fits)

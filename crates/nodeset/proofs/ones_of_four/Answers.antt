@@ -18,13 +18,13 @@ none x e = sym (ap ones (eqb-true x 0 e))
 pub returns-then-x-y : goal.returns-then-x-y
 returns-then-x-y c =
     let t = c.if-x-y.true in
-    let x = and_left (eqb (bit_and c.word.result c.word-2.result) 0) (eqb (bit_and c.word-3.result c.word-4.result) 0 && (eqb (bit_and c.word-5.result c.word-6.result) 0 && eqb (bit_and c.word-7.result c.word-8.result) 0)) t in
-    let rest = and_right (eqb (bit_and c.word.result c.word-2.result) 0) (eqb (bit_and c.word-3.result c.word-4.result) 0 && (eqb (bit_and c.word-5.result c.word-6.result) 0 && eqb (bit_and c.word-7.result c.word-8.result) 0)) t in
-    let y = and_left (eqb (bit_and c.word-3.result c.word-4.result) 0) (eqb (bit_and c.word-5.result c.word-6.result) 0 && eqb (bit_and c.word-7.result c.word-8.result) 0) rest in
-    let last = and_right (eqb (bit_and c.word-3.result c.word-4.result) 0) (eqb (bit_and c.word-5.result c.word-6.result) 0 && eqb (bit_and c.word-7.result c.word-8.result) 0) rest in
-    let z = and_left (eqb (bit_and c.word-5.result c.word-6.result) 0) (eqb (bit_and c.word-7.result c.word-8.result) 0) last in
-    let w = and_right (eqb (bit_and c.word-5.result c.word-6.result) 0) (eqb (bit_and c.word-7.result c.word-8.result) 0) last in
-    omega (arith, ones_four c.args.a.now c.args.b.now c.args.i, none (bit_and c.word.result c.word-2.result) x ∙ ap₂ (λ (x y : ℕ). ones (bit_and x y)) c.word.ensures c.word-2.ensures, none (bit_and c.word-3.result c.word-4.result) y ∙ ap₂ (λ (x y : ℕ). ones (bit_and x y)) c.word-3.ensures c.word-4.ensures, none (bit_and c.word-5.result c.word-6.result) z ∙ ap₂ (λ (x y : ℕ). ones (bit_and x y)) c.word-5.ensures c.word-6.ensures, none (bit_and c.word-7.result c.word-8.result) w ∙ ap₂ (λ (x y : ℕ). ones (bit_and x y)) c.word-7.ensures c.word-8.ensures)
+    let x = and_left (eqb (bit_and c.cell.result c.cell-2.result) 0) (eqb (bit_and c.cell-3.result c.cell-4.result) 0 && (eqb (bit_and c.cell-5.result c.cell-6.result) 0 && eqb (bit_and c.cell-7.result c.cell-8.result) 0)) t in
+    let rest = and_right (eqb (bit_and c.cell.result c.cell-2.result) 0) (eqb (bit_and c.cell-3.result c.cell-4.result) 0 && (eqb (bit_and c.cell-5.result c.cell-6.result) 0 && eqb (bit_and c.cell-7.result c.cell-8.result) 0)) t in
+    let y = and_left (eqb (bit_and c.cell-3.result c.cell-4.result) 0) (eqb (bit_and c.cell-5.result c.cell-6.result) 0 && eqb (bit_and c.cell-7.result c.cell-8.result) 0) rest in
+    let last = and_right (eqb (bit_and c.cell-3.result c.cell-4.result) 0) (eqb (bit_and c.cell-5.result c.cell-6.result) 0 && eqb (bit_and c.cell-7.result c.cell-8.result) 0) rest in
+    let z = and_left (eqb (bit_and c.cell-5.result c.cell-6.result) 0) (eqb (bit_and c.cell-7.result c.cell-8.result) 0) last in
+    let w = and_right (eqb (bit_and c.cell-5.result c.cell-6.result) 0) (eqb (bit_and c.cell-7.result c.cell-8.result) 0) last in
+    omega (arith, ones_four c.args.a.now c.args.b.now c.args.i, none (bit_and c.cell.result c.cell-2.result) x ∙ ap₂ (λ (x y : ℕ). ones (bit_and x y)) c.cell.ensures c.cell-2.ensures, none (bit_and c.cell-3.result c.cell-4.result) y ∙ ap₂ (λ (x y : ℕ). ones (bit_and x y)) c.cell-3.ensures c.cell-4.ensures, none (bit_and c.cell-5.result c.cell-6.result) z ∙ ap₂ (λ (x y : ℕ). ones (bit_and x y)) c.cell-5.ensures c.cell-6.ensures, none (bit_and c.cell-7.result c.cell-8.result) w ∙ ap₂ (λ (x y : ℕ). ones (bit_and x y)) c.cell-7.ensures c.cell-8.ensures)
 
 pub returns : goal.returns
-returns c = omega (arith, ones_four c.args.a.now c.args.b.now c.args.i, c.ones_of.ensures.0 ∙ ap₂ (λ (x y : ℕ). ones (bit_and x y)) c.word.ensures c.word-2.ensures, c.ones_of-2.ensures.0 ∙ ap₂ (λ (x y : ℕ). ones (bit_and x y)) c.word-3.ensures c.word-4.ensures, c.ones_of-3.ensures.0 ∙ ap₂ (λ (x y : ℕ). ones (bit_and x y)) c.word-5.ensures c.word-6.ensures, c.ones_of-4.ensures.0 ∙ ap₂ (λ (x y : ℕ). ones (bit_and x y)) c.word-7.ensures c.word-8.ensures)
+returns c = omega (arith, ones_four c.args.a.now c.args.b.now c.args.i, c.ones_of.ensures.0 ∙ ap₂ (λ (x y : ℕ). ones (bit_and x y)) c.cell.ensures c.cell-2.ensures, c.ones_of-2.ensures.0 ∙ ap₂ (λ (x y : ℕ). ones (bit_and x y)) c.cell-3.ensures c.cell-4.ensures, c.ones_of-3.ensures.0 ∙ ap₂ (λ (x y : ℕ). ones (bit_and x y)) c.cell-5.ensures c.cell-6.ensures, c.ones_of-4.ensures.0 ∙ ap₂ (λ (x y : ℕ). ones (bit_and x y)) c.cell-7.ensures c.cell-8.ensures)

@@ -6,4 +6,4 @@ use Rattle.nodeset.proofs.test.Goals as goal
 
 pub returns : goal.returns
 unfolding bit has
-returns c = ap (λ (x : ℕ). bit x (c.args.n % 64)) c.word.ensures
+returns c = ap (λ (x : ℕ). bit x (c.args.n % 64)) c.cell.ensures

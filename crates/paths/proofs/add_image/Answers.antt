@@ -6,10 +6,10 @@ use borrow.Author.Rules.{rules}
 use Rattle.paths.proofs.add_image.Goals as goal
 
 pub loop-w-init : goal.loop-w-init
-loop-w-init c = let a = c.args in (omega arith, refl, gained-none a.into.now a.from.now a.rows.now a.n (λ i. (c.type_inv.into i).fits))
+loop-w-init c = let a = c.args in (omega arith, refl, gained-none a.into.now a.from.now a.relation.rows.now a.relation.n (λ i. (c.type_inv.into i).fits))
 
 pub loop-w-preserved : goal.loop-w-preserved
-loop-w-preserved c = let a = c.args in let t = c.loop-w in (search rules, c.gain_node.auto.into ∙ t.invariant.1, c.gain_node.ensures ∙ gained-more a.into.now a.from.now a.rows.now a.n t.w t.invariant.2)
+loop-w-preserved c = let a = c.args in let t = c.loop-w in (search rules, c.gain_node.auto.into ∙ t.invariant.1, c.gain_node.ensures ∙ gained-more a.into.now a.from.now a.relation.rows.now a.relation.n t.w t.invariant.2)
 
 pub returns : goal.returns
-returns c = let a = c.args in let t = c.loop-w in gain_one a.n c.requires.0 a.rows.now c.requires.2 a.from.now a.into.now t.w (omega arith) t.invariant.2
+returns c = let a = c.args in let t = c.loop-w in gain_one a.relation.n a.relation.few a.relation.rows.now a.relation.within a.from.now a.into.now t.w (omega arith) t.invariant.2

@@ -7,13 +7,13 @@ use Rattle.paths.proofs.Repeats.{gain_rows, gain_own}
 use Rattle.paths.proofs.gain.Goals as goal
 
 pub compose-requires : goal.compose-requires
-compose-requires c = let a = c.args in let r = row_room a.n a.from.now a.into.now c.in-Rows.is c.requires.0 in (c.requires.1, r.1, r.0)
+compose-requires c = let a = c.args in let r = row_room a.relation.n a.from.now a.into.now c.in-Rows.is c.requires in (a.relation.few, r.1, r.0)
 
 pub returns-in-One : goal.returns-in-One
-returns-in-One c = let a = c.args in c.add_image.ensures ∙ ap (λ (x : Sets). with_images (set_count x) a.n (backwards a.rows.now) (start_of x a.from.now) a.into.now) (sym c.in-One.is)
+returns-in-One c = let a = c.args in c.add_image.ensures ∙ ap (λ (x : Sets). with_images (set_count x) a.relation.n (backwards a.relation.rows.now) (start_of x a.from.now) a.into.now) (sym c.in-One.is)
 
 pub returns-in-Rows : goal.returns-in-Rows
-returns-in-Rows c = let a = c.args in c.compose.ensures ∙ gain_rows a.n c.requires.1 a.rows.now c.requires.3 a.from.now a.into.now ∙ ap (λ (x : Sets). with_images (set_count x) a.n (backwards a.rows.now) (start_of x a.from.now) a.into.now) (sym c.in-Rows.is)
+returns-in-Rows c = let a = c.args in c.compose.ensures ∙ gain_rows a.relation.n a.relation.few a.relation.rows.now a.relation.within a.from.now a.into.now ∙ ap (λ (x : Sets). with_images (set_count x) a.relation.n (backwards a.relation.rows.now) (start_of x a.from.now) a.into.now) (sym c.in-Rows.is)
 
 pub returns-in-Own : goal.returns-in-Own
-returns-in-Own c = let a = c.args in c.union_into.ensures ∙ gain_own a.n c.requires.1 a.rows.now c.requires.3 a.from.now a.into.now ∙ ap (λ (x : Sets). with_images (set_count x) a.n (backwards a.rows.now) (start_of x a.from.now) a.into.now) (sym c.in-Own.is)
+returns-in-Own c = let a = c.args in c.union_into.ensures ∙ gain_own a.relation.n a.relation.few a.relation.rows.now a.relation.within a.from.now a.into.now ∙ ap (λ (x : Sets). with_images (set_count x) a.relation.n (backwards a.relation.rows.now) (start_of x a.from.now) a.into.now) (sym c.in-Own.is)

@@ -4,7 +4,7 @@ use Rattle.paths.proofs.Repeats.{node_in_lem, node_out}
 use Rattle.paths.proofs.gain_node.Goals as goal
 
 pub returns-then-meets_row : goal.returns-then-meets_row
-returns-then-meets_row c = let a = c.args in c.insert.ensures ∙ node_in_lem a.from.now a.rows.now a.into.now a.n a.w (sym c.meets_row.ensures ∙ c.if-meets_row.true)
+returns-then-meets_row c = let a = c.args in c.insert.ensures ∙ node_in_lem a.from.now a.relation.rows.now a.into.now a.relation.n a.w (sym c.meets_row.ensures ∙ c.if-meets_row.true)
 
 pub returns-else-meets_row : goal.returns-else-meets_row
-returns-else-meets_row c = let a = c.args in node_out a.from.now a.rows.now a.into.now a.n a.w (λ i. (c.type_inv.into i).fits) (sym c.meets_row.ensures ∙ c.if-meets_row.false)
+returns-else-meets_row c = let a = c.args in node_out a.from.now a.relation.rows.now a.into.now a.relation.n a.w (λ i. (c.type_inv.into i).fits) (sym c.meets_row.ensures ∙ c.if-meets_row.false)

@@ -4,4 +4,4 @@ use Rattle.paths.proofs.Repeats.{meets-found}
 use Rattle.paths.proofs.meets_row.Goals as goal
 
 pub returns : goal.returns
-returns c = let a = c.args in meets-found a.from.now a.rows.now a.n a.w _ refl c.next_shared.ensures
+returns c = let a = c.args in meets-found a.from.now a.relation.rows.now a.relation.n a.w _ refl c.next_shared.ensures

@@ -1,9 +1,6 @@
-use Prim.Native.Nat.{◌-◌}
+use mathlib.Core.Path.{◌≡◌}
 use Rattle.reach.proofs.Levels.{Joined}
 use Rattle.reach.proofs.image.Given as goal
 
 abbrev pub invariant-loop-u : goal.invariant-loop-u
-invariant-loop-u l = Joined l.rows l.n l.members l.words l.u
-
-abbrev pub decreases-loop-u : goal.decreases-loop-u
-decreases-loop-u l = l.n - l.u
+invariant-loop-u l = (l.u-iterator.n ≡ l.relation.n) × (l.u-iterator.words.now ≡ l.fn.set.words) × Joined l.relation.rows.now l.relation.n l.fn.set.words l.words l.u-iterator.next

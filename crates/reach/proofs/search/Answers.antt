@@ -15,46 +15,43 @@ pub loop-nodes-init : goal.loop-nodes-init
 loop-nodes-init c =
     let a = c.args in
     let pre = c.requires in
-    (after_none a.rows.now a.n a.v pre.1 pre.3 pre.0 c.start-level.ensures.0 c.start-level.ensures.1, λ j l. absurd (omega arith))
-
-pub next-level-requires : goal.next-level-requires
-next-level-requires c = (c.requires.1, c.requires.2)
+    (after_none a.relation.rows.now a.relation.n a.v a.relation.few a.relation.within pre c.start-level.ensures.0 c.start-level.ensures.1, λ j l. absurd (omega arith))
 
 -- the level after one round more
-level-after : (c : After-next-level) → let a = c.args in After (leads a.rows.now) a.n a.v (c.loop-nodes.count + 1) c.next-level.result.reached.words c.next-level.result.frontier.words
+level-after : (c : After-next-level) → let a = c.args in After (leads a.relation.rows.now) a.relation.n a.v (c.loop-nodes.count + 1) c.next-level.result.reached.words c.next-level.result.frontier.words
 level-after c =
     let a = c.args in
     let pre = c.requires in
-    after_more a.rows.now a.n a.v pre.1 pre.3 pre.0 c.loop-nodes.invariant.0 c.next-level.ensures.words_value c.next-level.ensures.words_value_2
+    after_more a.relation.rows.now a.relation.n a.v a.relation.few a.relation.within pre c.loop-nodes.invariant.0 c.next-level.ensures.words_value c.next-level.ensures.words_value_2
 
 -- the count is the number of rounds
-counted : (c : Then-none_below) → let a = c.args in rounds (leads a.rows.now) a.n a.v ≡ c.loop-nodes.count
+counted : (c : Then-none_below) → let a = c.args in rounds (leads a.relation.rows.now) a.relation.n a.v ≡ c.loop-nodes.count
 counted c =
     let a = c.args in
     let pre = c.requires in
     let t = c.loop-nodes in
-    rounds-found (leads a.rows.now) a.n a.v pre.0 t.count t.invariant.1 (sym (none_new a.rows.now a.n a.v pre.1 pre.3 pre.0 t.count (level-after (goal.at.Then-none_below c).After-next-level)) ∙ sym c.none_below.ensures ∙ c.if-none_below.true)
+    rounds-found (leads a.relation.rows.now) a.relation.n a.v pre t.count t.invariant.1 (sym (none_new a.relation.rows.now a.relation.n a.v a.relation.few a.relation.within pre t.count (level-after (goal.at.Then-none_below c).After-next-level)) ∙ sym c.none_below.ensures ∙ c.if-none_below.true)
 
 pub returns-then-none_below : goal.returns-then-none_below
 returns-then-none_below c =
     let a = c.args in
     let pre = c.requires in
-    record { rounds_value = sym (counted (goal.at.returns-then-none_below c).Then-none_below); words_value = reached-all a.rows.now a.n a.v pre.1 pre.3 pre.0 c.loop-nodes.count (level-after (goal.at.returns-then-none_below c).After-next-level) (counted (goal.at.returns-then-none_below c).Then-none_below) }
+    record { rounds_value = sym (counted (goal.at.returns-then-none_below c).Then-none_below); words_value = reached-all a.relation.rows.now a.relation.n a.v a.relation.few a.relation.within pre c.loop-nodes.count (level-after (goal.at.returns-then-none_below c).After-next-level) (counted (goal.at.returns-then-none_below c).Then-none_below) }
 
 -- no number up to this one has settled
-still_growing : (c : Else-none_below) → let a = c.args in (j : ℕ) → j < c.loop-nodes.count + 1 → settled (leads a.rows.now) a.n a.v j ≡ false
+still_growing : (c : Else-none_below) → let a = c.args in (j : ℕ) → j < c.loop-nodes.count + 1 → settled (leads a.relation.rows.now) a.relation.n a.v j ≡ false
 still_growing c =
     let a = c.args in
     let pre = c.requires in
     let t = c.loop-nodes in
-    none_more (settled (leads a.rows.now) a.n a.v) t.count t.invariant.1 (sym (none_new a.rows.now a.n a.v pre.1 pre.3 pre.0 t.count (level-after (goal.at.Else-none_below c).After-next-level)) ∙ sym c.none_below.ensures ∙ c.if-none_below.false)
+    none_more (settled (leads a.relation.rows.now) a.relation.n a.v) t.count t.invariant.1 (sym (none_new a.relation.rows.now a.relation.n a.v a.relation.few a.relation.within pre t.count (level-after (goal.at.Else-none_below c).After-next-level)) ∙ sym c.none_below.ensures ∙ c.if-none_below.false)
 
 -- so there are more nodes
-more-nodes : (c : Else-none_below) → c.loop-nodes.count + 1 < c.args.n
-more-nodes c = let a = c.args in unsettled_low (leads a.rows.now) a.n a.v c.requires.0 (c.loop-nodes.count + 1) (still_growing c)
+more-nodes : (c : Else-none_below) → c.loop-nodes.count + 1 < c.args.relation.n
+more-nodes c = let a = c.args in unsettled_low (leads a.relation.rows.now) a.relation.n a.v c.requires (c.loop-nodes.count + 1) (still_growing c)
 
 pub overflow_add-count : goal.overflow_add-count
-overflow_add-count c = omega (arith, more-nodes (goal.at.overflow_add-count c).Else-none_below, c.requires.1)
+overflow_add-count c = omega (arith, more-nodes (goal.at.overflow_add-count c).Else-none_below, c.args.relation.few)
 
 pub loop-nodes-smaller : goal.loop-nodes-smaller
 loop-nodes-smaller c = omega (arith, more-nodes (goal.at.loop-nodes-smaller c).Else-none_below)

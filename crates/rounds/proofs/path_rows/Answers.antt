@@ -8,9 +8,10 @@ use Rattle.rounds.proofs.path_rows.Goals as goal
 pub all_table_ends-requires : goal.all_table_ends-requires
 all_table_ends-requires c =
     let a = c.args in
+    let cs = a.tables.cells.now in
     let pre = c.requires in
-    let room = empty-room (node_count a.cells.now) (sound a.cells.now pre.1.ok).nodes pre.0 in
-    (pre.1, path_known a.cells.now a.e pre.2, room.0, room.1)
+    let room = empty-room (node_count cs) (sound cs a.tables.made.ok).nodes pre.0 in
+    (path_known cs a.e pre.1, room.0, room.1)
 
 pub returns : goal.returns
-returns c = let a = c.args in path_rows a.cells.now a.e c.requires.0 c.all_table_ends.ensures
+returns c = let a = c.args in path_rows a.tables.cells.now a.e c.requires.0 c.all_table_ends.ensures

@@ -8,7 +8,7 @@ use native.Mathlib.Omega.{arith}
 use Rattle.closure.specs.Rows.{rows_of}
 use Rattle.model.specs.Limits.{max_nodes}
 use Rattle.model.specs.Paths.{ends_of}
-use Rattle.paths.specs.Facts.{triples_of}
+use Rattle.paths.specs.Over.{triples_over}
 use Rattle.paths.specs.Ends.{end_in}
 use Rattle.paths.specs.Images.{converse_if, with_images, start_of}
 use Rattle.paths.specs.declared.Sets.TheVariants.{Own}
@@ -18,13 +18,13 @@ use Rattle.rows.proofs.Rows.{turned}
 use Rattle.rows.proofs.all_ends.Goals as goal
 
 pub clear-requires : goal.clear-requires
-clear-requires c = (c.requires.0.nodes, c.requires.3, c.requires.4)
+clear-requires c = (c.args.facts.made.nodes, c.requires.1, c.requires.2)
 
 pub follow-requires : goal.follow-requires
-follow-requires c = let pre = c.requires in (pre.0, pre.1, pre.2, (omega arith, omega (arith, pre.3, c.clear.auto.rows)))
+follow-requires c = let pre = c.requires in (pre.0, (omega arith, omega (arith, pre.1, c.clear.auto.rows)))
 
 pub returns : goal.returns
-returns c = let a = c.args in let r = ends_of a.n (triples_of a.s.now a.p.now a.o.now a.len) (end_in a.cells.now a.end) in
-    c.follow.ensures ∙ ap (λ (m : List ℕ). with_images max_nodes a.n (converse_if (not a.back) r) (start_of Own []) m) c.clear.ensures
-    ∙ own_rows a.n (converse_if (not a.back) r) [] (length a.rows.now) (either_nodes (not a.back) r a.n (all-nodes a.s.now a.p.now a.o.now a.index.now a.len a.n c.requires.0 (end_in a.cells.now a.end)))
-    ∙ ap (λ (q : ℕ → ℕ → Bool). rows_of a.n q (length a.rows.now)) (turned a.back r)
+returns c = let a = c.args in let f = a.facts in let r = ends_of f.n (triples_over f) (end_in f.cells.now a.end) in
+    c.follow.ensures ∙ ap (λ (m : List ℕ). with_images max_nodes f.n (converse_if (not a.back) r) (start_of Own []) m) c.clear.ensures
+    ∙ own_rows f.n (converse_if (not a.back) r) [] (length a.rows.now) (either_nodes (not a.back) r f.n (all-nodes f.s.now f.p.now f.o.now f.index.now f.len f.n f.made (end_in f.cells.now a.end)))
+    ∙ ap (λ (q : ℕ → ℕ → Bool). rows_of f.n q (length a.rows.now)) (turned a.back r)

@@ -9,14 +9,10 @@ use Rattle.runner.proofs.Work.{put-tail, length-step}
 use Rattle.targets.specs.Classes.{sub_of}
 use Rattle.runner.proofs.run_step.Goals as goal
 
-pub returns : goal.returns
-returns c =
+pub returns-clause-new_work : goal.returns-clause-new_work
+returns-clause-new_work g c =
     let a = c.args in
-    let pre = c.requires in
+    let t = a.rows.now.tables in
     let ws : List ℕ = a.work.now in
-    record {
-      new_work = put-tail ws c.step_set-set.result.words a.k (length ws - 16 * a.k) (length-step (sub_of a.sub) a.cells.now a.values.now a.plan.now ws a.k c.step_set-set.ensures.words_value) (omega (arith, pre.1, pre.5)) refl c.store.ensures
-          ∙ ap (put ws a.k) c.step_set-set.ensures.words_value;
-      rows_held = c.step_set-set.ensures.rows_held;
-      rows_held_2 = c.step_set-set.ensures.rows_held_2;
-    }
+    put-tail ws c.step_set-set.result.words a.k (length ws - 16 * a.k) (length-step (sub_of a.sub) t.cells.now t.values.now a.plan.now ws a.k c.step_set-set.ensures.words_value) (omega (arith, c.requires.0, c.requires.2)) refl c.store.ensures
+    ∙ ap (put ws a.k) c.step_set-set.ensures.words_value

@@ -1,60 +1,59 @@
--- `condition_holds` meets its contract, by what is asked.
+-- `condition_holds` meets its contract, by what is asked: a search found nothing, or something.
 use Prim.Native.Nat.{ℕ}
-use mathlib.Core.Bool.{◌&&◌}
+use mathlib.Core.Bool.{not, ◌&&◌}
 use mathlib.Core.Path.{refl, ap, ◌∙◌}
 use native.Mathlib.Omega.{arith}
 use Rattle.nodeset.specs.Words.{has}
 use Rattle.model.specs.Shapes.{subset, none_shared}
 use Rattle.tables.proofs.WellFormed.{sound}
 use Rattle.plan.specs.Conditions.{some_in_one, some_shared}
+use Rattle.conditions.proofs.Terms.{test-broken}
+use Rattle.conditions.proofs.Searches.{subset-kept, equal-kept, equal-broken, apart_kept, apart-broken}
+use Rattle.conditions.proofs.Pairs.{less-kept, less-broken, lesseq_kept, lesseq_broken}
+use Rattle.conditions.proofs.Langs.{onelang-kept, onelang-broken}
+use Rattle.conditions.proofs.Items.{closed-kept, closed-broken}
 use Rattle.stepsets.specs.Conditions.{holds_of}
 use Rattle.stepsets.proofs.Conditions.{test_named, untest_named}
 use Rattle.stepsets.proofs.condition_holds.Goals as goal
 
 pub test_holds-requires : goal.test_holds-requires
-test_holds-requires c = let t = test_named c.args.cells.now c.in-Test.is c.requires.2 in (c.requires.1, t.0, t.1)
+test_holds-requires c = let t = test_named c.args.tables.cells.now c.in-Test.is c.requires.1 in (c.requires.0, t.0, t.1)
 
-pub test_fails-requires : goal.test_fails-requires
-test_fails-requires c = let t = untest_named c.args.cells.now c.in-Untest.is c.requires.2 in (c.requires.1, t.0, t.1)
+pub test_holds-requires-in-Untest : goal.test_holds-requires-in-Untest
+test_holds-requires-in-Untest c = let t = untest_named c.args.tables.cells.now c.in-Untest.is c.requires.1 in (c.requires.0, t.0, t.1)
 
-pub subset_holds-requires : goal.subset_holds-requires
-subset_holds-requires c = omega (arith, c.node_count-n.ensures, (sound c.args.cells.now c.requires.0.ok).nodes)
+pub first_outside-requires : goal.first_outside-requires
+first_outside-requires c = omega (arith, c.node_count-n.ensures, (sound c.args.tables.cells.now c.args.tables.made.ok).nodes)
 
-pub equal_holds-requires : goal.equal_holds-requires
-equal_holds-requires c = omega (arith, c.node_count-n.ensures, (sound c.args.cells.now c.requires.0.ok).nodes)
+pub first_in_one-requires : goal.first_in_one-requires
+first_in_one-requires c = omega (arith, c.node_count-n.ensures, (sound c.args.tables.cells.now c.args.tables.made.ok).nodes)
 
-pub equal_fails-requires : goal.equal_fails-requires
-equal_fails-requires c = omega (arith, c.node_count-n.ensures, (sound c.args.cells.now c.requires.0.ok).nodes)
+pub first_in_one-requires-in-Unequal : goal.first_in_one-requires-in-Unequal
+first_in_one-requires-in-Unequal c = omega (arith, c.node_count-n.ensures, (sound c.args.tables.cells.now c.args.tables.made.ok).nodes)
 
-pub apart_holds-requires : goal.apart_holds-requires
-apart_holds-requires c = omega (arith, c.node_count-n.ensures, (sound c.args.cells.now c.requires.0.ok).nodes)
+pub first_shared-requires : goal.first_shared-requires
+first_shared-requires c = omega (arith, c.node_count-n.ensures, (sound c.args.tables.cells.now c.args.tables.made.ok).nodes)
 
-pub apart_fails-requires : goal.apart_fails-requires
-apart_fails-requires c = omega (arith, c.node_count-n.ensures, (sound c.args.cells.now c.requires.0.ok).nodes)
+pub first_shared-requires-in-Meet : goal.first_shared-requires-in-Meet
+first_shared-requires-in-Meet c = omega (arith, c.node_count-n.ensures, (sound c.args.tables.cells.now c.args.tables.made.ok).nodes)
 
-pub less_holds-requires : goal.less_holds-requires
-less_holds-requires c = (sound c.args.cells.now c.requires.0.ok).nodes
+pub first_unordered-requires : goal.first_unordered-requires
+first_unordered-requires c = (sound c.args.tables.cells.now c.args.tables.made.ok).nodes
 
-pub less_fails-requires : goal.less_fails-requires
-less_fails-requires c = (sound c.args.cells.now c.requires.0.ok).nodes
+pub first_unordered-requires-in-NotLess : goal.first_unordered-requires-in-NotLess
+first_unordered-requires-in-NotLess c = (sound c.args.tables.cells.now c.args.tables.made.ok).nodes
 
-pub lesseq_holds-requires : goal.lesseq_holds-requires
-lesseq_holds-requires c = (sound c.args.cells.now c.requires.0.ok).nodes
+pub first_unordered-requires-in-LessEq : goal.first_unordered-requires-in-LessEq
+first_unordered-requires-in-LessEq c = (sound c.args.tables.cells.now c.args.tables.made.ok).nodes
 
-pub lesseq_fails-requires : goal.lesseq_fails-requires
-lesseq_fails-requires c = (sound c.args.cells.now c.requires.0.ok).nodes
+pub first_unordered-requires-in-NotLessEq : goal.first_unordered-requires-in-NotLessEq
+first_unordered-requires-in-NotLessEq c = (sound c.args.tables.cells.now c.args.tables.made.ok).nodes
 
-pub onelang_holds-requires : goal.onelang_holds-requires
-onelang_holds-requires c = (sound c.args.cells.now c.requires.0.ok).nodes
+pub first_clash-requires : goal.first_clash-requires
+first_clash-requires c = (sound c.args.tables.cells.now c.args.tables.made.ok).nodes
 
-pub onelang_fails-requires : goal.onelang_fails-requires
-onelang_fails-requires c = (sound c.args.cells.now c.requires.0.ok).nodes
-
-pub closed_holds-requires : goal.closed_holds-requires
-closed_holds-requires c = c.requires.0
-
-pub closed_fails-requires : goal.closed_fails-requires
-closed_fails-requires c = c.requires.0
+pub first_clash-requires-in-ManyLang : goal.first_clash-requires-in-ManyLang
+first_clash-requires-in-ManyLang c = (sound c.args.tables.cells.now c.args.tables.made.ok).nodes
 
 pub returns-in-Is : goal.returns-in-Is
 unfolding holds_of
@@ -70,7 +69,7 @@ returns-in-Test c = rw c.in-Test.is c.test_holds.ensures
 
 pub returns-in-Untest : goal.returns-in-Untest
 unfolding holds_of
-returns-in-Untest c = rw c.in-Untest.is c.test_fails.ensures
+returns-in-Untest c = let a = c.args in rw c.in-Untest.is (ap not c.test_holds-in-Untest.ensures ∙ (let t = untest_named a.tables.cells.now c.in-Untest.is c.requires.1 in test-broken a.tables.cells.now a.tables.values.now c.in-Untest.e a.v.0 t.0 t.1))
 
 pub returns-in-Count : goal.returns-in-Count
 unfolding holds_of
@@ -78,52 +77,52 @@ returns-in-Count c = rw c.in-Count.is (cc)
 
 pub returns-in-Every : goal.returns-in-Every
 unfolding holds_of
-returns-in-Every c = let a = c.args in rw c.in-Every.is (c.subset_holds.ensures ∙ ap (λ (n : ℕ). subset n (has a.a.now) (has a.b.now)) c.node_count-n.ensures)
+returns-in-Every c = let a = c.args in rw c.in-Every.is (subset-kept c.node_count-n.result (has a.a.now) (has a.b.now) c.first_outside.result c.first_outside.ensures c.is_none.ensures ∙ ap (λ (n : ℕ). subset n (has a.a.now) (has a.b.now)) c.node_count-n.ensures)
 
 pub returns-in-Equal : goal.returns-in-Equal
 unfolding holds_of
-returns-in-Equal c = let a = c.args in rw c.in-Equal.is (c.equal_holds.ensures ∙ ap (λ (n : ℕ). subset n (has a.a.now) (has a.b.now) && subset n (has a.b.now) (has a.a.now)) c.node_count-n.ensures)
+returns-in-Equal c = let a = c.args in rw c.in-Equal.is (equal-kept c.node_count-n.result (has a.a.now) (has a.b.now) c.first_in_one.result c.first_in_one.ensures c.is_none-in-Equal.ensures ∙ ap (λ (n : ℕ). subset n (has a.a.now) (has a.b.now) && subset n (has a.b.now) (has a.a.now)) c.node_count-n.ensures)
 
 pub returns-in-Unequal : goal.returns-in-Unequal
 unfolding holds_of
-returns-in-Unequal c = let a = c.args in rw c.in-Unequal.is (c.equal_fails.ensures ∙ ap (λ (n : ℕ). some_in_one n (has a.a.now) (has a.b.now)) c.node_count-n.ensures)
+returns-in-Unequal c = let a = c.args in rw c.in-Unequal.is (c.is_some.ensures ∙ equal-broken c.node_count-n.result (has a.a.now) (has a.b.now) c.first_in_one-in-Unequal.result c.first_in_one-in-Unequal.ensures ∙ ap (λ (n : ℕ). some_in_one n (has a.a.now) (has a.b.now)) c.node_count-n.ensures)
 
 pub returns-in-Apart : goal.returns-in-Apart
 unfolding holds_of
-returns-in-Apart c = let a = c.args in rw c.in-Apart.is (c.apart_holds.ensures ∙ ap (λ (n : ℕ). none_shared n (has a.a.now) (has a.b.now)) c.node_count-n.ensures)
+returns-in-Apart c = let a = c.args in rw c.in-Apart.is (apart_kept c.node_count-n.result (has a.a.now) (has a.b.now) c.first_shared.result c.first_shared.ensures c.is_none-in-Apart.ensures ∙ ap (λ (n : ℕ). none_shared n (has a.a.now) (has a.b.now)) c.node_count-n.ensures)
 
 pub returns-in-Meet : goal.returns-in-Meet
 unfolding holds_of
-returns-in-Meet c = let a = c.args in rw c.in-Meet.is (c.apart_fails.ensures ∙ ap (λ (n : ℕ). some_shared n (has a.a.now) (has a.b.now)) c.node_count-n.ensures)
+returns-in-Meet c = let a = c.args in rw c.in-Meet.is (c.is_some-in-Meet.ensures ∙ apart-broken c.node_count-n.result (has a.a.now) (has a.b.now) c.first_shared-in-Meet.result c.first_shared-in-Meet.ensures ∙ ap (λ (n : ℕ). some_shared n (has a.a.now) (has a.b.now)) c.node_count-n.ensures)
 
 pub returns-in-Less : goal.returns-in-Less
 unfolding holds_of
-returns-in-Less c = rw c.in-Less.is c.less_holds.ensures
+returns-in-Less c = let a = c.args in rw c.in-Less.is (less-kept a.tables.cells.now a.tables.values.now (has a.a.now) (has a.b.now) c.first_unordered.result c.first_unordered.ensures c.is_none-in-Less.ensures)
 
 pub returns-in-NotLess : goal.returns-in-NotLess
 unfolding holds_of
-returns-in-NotLess c = rw c.in-NotLess.is c.less_fails.ensures
+returns-in-NotLess c = let a = c.args in rw c.in-NotLess.is (c.is_some-in-NotLess.ensures ∙ less-broken a.tables.cells.now a.tables.values.now (has a.a.now) (has a.b.now) c.first_unordered-in-NotLess.result c.first_unordered-in-NotLess.ensures)
 
 pub returns-in-LessEq : goal.returns-in-LessEq
 unfolding holds_of
-returns-in-LessEq c = rw c.in-LessEq.is c.lesseq_holds.ensures
+returns-in-LessEq c = let a = c.args in rw c.in-LessEq.is (lesseq_kept a.tables.cells.now a.tables.values.now (has a.a.now) (has a.b.now) c.first_unordered-in-LessEq.result c.first_unordered-in-LessEq.ensures c.is_none-in-LessEq.ensures)
 
 pub returns-in-NotLessEq : goal.returns-in-NotLessEq
 unfolding holds_of
-returns-in-NotLessEq c = rw c.in-NotLessEq.is c.lesseq_fails.ensures
+returns-in-NotLessEq c = let a = c.args in rw c.in-NotLessEq.is (c.is_some-in-NotLessEq.ensures ∙ lesseq_broken a.tables.cells.now a.tables.values.now (has a.a.now) (has a.b.now) c.first_unordered-in-NotLessEq.result c.first_unordered-in-NotLessEq.ensures)
 
 pub returns-in-OneLang : goal.returns-in-OneLang
 unfolding holds_of
-returns-in-OneLang c = rw c.in-OneLang.is (c.onelang_holds.ensures c.args.values.now)
+returns-in-OneLang c = let a = c.args in rw c.in-OneLang.is (onelang-kept a.tables.cells.now a.tables.values.now (λ w. has a.a.now w && has a.b.now w) c.first_clash.result (c.first_clash.ensures a.tables.values.now) c.is_none-in-OneLang.ensures)
 
 pub returns-in-ManyLang : goal.returns-in-ManyLang
 unfolding holds_of
-returns-in-ManyLang c = rw c.in-ManyLang.is (c.onelang_fails.ensures c.args.values.now)
+returns-in-ManyLang c = let a = c.args in rw c.in-ManyLang.is (c.is_some-in-ManyLang.ensures ∙ onelang-broken a.tables.cells.now a.tables.values.now (λ w. has a.a.now w && has a.b.now w) c.first_clash-in-ManyLang.result (c.first_clash-in-ManyLang.ensures a.tables.values.now))
 
 pub returns-in-Closed : goal.returns-in-Closed
 unfolding holds_of
-returns-in-Closed c = rw c.in-Closed.is c.closed_holds.ensures
+returns-in-Closed c = let a = c.args in rw c.in-Closed.is (closed-kept a.tables.cells.now (has a.b.now) a.v.0 c.first_unlisted.result c.first_unlisted.ensures c.is_none-in-Closed.ensures)
 
 pub returns-in-Open : goal.returns-in-Open
 unfolding holds_of
-returns-in-Open c = rw c.in-Open.is c.closed_fails.ensures
+returns-in-Open c = let a = c.args in rw c.in-Open.is (c.is_some-in-Open.ensures ∙ closed-broken a.tables.cells.now (has a.b.now) a.v.0 c.first_unlisted-in-Open.result c.first_unlisted-in-Open.ensures)

@@ -1,33 +1,43 @@
 -- `ends_set` meets its contract, by the rows of the end and of the link.
-use Prim.Native.Nat.{◌*◌}
-use mathlib.Core.Path.{refl, ◌∙◌}
-use lib.ListN.{drop}
-use Rattle.nodeset.specs.Words.{has}
+use Prim.Native.Nat.{ℕ, ◌-◌, ◌*◌, ◌<◌}
+use mathlib.Core.List.{List}
+use mathlib.Core.Path.{◌≡◌, refl, ap, ◌∙◌}
+use native.Mathlib.Omega.{arith}
+use borrow.Author.Rules.{rules}
+use lib.ListN.{length, take, drop}
+use Rattle.nodeset.specs.Words.{has, nodes_of}
 use Rattle.model.specs.Paths.{ends_of}
 use Rattle.model.specs.Shapes.{starts, objects}
+use Rattle.tables.specs.Layout.{node_count}
 use Rattle.tables.specs.Decode.{graph_at}
 use Rattle.tables.proofs.WellFormed.{sound}
 use Rattle.paths.specs.Ends.{end_in, end_known}
 use Rattle.paths.specs.declared.End.TheVariants.{Link}
-use Rattle.stepsets.proofs.Conditions.{where_ext}
-use Rattle.stepsets.proofs.Rows.{row_ends}
+use Rattle.stepsets.specs.Conditions.{holds_of}
+use Rattle.stepsets.proofs.Conditions.{holds_ext}
+use Rattle.stepsets.proofs.Nodes.{part-from}
+use Rattle.stepsets.proofs.Rows.{row_ends, held_of}
 use Rattle.stepsets.proofs.ends_set.Goals as goal
 
-pub keep_ends-requires-2 : goal.keep_ends-requires-2
+pub fill-requires-2 : goal.fill-requires-2
 unfolding end_known
-keep_ends-requires-2 c = let pre = c.requires in (pre.0, refl, pre.4)
+fill-requires-2 g c = (refl, c.args.rows.now.second_held)
 
-pub returns : goal.returns
+pub returns-clause-words_value : goal.returns-clause-words_value
 unfolding end_in ends_of graph_at
-returns c =
+returns-clause-words_value g c =
     let a = c.args in
-    let pre = c.requires in
-    let cs = a.cells.now in
-    let vs = a.values.now in
-    record {
-      words_value = c.nodes_where.ensures
-          ∙ where_ext cs vs (sound cs pre.0.ok) a.condition (λ v. has (drop (16 * v) c.keep_ends.new.rows)) (starts (graph_at cs vs) (end_in cs a.end)) (λ v. has (drop (16 * v) c.keep_ends-2.new.rows)) (objects (graph_at cs vs) a.link.0)
-          (row_ends cs a.index.now pre.0 a.end c.keep_ends.ensures) (row_ends cs a.index.now pre.0 (Link a.link) c.keep_ends-2.ensures);
-      rows_held = c.keep_ends.ensures;
-      rows_held_2 = c.keep_ends-2.ensures;
-    }
+    let t = a.rows.now.tables in
+    let cs = t.cells.now in
+    let vs = t.values.now in
+    let rows = c.fill.new.rows in
+    let links = c.fill-2.new.rows in
+    c.nodes_where.ensures (λ v. holds_of cs vs a.condition (starts (graph_at cs vs) (end_in cs a.end) v) (objects (graph_at cs vs) a.link.0 v) v)
+    (λ v yes l k.
+    let low : v.0 < node_count cs = omega (arith, l, c.node_count.ensures) in
+    let h : yes ≡ holds_of cs vs a.condition (has (take (length rows - 16 * v.0) (drop (16 * v.0) rows))) (has (take (length links - 16 * v.0) (drop (16 * v.0) links))) v.0 = search rules in
+    h
+    ∙ holds_ext cs vs (sound cs t.made.ok)
+    (λ w lw. ap (λ (d : List ℕ). has d w) (part-from rows (16 * v.0)) ∙ row_ends cs t.index.now t.made (a.end) (held_of c.fill.ensures.new_of c.fill.ensures.held) v.0 low w lw)
+    (λ w lw. ap (λ (d : List ℕ). has d w) (part-from links (16 * v.0)) ∙ row_ends cs t.index.now t.made (Link a.link) (held_of c.fill-2.ensures.new_of c.fill-2.ensures.held) v.0 low w lw) v.0 a.condition)
+    ∙ ap (nodes_of (λ v. holds_of cs vs a.condition (starts (graph_at cs vs) (end_in cs a.end) v) (objects (graph_at cs vs) a.link.0 v) v)) c.node_count.ensures

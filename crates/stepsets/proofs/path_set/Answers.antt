@@ -1,35 +1,43 @@
 -- `path_set` meets its contract, by the rows of the path.
-use Prim.Native.Nat.{ℕ, ◌*◌}
+use Prim.Native.Nat.{ℕ, ◌-◌, ◌*◌, ◌<◌}
 use mathlib.Core.List.{List}
-use mathlib.Core.Path.{ap, ◌∙◌}
-use lib.ListN.{drop}
+use mathlib.Core.Path.{◌≡◌, ap, ◌∙◌}
+use native.Mathlib.Omega.{arith}
+use borrow.Author.Rules.{rules}
 use borrow.Author.Tests.{lt-ltb}
-use Rattle.nodeset.specs.Words.{has}
+use lib.ListN.{length, take, drop}
+use Rattle.nodeset.specs.Words.{has, nodes_of}
 use Rattle.model.specs.Paths.{ends_of}
 use Rattle.model.specs.Shapes.{from}
-use Rattle.tables.specs.Layout.{path_count}
+use Rattle.tables.specs.Layout.{node_count, path_count}
 use Rattle.tables.specs.Decode.{graph_at, path_at}
 use Rattle.tables.proofs.WellFormed.{sound}
 use Rattle.paths.specs.Ends.{end_in, end_known}
 use Rattle.paths.specs.declared.End.TheVariants.{Path}
-use Rattle.stepsets.proofs.Conditions.{where_ext}
-use Rattle.stepsets.proofs.Rows.{row_ends}
+use Rattle.stepsets.specs.Conditions.{holds_of}
+use Rattle.stepsets.proofs.Conditions.{holds_ext}
+use Rattle.stepsets.proofs.Nodes.{part-from}
+use Rattle.stepsets.proofs.Rows.{row_ends, held_of}
 use Rattle.stepsets.proofs.path_set.Goals as goal
 
-pub keep_ends-requires : goal.keep_ends-requires
+pub fill-requires : goal.fill-requires
 unfolding end_known
-keep_ends-requires c = let pre = c.requires in (pre.0, lt-ltb c.args.path (path_count c.args.cells.now) pre.1, pre.4)
+fill-requires g c = (lt-ltb c.args.path (path_count c.args.rows.now.tables.cells.now) c.requires.0, c.args.rows.now.first_held)
 
-pub returns : goal.returns
+pub returns-clause-words_value : goal.returns-clause-words_value
 unfolding end_in ends_of graph_at
-returns c =
+returns-clause-words_value g c =
     let a = c.args in
-    let pre = c.requires in
-    let cs = a.cells.now in
-    let vs = a.values.now in
-    record {
-      words_value = c.nodes_where.ensures
-          ∙ where_ext cs vs (sound cs pre.0.ok) a.condition (λ v. has (drop (16 * v) c.keep_ends.new.rows)) (from (graph_at cs vs) (path_at cs a.path)) (λ v. has c.part.result.now) (λ v. has (drop (16 * a.step) a.work.now))
-          (row_ends cs a.index.now pre.0 (Path a.path) c.keep_ends.ensures) (λ v l w lw. ap (λ (d : List ℕ). has d w) c.part.ensures);
-      rows_held = c.keep_ends.ensures;
-    }
+    let t = a.rows.now.tables in
+    let cs = t.cells.now in
+    let vs = t.values.now in
+    let rows = c.fill.new.rows in
+    c.nodes_where.ensures (λ v. holds_of cs vs a.condition (from (graph_at cs vs) (path_at cs a.path) v) (has (drop (16 * a.step) a.work.now)) v)
+    (λ v yes l k.
+    let low : v.0 < node_count cs = omega (arith, l, c.node_count.ensures) in
+    let h : yes ≡ holds_of cs vs a.condition (has (take (length rows - 16 * v.0) (drop (16 * v.0) rows))) (has (c.part-set.result.now)) v.0 = search rules in
+    h
+    ∙ holds_ext cs vs (sound cs t.made.ok)
+    (λ w lw. ap (λ (d : List ℕ). has d w) (part-from rows (16 * v.0)) ∙ row_ends cs t.index.now t.made (Path a.path) (held_of c.fill.ensures.new_of c.fill.ensures.held) v.0 low w lw)
+    (λ w lw. ap (λ (d : List ℕ). has d w) c.part-set.ensures) v.0 a.condition)
+    ∙ ap (nodes_of (λ v. holds_of cs vs a.condition (from (graph_at cs vs) (path_at cs a.path) v) (has (drop (16 * a.step) a.work.now)) v)) c.node_count.ensures

@@ -1,16 +1,24 @@
-use Prim.Native.Nat.{◌*◌}
 use mathlib.Core.Bool.{false}
-use mathlib.Core.Path.{◌∙◌}
-use lib.ListN.{drop, replicate}
-use Rattle.nodeset.specs.Words.{has}
+use mathlib.Core.Path.{◌≡◌, ap, ◌∙◌}
+use native.Mathlib.Omega.{arith}
+use borrow.Author.Rules.{rules}
+use lib.ListN.{replicate}
+use Rattle.nodeset.specs.Words.{has, nodes_of}
+use Rattle.nodeset.proofs.Sets.{has_zeros}
 use Rattle.tables.proofs.WellFormed.{sound}
-use Rattle.nodeset.proofs.Sets.{has-drop, has_zeros}
-use Rattle.stepsets.proofs.Conditions.{where_ext}
+use Rattle.stepsets.specs.Conditions.{holds_of}
+use Rattle.stepsets.proofs.Conditions.{holds_ext}
 use Rattle.stepsets.proofs.plain_set.Goals as goal
+
+pub nodes_where-requires : goal.nodes_where-requires
+nodes_where-requires c = (omega (arith, c.node_count.ensures, (sound c.args.tables.cells.now c.args.tables.made.ok).nodes), λ v l. search rules)
 
 pub returns : goal.returns
 returns c =
-    c.nodes_where.ensures
-    ∙ where_ext c.args.cells.now c.args.values.now (sound c.args.cells.now c.requires.0.ok) c.args.condition
-    (λ v. has (drop (16 * v) (replicate 16 0))) (λ v w. false) (λ v. has (replicate 16 0)) (λ v w. false)
-    (λ v l w lw. has-drop (replicate 16 0) (16 * v) w ∙ has_zeros 16 _) (λ v l w lw. has_zeros 16 w)
+    let t = c.args.tables in
+    let cs = t.cells.now in
+    c.nodes_where.ensures (λ v. holds_of cs t.values.now c.args.condition (λ w. false) (λ w. false) v)
+    (λ v yes l k.
+    let h : yes ≡ holds_of cs t.values.now c.args.condition (has (replicate 16 0)) (has (replicate 16 0)) v.0 = search rules in
+    h ∙ holds_ext cs t.values.now (sound cs t.made.ok) (λ w lw. has_zeros 16 w) (λ w lw. has_zeros 16 w) v.0 c.args.condition)
+    ∙ ap (nodes_of (λ v. holds_of cs t.values.now c.args.condition (λ w. false) (λ w. false) v)) c.node_count.ensures

@@ -1,18 +1,16 @@
-use Prim.Native.Nat.{zero-le}
-use mathlib.Core.Path.{refl}
-use native.Mathlib.Omega.{arith}
-use Rattle.tablecheck.proofs.Columns.{cell_below, rest_below, passed_none, passed_next, column_done}
+use Prim.Native.Nat.{ℕ}
+use Rattle.std.proofs.Common.{rules}
+use Rattle.std.proofs.lemmas.Fn.{fronts, fold_over}
+use Rattle.std.proofs.lemmas.Iterator.{YieldsList-from_slice}
+use lib.Dec.{ltb}
+use Rattle.tablecheck.proofs.Columns.{rest_below, Passed, passed_none, passed_more, column_done}
 use Rattle.tablecheck.proofs.column_below.Goals as goal
-
-pub loop-i-init : goal.loop-i-init
-loop-i-init c = (zero-le, passed_none _ _)
-
-pub loop-i-preserved : goal.loop-i-preserved
-loop-i-preserved c =
-    let t = c.column-there.result.now in
-    (omega arith, passed_next (rest_below t c.args.bound c.args.len) (cell_below t c.args.bound) c.loop-i.i c.loop-i.invariant.1 refl)
 
 pub returns : goal.returns
 returns c =
-    let d = c.column-there in
-    column_done c.args.cells.now d.result.now c.args.base c.args.len c.args.bound c.loop-i.i d.ensures (omega arith) c.loop-i.invariant.1
+    let a = c.args in
+    let t = c.column-there.result.now in
+    let f = rest_below t a.bound a.len in
+    let p = λ (x : ℕ). ltb x a.bound in
+    column_done a.cells.now t a.base a.len a.bound c.column-there.ensures
+    (fold_over fronts (λ y. y.now) _ (Passed f p) _ (λ l r x s q e k. (passed_more f p l x.now e (search rules), search rules)) c.iter.result t f _ (YieldsList-from_slice t c.iter.ensures.rest).runs (passed_none f p) c.fold.ensures.ran)

@@ -1,12 +1,11 @@
-use Prim.Native.Nat.{suc, zero-le}
+use Prim.Native.Nat.{ℕ, suc, zero-le}
 use mathlib.Core.Path.{refl, ap, ap₂, ◌∙◌}
 use mathlib.Core.Bool.{◌&&◌}
 use lib.Dec.{ltb}
 use Rattle.tables.specs.Codes as codes
 use Rattle.tables.specs.Layout.{node_count, link_count}
 use Rattle.tables.specs.Entries.{entry_of}
-use Rattle.tables.specs.WellFormed.{entry_ok, end_number_ok}
-use Rattle.tablecheck.specs.Parts.{item_bound}
+use Rattle.tables.specs.WellFormed.{items_ok, entry_ok, end_number_ok}
 use Rattle.tablecheck.proofs.Codes.{next, case_is, case_in, case_past, read_twice, entry_by, entry_by_lem, entry-unknown}
 use Rattle.tablecheck.proofs.entry_ok.Goals as goal
 
@@ -35,8 +34,8 @@ unfolding entry_of entry_ok
 returns-in-7 c = case_is (entry_by c.args.cells.now c.args.e c.form_first-a.result c.form_second-b.result) c.form_code.result (entry_by_lem c.args.cells.now c.args.e c.form_first-a.result c.form_second-b.result c.form_code.result c.form_first-a.ensures c.form_second-b.ensures c.form_code.ensures) codes.form_datatype c.in-7.is (c.below-in-7.ensures ∙ ap (ltb _) c.type_count.ensures)
 
 pub returns-in-8 : goal.returns-in-8
-unfolding entry_of entry_ok item_bound
-returns-in-8 c = case_is (entry_by c.args.cells.now c.args.e c.form_first-a.result c.form_second-b.result) c.form_code.result (entry_by_lem c.args.cells.now c.args.e c.form_first-a.result c.form_second-b.result c.form_code.result c.form_first-a.ensures c.form_second-b.ensures c.form_code.ensures) codes.form_lang c.in-8.is c.items_ok.ensures
+unfolding entry_of entry_ok
+returns-in-8 c = case_is (entry_by c.args.cells.now c.args.e c.form_first-a.result c.form_second-b.result) c.form_code.result (entry_by_lem c.args.cells.now c.args.e c.form_first-a.result c.form_second-b.result c.form_code.result c.form_first-a.ensures c.form_second-b.ensures c.form_code.ensures) codes.form_lang c.in-8.is (c.items_ok.ensures ∙ ap (λ (b : ℕ). items_ok c.args.cells.now b c.form_first-a.result c.form_second-b.result) c.lang_count.ensures)
 
 pub returns-in-13 : goal.returns-in-13
 unfolding entry_of entry_ok
@@ -47,8 +46,8 @@ unfolding entry_of entry_ok
 returns-in-14 c = case_is (entry_by c.args.cells.now c.args.e c.form_first-a.result c.form_second-b.result) c.form_code.result (entry_by_lem c.args.cells.now c.args.e c.form_first-a.result c.form_second-b.result c.form_code.result c.form_first-a.ensures c.form_second-b.ensures c.form_code.ensures) codes.form_all c.in-14.is (ap₂ ◌&&◌ (c.below-in-14.ensures ∙ ap (ltb _) c.path_count.ensures) c.below-in-14-2.ensures)
 
 pub returns-in-17 : goal.returns-in-17
-unfolding entry_of entry_ok item_bound
-returns-in-17 c = case_is (entry_by c.args.cells.now c.args.e c.form_first-a.result c.form_second-b.result) c.form_code.result (entry_by_lem c.args.cells.now c.args.e c.form_first-a.result c.form_second-b.result c.form_code.result c.form_first-a.ensures c.form_second-b.ensures c.form_code.ensures) codes.form_closed c.in-17.is c.items_ok-in-17.ensures
+unfolding entry_of entry_ok
+returns-in-17 c = case_is (entry_by c.args.cells.now c.args.e c.form_first-a.result c.form_second-b.result) c.form_code.result (entry_by_lem c.args.cells.now c.args.e c.form_first-a.result c.form_second-b.result c.form_code.result c.form_first-a.ensures c.form_second-b.ensures c.form_code.ensures) codes.form_closed c.in-17.is (c.items_ok-in-17.ensures ∙ ap (λ (b : ℕ). items_ok c.args.cells.now b c.form_first-a.result c.form_second-b.result) c.link_count.ensures)
 
 pub returns-in-20 : goal.returns-in-20
 unfolding entry_of entry_ok

@@ -1,21 +1,20 @@
-use Prim.Native.Nat.{zero-le}
 use mathlib.Core.Bool.{true}
+use mathlib.Core.Path.{refl}
 use native.Mathlib.Omega.{arith}
+use Rattle.std.specs.List.{range_with_len}
+use Rattle.std.proofs.Common.{rules}
+use Rattle.std.proofs.iter.Yields.{nat_range_steps}
+use Rattle.std.proofs.lemmas.Fn.{fold_over}
+use Rattle.std.proofs.lemmas.Iterator.{YieldsList-from_range}
 use Rattle.tables.specs.Layout.{node_count}
 use Rattle.tables.specs.WellFormed.{node_ok}
-use Rattle.tablecheck.proofs.Columns.{passed_none, passed_next, passed_end}
+use Rattle.tablecheck.proofs.Columns.{Passed, passed_none, passed_more, range_done}
 use Rattle.tablecheck.proofs.nodes_ok.Goals as goal
-
-pub loop-v-init : goal.loop-v-init
-loop-v-init c = (zero-le, passed_none true _)
-
-pub overflow_cast-v : goal.overflow_cast-v
-overflow_cast-v c = omega (arith, c.loop-v-test, c.node_count-n.ensures, (c.type_inv.cells 0).fits)
-
-pub loop-v-preserved : goal.loop-v-preserved
-loop-v-preserved c =
-    (omega arith, passed_next true (node_ok c.args.cells.now) c.loop-v.v c.loop-v.invariant.1 c.node_ok-ok.ensures)
 
 pub returns : goal.returns
 returns c =
-    passed_end true (node_ok c.args.cells.now) c.loop-v.v (node_count c.args.cells.now) (omega (arith, c.node_count-n.ensures)) c.loop-v.invariant.1
+    let cs = c.args.cells.now in
+    let n = node_count cs in
+    let p = node_ok cs in
+    range_done p n
+    (fold_over nat_range_steps (λ y. y) _ (Passed true p) _ (λ l r x s q e k. (passed_more true p l x e (search rules), search rules)) (record { start = 0; end = c.cell_at.result }) (range_with_len 0 n) true _ (YieldsList-from_range 0 c.cell_at.result n refl (omega (arith, c.cell_at.ensures))).runs (passed_none true p) c.fold.ensures.ran)

@@ -4,9 +4,9 @@ use Rattle.nodeset.proofs.Sets.{single}
 use Rattle.targets.specs.Classes.{sub_classes}
 use Rattle.targets.proofs.class_set.Goals as goal
 
-pub returns-in-Link : goal.returns-in-Link
-returns-in-Link c = rw c.in-Link.is c.under_class.ensures
+pub returns-in-Some : goal.returns-in-Some
+returns-in-Some c = rw c.in-Some.is c.under_class.ensures
 
-pub returns-in-Absent : goal.returns-in-Absent
+pub returns-in-None : goal.returns-in-None
 unfolding sub_classes
-returns-in-Absent c = rw c.in-Absent.is (c.with.ensures ∙ single c.args.c.0 16)
+returns-in-None c = rw c.in-None.is (c.with.ensures ∙ single c.args.c.0 16)

@@ -4,7 +4,7 @@ use Rattle.targets.proofs.Targets.{ends_found}
 use Rattle.targets.proofs.link_ends.Goals as goal
 
 pub add_table_ends-requires : goal.add_table_ends-requires
-add_table_ends-requires c = (c.requires, link-known c.args.cells.now c.args.link)
+add_table_ends-requires c = link-known c.args.tables.cells.now c.args.link
 
 pub returns : goal.returns
-returns c = let a = c.args in ends_found a.cells.now a.index.now c.requires a.link a.back a.set.words c.add_table_ends.ensures
+returns c = let a = c.args in ends_found a.tables.cells.now a.tables.index.now a.tables.made a.link a.back a.set.words c.add_table_ends.ensures

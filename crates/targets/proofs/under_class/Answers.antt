@@ -15,16 +15,19 @@ pub all_table_ends-requires : goal.all_table_ends-requires
 all_table_ends-requires c =
     let a = c.args in
     let pre = c.requires in
-    let room = empty-room (node_count a.cells.now) (few a.cells.now a.index.now pre.0) refl in
-    (pre.0, link-known a.cells.now a.link, room.0, room.1)
+    let room = empty-room (node_count a.tables.cells.now) (few a.tables.cells.now a.tables.index.now a.tables.made) refl in
+    (link-known a.tables.cells.now a.link, room.0, room.1)
+
+pub invariant_of-relation : goal.invariant_of-relation
+invariant_of-relation c =
+    let a = c.args in
+    let rows = c.all_table_ends.new.rows in
+    let room = search_room a.tables.cells.now a.tables.index.now a.tables.made a.link.0 (link-rows a.tables.cells.now a.link refl c.all_table_ends.ensures) in
+    let q = sym c.node_count.ensures in
+    record { few = subst (λ (n : ℕ). n ≤ max_nodes) q room.0; room = subst (λ (n : ℕ). 16 * n ≤ length rows) q room.1; within = subst (λ (n : ℕ). Within n rows) q room.2 }
 
 pub search-found-requires : goal.search-found-requires
-search-found-requires c =
-    let a = c.args in
-    let pre = c.requires in
-    let rows = c.all_table_ends.new.rows in
-    let room = search_room a.cells.now a.index.now pre.0 a.link.0 (link-rows a.cells.now a.link refl c.all_table_ends.ensures) in
-    subst (λ (n : ℕ). (a.c.0 < n) × (n ≤ max_nodes) × (16 * n ≤ length rows) × Within n rows) (sym c.node_count.ensures) (pre.1, room.0, room.1, room.2)
+search-found-requires c = subst (λ (n : ℕ). c.args.c.0 < n) (sym c.node_count.ensures) c.requires
 
 pub returns : goal.returns
 returns c =
@@ -32,4 +35,4 @@ returns c =
     let pre = c.requires in
     let rows = c.all_table_ends.new.rows in
     c.search-found.ensures.words_value ∙ ap (λ (n : ℕ). words_of (star (leads rows) n a.c.0) 16) c.node_count.ensures
-    ∙ under-found a.cells.now a.index.now pre.0 a.link.0 (link-rows a.cells.now a.link refl c.all_table_ends.ensures) a.c.0 pre.1
+    ∙ under-found a.tables.cells.now a.tables.index.now a.tables.made a.link.0 (link-rows a.tables.cells.now a.link refl c.all_table_ends.ensures) a.c.0 pre

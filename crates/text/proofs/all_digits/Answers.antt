@@ -1,28 +1,15 @@
-use mathlib.Core.Path.{◌≡◌, sym, ◌∙◌}
-use borrow.Author.Tests.{not-true, not-false}
-use borrow.Author.Rules.{rules}
-use native.Mathlib.Omega.{arith}
+use Prim.Native.Nat.{◌-◌}
+use mathlib.Core.Path.{◌∙◌}
+use lib.ListN.{take, drop}
+use Rattle.std.proofs.Common.{rules}
+use Rattle.std.proofs.lemmas.Iterator.{YieldsList-from_slice}
+use Rattle.std.proofs.lemmas.Iterator.Search.{all_from_yields_List}
 use Rattle.text.specs.Decimals.{digit}
-use Rattle.text.proofs.Parts.{all_none, all_more, all-fails}
+use Rattle.text.proofs.Parts.{part-all}
 use Rattle.text.proofs.all_digits.Goals as goal
-
-pub returns-then-not-is_digit : goal.returns-then-not-is_digit
-returns-then-not-is_digit c =
-    sym
-    (c.loop-i.invariant.2
-    ∙ all-fails digit c.args.book.now c.args.end c.loop-i.i c.loop-i-test.true c.requires.1 (sym c.is_digit.ensures ∙ not-true _ c.if-not-is_digit.true-raw))
-
-pub loop-i-preserved : goal.loop-i-preserved
-loop-i-preserved c = (
-  search rules,
-  search rules,
-  c.loop-i.invariant.2
-      ∙ all_more digit c.args.book.now c.args.end c.loop-i.i c.loop-i-test.true c.requires.1 (sym c.is_digit.ensures ∙ not-false _ c.if-not-is_digit.false-raw),
-)
 
 pub returns : goal.returns
 returns c =
-    let e : c.args.end ≡ c.loop-i.i = omega arith in
-    sym
-    (c.loop-i.invariant.2
-    ∙ rw (← e) (all_none digit c.args.book.now c.args.end))
+    let a = c.args in
+    all_from_yields_List digit _ _ c.all.result c.all.ensures.ran (YieldsList-from_slice (take (a.end - a.at) (drop a.at a.book.now)) c.iter.ensures.rest) (λ x b q k. search rules)
+    ∙ part-all digit a.book.now a.at a.end c.requires.0

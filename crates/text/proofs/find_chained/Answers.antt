@@ -7,10 +7,10 @@ use lib.ListN.{get_or}
 use lib.Seq.{slice}
 use Rattle.base.specs.Bytes.{eql}
 use Rattle.text.specs.Pool.{padded, place}
-use Rattle.text.specs.declared.Found.TheVariants.{At}
 use Rattle.text.proofs.Hashes.{Walk, walk_begins, walk_more, walk_ends}
 use Rattle.text.proofs.find_chained.Goals as goal
-use Rattle.text.proofs.find_chained.Goals.{After-cell-e-in-loop-e}
+use Rattle.text.proofs.find_chained.Goals.{After-cell-e-in-loop-e, then-same_name, else-same_name}
+use Rattle.std.specs.Prelude.{Option, Some}
 
 pub overflow_add-heads : goal.overflow_add-heads
 overflow_add-heads c =
@@ -27,7 +27,7 @@ loop-e-init c =
 more : (c : After-cell-e-in-loop-e)
     → let l = c.loop-e in
     let a = c.args in
-    (c.cell-e-in-loop-e.result ≤ l.e - 1) × Walk a.names.now a.base a.count a.slots (slice a.at a.end a.book.now) c.cell-e-in-loop-e.result (cond (eql (padded (slice a.at a.end a.book.now)) (place a.names.now a.base (l.e - 1))) (At (l.e - 1)) l.found)
+    (c.cell-e-in-loop-e.result ≤ l.e - 1) × Walk a.names.now a.base a.count a.slots (slice a.at a.end a.book.now) c.cell-e-in-loop-e.result (cond (eql (padded (slice a.at a.end a.book.now)) (place a.names.now a.base (l.e - 1))) (Some (l.e - 1)) l.found)
 more c =
     let l = c.loop-e in
     let a = c.args in
@@ -43,8 +43,12 @@ pub loop-e-preserved : goal.loop-e-preserved
 loop-e-preserved c =
     let l = c.loop-e in
     let a = c.args in
-    let e = c.found_if-found.ensures ∙ ap (λ (b : Bool). cond b (At (l.e - 1)) l.found) c.same_name.ensures in
-    subst (Walk a.names.now a.base a.count a.slots (slice a.at a.end a.book.now) c.cell-e-in-loop-e.result) (sym e) (more (goal.at.loop-e-preserved c).After-cell-e-in-loop-e).1
+    let m = (more (goal.at.loop-e-preserved c).After-cell-e-in-loop-e).1 in
+    let W : Option ℕ → Type 0 = λ f. Walk a.names.now a.base a.count a.slots (slice a.at a.end a.book.now) c.cell-e-in-loop-e.result f in
+    elim c.if-same_name.branch [
+      | then-same_name w ↦ subst W (ap (λ (b : Bool). cond b (Some (l.e - 1)) l.found) (sym w.if-same_name.ensures) ∙ sym w.found-is) m
+      | else-same_name w ↦ subst W (ap (λ (b : Bool). cond b (Some (l.e - 1)) l.found) (sym w.if-same_name.ensures) ∙ sym w.found-is) m
+    ]
 
 pub returns : goal.returns
 returns c =

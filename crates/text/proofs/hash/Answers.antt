@@ -1,35 +1,24 @@
-use Prim.Native.Nat.{ℕ, ◌+◌, ◌-◌, ◌*◌, ◌%◌}
-use mathlib.Core.Path.{◌≡◌, sym, ap, ◌∙◌}
-use native.Mathlib.Nat.{mod-lt}
+use Prim.Native.Nat.{ℕ}
+use mathlib.Core.Path.{ap, ◌∙◌}
 use native.Mathlib.Omega.{arith}
-use lib.ListN.{get_or}
-use lib.Seq.{slice}
+use Rattle.std.proofs.Common.{Iter}
+use Rattle.std.specs.declared.iter.Rev.{Rev}
 use Rattle.text.specs.Pool.{hash_of}
-use Rattle.text.proofs.Hashes.{hash_none, hash_more}
+use Rattle.text.proofs.Hashes.{hash_begins, hash_more, hash_done}
+use Rattle.text.proofs.Parts.{part_cut}
 use Rattle.text.proofs.hash.Goals as goal
 
-pub loop-i-init : goal.loop-i-init
-loop-i-init c = (c.requires.0, omega arith, omega arith, sym (hash_none c.args.book.now c.args.end))
+pub loop-b-init : goal.loop-b-init
+loop-b-init c = hash_begins (ap (λ (k : Rev (Iter ℕ)). k.iter.rest.now) c.into_iter-b-iterator.ensures.into_iter_gives ∙ ap (λ (k : Iter ℕ). k.rest.now) c.rev-b-items.ensures.source ∙ c.iter.ensures.rest)
 
-pub overflow_cast-h : goal.overflow_cast-h
-overflow_cast-h c =
-    let b = (c.type_inv.book (c.loop-i.i - 1)).fits in
-    omega arith
+pub overflow_mul-h : goal.overflow_mul-h
+overflow_mul-h c = let h = c.loop-b.invariant.below in omega arith
 
 pub overflow_add-h : goal.overflow_add-h
-overflow_add-h c =
-    let b = (c.type_inv.book (c.loop-i.i - 1)).fits in
-    omega arith
+overflow_add-h c = let h = c.loop-b.invariant.below in omega arith
 
-pub loop-i-preserved : goal.loop-i-preserved
-loop-i-preserved c =
-    let l = c.loop-i in
-    let i = l.i - 1 in
-    let z : i + 1 ≡ l.i = omega (arith, c.loop-i-test.true) in
-    (omega (arith, c.loop-i-test.true), omega arith, mod-lt (get_or c.args.book.now i 0 + 131 * l.h) (omega arith), ap (λ (h : ℕ). (get_or c.args.book.now i 0 + 131 * h) % 65536) (l.invariant.3 ∙ ap (λ (j : ℕ). hash_of (slice j c.args.end c.args.book.now)) (sym z)) ∙ sym (hash_more c.args.book.now c.args.end i (omega arith) c.requires.1))
+pub loop-b-preserved : goal.loop-b-preserved
+loop-b-preserved c = hash_more c.in-Some.b.now c.loop-b.invariant c.in-Some.ensures.steps
 
 pub returns : goal.returns
-returns c =
-    let s = c.args in
-    let e : c.loop-i.i ≡ s.at = omega (arith, c.loop-i-test.false) in
-    c.loop-i.invariant.3 ∙ ap (λ (i : ℕ). hash_of (slice i s.end s.book.now)) e
+returns c = hash_done c.loop-b.b-iterator.iter.rest.now c.loop-b.invariant c.in-None.ensures.steps.0 ∙ ap hash_of (part_cut c.args.book.now c.args.at c.args.end c.requires.0)

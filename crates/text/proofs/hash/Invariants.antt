@@ -1,11 +1,7 @@
-use Prim.Native.Nat.{◌-◌, ◌<◌, ◌≤◌}
-use mathlib.Core.Path.{◌≡◌}
-use lib.Seq.{slice}
-use Rattle.text.specs.Pool.{hash_of}
+use Prim.Native.Nat.{◌-◌}
+use lib.ListN.{take, drop}
+use Rattle.text.proofs.Hashes.{Passed}
 use Rattle.text.proofs.hash.Given as goal
 
-abbrev pub invariant-loop-i : goal.invariant-loop-i
-invariant-loop-i l = (l.at ≤ l.i) × (l.i ≤ l.end) × (l.h < 65536) × (l.h ≡ hash_of (slice l.i l.end l.book))
-
-abbrev pub decreases-loop-i : goal.decreases-loop-i
-decreases-loop-i l = l.i - l.at
+abbrev pub invariant-loop-b : goal.invariant-loop-b
+invariant-loop-b l = Passed (take (l.end - l.at) (drop l.at l.book)) l.b-iterator.iter.rest.now l.h

@@ -1,10 +1,12 @@
-use mathlib.Core.Path.{◌≡◌, sym, ◌∙◌}
-use borrow.Author.Tests.{not-true, not-false}
-use borrow.Author.Rules.{rules}
-use native.Mathlib.Omega.{arith}
+use Prim.Native.Nat.{◌-◌}
+use mathlib.Core.Path.{sym, ◌∙◌}
+use lib.ListN.{take, drop}
+use Rattle.std.proofs.Common.{rules}
+use Rattle.std.proofs.lemmas.Iterator.{YieldsList-from_slice}
+use Rattle.std.proofs.lemmas.Iterator.Search.{all_from_yields_List}
 use Rattle.text.specs.Items.{name_byte}
 use Rattle.text.proofs.Items.{is_name-none, is_name-long, is_name-all}
-use Rattle.text.proofs.Parts.{all_none, all_more, all-fails}
+use Rattle.text.proofs.Parts.{part-all}
 use Rattle.text.proofs.is_name.Goals as goal
 
 pub returns-then-end-at : goal.returns-then-end-at
@@ -15,25 +17,9 @@ pub returns-then-end-at-gt-MAX_NAME : goal.returns-then-end-at-gt-MAX_NAME
 returns-then-end-at-gt-MAX_NAME c =
     sym (is_name-long c.args.book.now c.args.at c.args.end c.requires.1 c.if-end-at-gt-MAX_NAME.true)
 
-pub returns-then-not-is_name_byte : goal.returns-then-not-is_name_byte
-returns-then-not-is_name_byte c =
-    sym
-    (is_name-all c.args.book.now c.args.at c.args.end c.requires.1 c.requires.0 c.if-end-at.false c.if-end-at-gt-MAX_NAME.false
-    ∙ c.loop-i.invariant.2
-    ∙ all-fails name_byte c.args.book.now c.args.end c.loop-i.i c.loop-i-test.true c.requires.1 (sym c.is_name_byte.ensures ∙ not-true _ c.if-not-is_name_byte.true-raw))
-
-pub loop-i-preserved : goal.loop-i-preserved
-loop-i-preserved c = (
-  search rules,
-  search rules,
-  c.loop-i.invariant.2
-      ∙ all_more name_byte c.args.book.now c.args.end c.loop-i.i c.loop-i-test.true c.requires.1 (sym c.is_name_byte.ensures ∙ not-false _ c.if-not-is_name_byte.false-raw),
-)
-
 pub returns : goal.returns
 returns c =
-    let e : c.args.end ≡ c.loop-i.i = omega arith in
-    sym
-    (is_name-all c.args.book.now c.args.at c.args.end c.requires.1 c.requires.0 c.if-end-at.false c.if-end-at-gt-MAX_NAME.false
-    ∙ c.loop-i.invariant.2
-    ∙ rw (← e) (all_none name_byte c.args.book.now c.args.end))
+    let a = c.args in
+    all_from_yields_List name_byte _ _ c.all.result c.all.ensures.ran (YieldsList-from_slice (take (a.end - a.at) (drop a.at a.book.now)) c.iter.ensures.rest) (λ x b q k. search rules)
+    ∙ part-all name_byte a.book.now a.at a.end c.requires.0
+    ∙ sym (is_name-all a.book.now a.at a.end c.requires.1 c.requires.0 c.if-end-at.false c.if-end-at-gt-MAX_NAME.false)

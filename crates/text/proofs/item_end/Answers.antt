@@ -1,18 +1,16 @@
-use mathlib.Core.Path.{refl, sym, ◌∙◌}
-use Rattle.text.proofs.Items.{item_end_out, item_end-edge, item_end-step}
+use Prim.Native.Nat.{◌-◌}
+use lib.ListN.{length, take, drop}
+use Rattle.std.proofs.Common.{rules}
+use Rattle.std.proofs.lemmas.Iterator.{YieldsList-from_slice}
+use Rattle.std.proofs.lemmas.Iterator.Search.{position_from_yields_List}
+use Rattle.text.specs.Items.{edge}
+use Rattle.text.proofs.Items.{item-found}
 use Rattle.text.proofs.item_end.Goals as goal
-
-pub loop-i-init : goal.loop-i-init
-loop-i-init c = refl
-
-pub returns-then-is_edge : goal.returns-then-is_edge
-returns-then-is_edge c =
-    sym (c.loop-i.invariant ∙ item_end-edge c.args.book.now c.loop-i.i c.loop-i-test.true (sym c.is_edge.ensures ∙ c.if-is_edge.true))
-
-pub loop-i-preserved : goal.loop-i-preserved
-loop-i-preserved c =
-    c.loop-i.invariant ∙ item_end-step c.args.book.now c.loop-i.i c.loop-i-test.true (sym c.is_edge.ensures ∙ c.if-is_edge.false)
 
 pub returns : goal.returns
 returns c =
-    sym (c.loop-i.invariant ∙ item_end_out c.args.book.now c.loop-i.i c.loop-i-test.false)
+    let s = c.args.book.now in
+    let m = c.min.result in
+    item-found s c.args.at m c.min.ensures
+    (position_from_yields_List edge _ _ c.position.result c.position.ensures.ran (YieldsList-from_slice (take (length s - m) (drop m s)) c.iter.ensures.rest) (λ x b q k. search rules))
+    c.unwrap_or.ensures

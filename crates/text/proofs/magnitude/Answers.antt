@@ -1,57 +1,50 @@
-use Prim.Native.Nat.{◌+◌, ◌≤◌}
-use mathlib.Core.Path.{◌≡◌, refl, sym, ◌∙◌}
+use Prim.Native.Nat.{ℕ, ◌-◌}
+use mathlib.Core.Path.{◌≡◌, refl, sym, ap, ◌∙◌}
 use mathlib.Core.Bool.{true}
-use borrow.Author.Rules.{rules}
-use borrow.Author.Tests.{not-true, not-false}
+use mathlib.Core.List.{List}
 use native.Mathlib.Omega.{arith}
-use lib.ListN.{get_or}
+use lib.ListN.{take, drop}
 use lib.Seq.{slice}
-use Rattle.base.specs.Lists.{allb}
-use Rattle.text.specs.Decimals.{digit, is_mag}
+use Rattle.text.specs.Decimals.{is_mag, mag_of}
 use Rattle.text.proofs.Decimals.{digits-first, value-step, value_none, value-over, mag_digits, mag_not, mag_over, mag_is}
+use Rattle.text.proofs.Parts.{part_cut}
 use Rattle.text.proofs.magnitude.Goals as goal
-use Rattle.text.proofs.magnitude.Goals.{After-shared_slice_known-in-loop-i-1}
 
 pub returns-then-not-is_mag : goal.returns-then-not-is_mag
 returns-then-not-is_mag c =
-    let s = c.args in
-    sym (mag_not (slice s.at s.end s.book.now) (sym c.is_mag.ensures ∙ not-true _ c.if-not-is_mag.true-raw))
+    let a = c.args in
+    sym (mag_not (slice a.at a.end a.book.now) (sym c.is_mag.ensures ∙ c.if-not-is_mag.true))
 
-pub loop-i-init : goal.loop-i-init
-loop-i-init c =
-    let s = c.args in
-    let m : is_mag (slice s.at s.end s.book.now) ≡ true = sym c.is_mag.ensures ∙ not-false _ c.if-not-is_mag.false-raw in
-    (search rules, search rules, search rules, mag_digits (slice s.at s.end s.book.now) m, refl, m)
+pub loop-b-init : goal.loop-b-init
+loop-b-init c =
+    let a = c.args in
+    let w : List ℕ = take (a.end - a.at) (drop a.at a.book.now) in
+    let m : is_mag w ≡ true = ap is_mag (part_cut a.book.now a.at a.end c.requires.0) ∙ sym c.is_mag.ensures ∙ c.if-not-is_mag.false in
+    (omega arith, mag_digits w m, refl, m)
 
 pub returns-then-v-ge1000000000000000000 : goal.returns-then-v-ge1000000000000000000
 returns-then-v-ge1000000000000000000 c =
-    sym (mag_over (slice c.args.at c.args.end c.args.book.now) c.loop-i.invariant.5 (rw c.loop-i.invariant.4 (value-over c.args.book.now c.args.end c.loop-i.i c.loop-i-test.true c.requires.1 c.loop-i.v c.if-v-ge1000000000000000000.true)))
-
--- the byte read is a digit, and digits follow
-abbrev Here : Type 0
-Here = After-shared_slice_known-in-loop-i-1
-
-read_digit : (c : Here)
-    → let l = c.loop-i in
-    let s = c.args in
-    (48 ≤ get_or s.book.now l.i 0) × (get_or s.book.now l.i 0 ≤ 57) × (allb digit (slice (l.i + 1) s.end s.book.now) ≡ true)
-read_digit c = digits-first c.args.book.now c.args.end c.loop-i.i c.loop-i-test.true c.requires.1 c.loop-i.invariant.3
-
-pub overflow_cast-v : goal.overflow_cast-v
-overflow_cast-v c = let d = read_digit (goal.at.overflow_cast-v c).After-shared_slice_known-in-loop-i-1 in omega arith
+    let a = c.args in
+    let l = c.loop-b in
+    let w : List ℕ = take (a.end - a.at) (drop a.at a.book.now) in
+    sym (ap mag_of (sym (part_cut a.book.now a.at a.end c.requires.0)) ∙ mag_over w l.invariant.3 (rw l.invariant.2 (value-over w l.b-index c.loop-b-test.true l.v c.if-v-ge1000000000000000000.true)))
 
 pub overflow_sub-v : goal.overflow_sub-v
-overflow_sub-v c = let d = read_digit (goal.at.overflow_sub-v c).After-shared_slice_known-in-loop-i-1 in omega arith
+overflow_sub-v c =
+    let a = c.args in
+    (digits-first (take (a.end - a.at) (drop a.at a.book.now)) c.loop-b.b-index c.loop-b-test.true c.loop-b.invariant.1).0
 
-pub overflow_add-v : goal.overflow_add-v
-overflow_add-v c = let d = read_digit (goal.at.overflow_add-v c).After-shared_slice_known-in-loop-i-1 in omega arith
-
-pub loop-i-preserved : goal.loop-i-preserved
-loop-i-preserved c =
-    let d = read_digit (goal.at.loop-i-preserved c).After-shared_slice_known-in-loop-i-1 in
-    (omega arith, omega arith, omega arith, d.2, c.loop-i.invariant.4 ∙ value-step c.args.book.now c.args.end c.loop-i.i c.loop-i-test.true c.requires.1 c.loop-i.v, c.loop-i.invariant.5)
+pub loop-b-preserved : goal.loop-b-preserved
+loop-b-preserved c =
+    let a = c.args in
+    let l = c.loop-b in
+    let w : List ℕ = take (a.end - a.at) (drop a.at a.book.now) in
+    let d = digits-first w l.b-index c.loop-b-test.true l.invariant.1 in
+    (omega arith, d.2, l.invariant.2 ∙ value-step w l.b-index c.loop-b-test.true l.v, l.invariant.3)
 
 pub returns : goal.returns
 returns c =
-    let e : c.args.end ≡ c.loop-i.i = omega arith in
-    sym (mag_is (slice c.args.at c.args.end c.args.book.now) c.loop-i.invariant.5 c.loop-i.v (c.loop-i.invariant.4 ∙ rw (← e) (value_none c.loop-i.v c.args.book.now c.args.end)) c.loop-i.invariant.2)
+    let a = c.args in
+    let l = c.loop-b in
+    let w : List ℕ = take (a.end - a.at) (drop a.at a.book.now) in
+    sym (ap mag_of (sym (part_cut a.book.now a.at a.end c.requires.0)) ∙ mag_is w l.invariant.3 l.v (l.invariant.2 ∙ value_none l.v w l.b-index (omega (arith, c.loop-b-test.false))) l.invariant.0)

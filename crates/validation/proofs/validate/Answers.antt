@@ -17,37 +17,37 @@ use Rattle.validation.proofs.Whole.{room, Meets, too_short, turned_down, taken, 
 use Rattle.validation.proofs.validate.Goals as goal
 
 pub returns-then-not-long_enough : goal.returns-then-not-long_enough
-returns-then-not-long_enough c = let a = c.args in let r = too_short a.book.now (lent a.names.now a.cells.now a.values.now a.plan.now a.work.now a.lists.now a.lengths.now) (sym c.long_enough.ensures ∙ not-true c.long_enough.result c.if-not-long_enough.true-raw) in record { demand3 = r.0; result_value = r.1.0; new_lent = r.1.1 }
+returns-then-not-long_enough c = let a = c.args in let r = too_short a.book.now (lent a.names.now a.cells.now a.values.now a.plan.now a.work.now a.lists.now a.lengths.now) (sym c.long_enough.ensures ∙ c.if-not-long_enough.true) in record { demand3 = r.0; result_value = r.1.0; new_lent = r.1.1 }
 
 pub run_tables-requires : goal.run_tables-requires
 run_tables-requires c =
     let a = c.args in
     let s : List ℕ = a.book.now in
     let l : Lent = (lent a.names.now a.cells.now a.values.now a.plan.now a.work.now a.lists.now a.lengths.now) in
-    let e : validate_long l ≡ true = (sym c.long_enough.ensures ∙ not-false c.long_enough.result c.if-not-long_enough.false-raw) in
-    let t = accepted s l e c.read.result c.in-Accepted.field-0 c.read.ensures.result_value c.in-Accepted.is c.read.ensures.new_names c.read.ensures.new_cells c.read.ensures.new_values in
+    let e : validate_long l ≡ true = (sym c.long_enough.ensures ∙ c.if-not-long_enough.false) in
+    let t = accepted s l e c.read.result c.in-Ok.field-0 c.read.ensures.result_value c.in-Ok.is c.read.ensures.new_names c.read.ensures.new_cells c.read.ensures.new_values in
     let m = room l e in
     (long_kept a.names.now c.read.new.names a.cells.now c.read.new.cells a.values.now c.read.new.values m.tables c.read.auto.names c.read.auto.cells c.read.auto.values, well_formed_of t, m.plan, m.work, m.lists, m.lengths)
 
-pub returns-in-Refused : goal.returns-in-Refused
-returns-in-Refused c =
+pub returns-in-Err : goal.returns-in-Err
+returns-in-Err c =
     let a = c.args in
     let s : List ℕ = a.book.now in
     let l : Lent = (lent a.names.now a.cells.now a.values.now a.plan.now a.work.now a.lists.now a.lengths.now) in
-    let e : validate_long l ≡ true = (sym c.long_enough.ensures ∙ not-false c.long_enough.result c.if-not-long_enough.false-raw) in
+    let e : validate_long l ≡ true = (sym c.long_enough.ensures ∙ c.if-not-long_enough.false) in
     let t : long_enough a.names.now a.cells.now a.values.now ≡ true = (room l e).tables in
-    let q : reading s ≡ refusal (code_of c.in-Refused.r) (line_of c.in-Refused.r) = was_refused s a.names.now a.cells.now a.values.now t c.read.result c.in-Refused.r c.read.ensures.result_value c.in-Refused.is in
-    let o : Answer Book = refusal (code_of c.in-Refused.r) (line_of c.in-Refused.r) in
-    let r = subst (Meets s l (refusal (code_of c.in-Refused.r) (line_of c.in-Refused.r))) (sym (lent_same (c.read.ensures.new_names ∙ names-left s a.names.now a.cells.now a.values.now t o q) (c.read.ensures.new_cells ∙ cells_left_lem s a.names.now a.cells.now a.values.now t o q) (c.read.ensures.new_values ∙ values-left s a.names.now a.cells.now a.values.now t o q) refl refl refl refl)) (turned_down s l e (code_of c.in-Refused.r) (line_of c.in-Refused.r) q) in
+    let q : reading s ≡ refusal (code_of c.in-Err.r) (line_of c.in-Err.r) = was_refused s a.names.now a.cells.now a.values.now t c.read.result c.in-Err.r c.read.ensures.result_value c.in-Err.is in
+    let o : Answer Book = refusal (code_of c.in-Err.r) (line_of c.in-Err.r) in
+    let r = subst (Meets s l (refusal (code_of c.in-Err.r) (line_of c.in-Err.r))) (sym (lent_same (c.read.ensures.new_names ∙ names-left s a.names.now a.cells.now a.values.now t o q) (c.read.ensures.new_cells ∙ cells_left_lem s a.names.now a.cells.now a.values.now t o q) (c.read.ensures.new_values ∙ values-left s a.names.now a.cells.now a.values.now t o q) refl refl refl refl)) (turned_down s l e (code_of c.in-Err.r) (line_of c.in-Err.r) q) in
     record { demand3 = r.0; result_value = r.1.0; new_lent = r.1.1 }
 
-pub returns-in-Accepted : goal.returns-in-Accepted
-returns-in-Accepted c =
+pub returns-in-Ok : goal.returns-in-Ok
+returns-in-Ok c =
     let a = c.args in
     let s : List ℕ = a.book.now in
     let l : Lent = (lent a.names.now a.cells.now a.values.now a.plan.now a.work.now a.lists.now a.lengths.now) in
-    let e : validate_long l ≡ true = (sym c.long_enough.ensures ∙ not-false c.long_enough.result c.if-not-long_enough.false-raw) in
-    let t = accepted s l e c.read.result c.in-Accepted.field-0 c.read.ensures.result_value c.in-Accepted.is c.read.ensures.new_names c.read.ensures.new_cells c.read.ensures.new_values in
+    let e : validate_long l ≡ true = (sym c.long_enough.ensures ∙ c.if-not-long_enough.false) in
+    let t = accepted s l e c.read.result c.in-Ok.field-0 c.read.ensures.result_value c.in-Ok.is c.read.ensures.new_names c.read.ensures.new_cells c.read.ensures.new_values in
     let E = cells_of_lem t in
     let F = values_of_lem t in
     let G = sub_of_lem t in

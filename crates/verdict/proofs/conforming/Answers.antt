@@ -6,10 +6,7 @@ use Rattle.verdict.proofs.Settling.{one_wanted}
 use Rattle.verdict.proofs.conforming.Goals as goal
 
 pub conforming_among-set-requires : goal.conforming_among-set-requires
-conforming_among-set-requires c =
-    let p = c.requires in
-    let made = c.index_table.ensures in
-    (record { room = p.0; ok = p.1; indexed = made.0; subjects = made.1 }, p.2)
+conforming_among-set-requires c = c.requires.2
 
 pub returns : goal.returns
 returns c =

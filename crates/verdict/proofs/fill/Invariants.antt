@@ -1,11 +1,10 @@
 use mathlib.Core.Path.{◌≡◌}
-use Prim.Native.Nat.{◌-◌}
 use lib.ListN.{length}
+use Rattle.tables.specs.Layout.{node_count}
 use Rattle.verdict.proofs.Settling.{Filling}
 use Rattle.verdict.proofs.fill.Given as goal
 
 abbrev pub invariant-loop-x : goal.invariant-loop-x
-invariant-loop-x l = (16 ≡ length l.words) × Filling l.cells l.values l.initial.memo l.memo l.e l.words l.n l.x
-
-abbrev pub decreases-loop-x : goal.decreases-loop-x
-decreases-loop-x l = l.n - l.x
+invariant-loop-x l =
+    let m = l.initial.memo in
+    (l.x-iterator.n ≡ node_count m.tables.cells.now) × (l.x-iterator.words.now ≡ l.fn.nodes.words) × (l.memo.tables ≡ m.tables) × Filling m.tables.cells.now m.tables.values.now m.words l.memo.words l.e l.fn.nodes.words (node_count m.tables.cells.now) l.x-iterator.next

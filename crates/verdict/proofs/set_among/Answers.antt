@@ -1,50 +1,68 @@
--- `set_among` meets its contract. The invariant: the set has the nodes before x that conform.
-use Prim.Native.Nat.{ℕ, ◌<◌}
+-- `set_among` meets its contract. The invariant: the set has the nodes before the next that conform.
+use Prim.Native.Nat.{ℕ, ◌+◌, ◌<◌}
 use mathlib.Core.Bool.{Bool, ◌&&◌}
-use mathlib.Core.Path.{ap₂, ◌∙◌}
+use mathlib.Core.List.{List}
+use mathlib.Core.Path.{refl, sym, ap, ap₂, ◌∙◌, subst}
 use native.Mathlib.Omega.{arith}
 use lib.Dec.{ltb}
-use Rattle.base.proofs.Least.{next-after}
 use borrow.Author.Tests.{lt-ltb}
+use Rattle.base.specs.Least.{next_from}
 use Rattle.nodeset.specs.Words.{has}
+use Rattle.nodeset.specs.declared.Iter.{Iter}
 use Rattle.nodeset.proofs.Sets.{has_of}
 use Rattle.model.specs.Shapes.{conforms}
 use Rattle.tables.specs.Layout.{node_count}
 use Rattle.tables.specs.Decode.{graph_at, shape_at}
-use Rattle.conditions.proofs.Members.{gathered_none, gathered-more, gathered-length, gathered-all}
+use Rattle.conditions.proofs.Members.{Gathered, gathered_none, gathered-more, gathered-length, gathered-all}
 use Rattle.entries.proofs.Codes.{nodes_le}
 use Rattle.verdict.proofs.set_among.Goals as goal
+use Rattle.verdict.proofs.set_among.Goals.{In-Some}
 
 pub loop-x-init : goal.loop-x-init
-loop-x-init c = let a = c.args in (c.node_count-n.ensures, gathered_none (has a.nodes.words) (conforms (graph_at a.cells.now a.values.now) (shape_at a.cells.now a.values.now a.e)) c.node_count-n.result c.next_member-x.ensures)
+loop-x-init c =
+    let t = c.args.memo.now.tables in
+    let made = c.below-x-items.ensures in
+    let same = c.into_iter-x-iterator.ensures.into_iter_gives in (
+      ap (λ (s : Iter). s.n) same ∙ made.bound ∙ c.node_count-n.ensures,
+      ap (λ (s : Iter). s.words.now) same ∙ made.set,
+      gathered_none (has c.args.nodes.words) (conforms (graph_at t.cells.now t.values.now) (shape_at t.cells.now t.values.now c.args.e)) (node_count t.cells.now) (ap (λ (s : Iter). s.next) same ∙ made.first ∙ ap (next_from (has c.args.nodes.words) 0) c.node_count-n.ensures),
+    )
+
+-- what has been gathered where x comes next
+gathered : (c : In-Some) → let t = c.args.memo.now.tables in Gathered (has c.args.nodes.words) (conforms (graph_at t.cells.now t.values.now) (shape_at t.cells.now t.values.now c.args.e)) (node_count t.cells.now) c.loop-x.words c.in-Some.x
+gathered c =
+    let t = c.args.memo.now.tables in
+    subst (λ (u : ℕ). Gathered (has c.args.nodes.words) (conforms (graph_at t.cells.now t.values.now) (shape_at t.cells.now t.values.now c.args.e)) (node_count t.cells.now) c.loop-x.words u) (sym c.in-Some.ensures.steps.0) c.loop-x.invariant.2
+
+low : (c : In-Some) → c.in-Some.x < node_count c.args.memo.now.tables.cells.now
+low c = omega (arith, c.in-Some.ensures.steps.1, c.loop-x.invariant.0)
 
 pub overflow_cast-v : goal.overflow_cast-v
-overflow_cast-v c = omega (arith, c.loop-x-test, c.loop-x.invariant.0, nodes_le c.args.cells.now c.requires.0.tables)
+overflow_cast-v c = let t = c.args.memo.now.tables in omega (arith, c.in-Some.ensures.steps.1, c.loop-x.invariant.0, nodes_le t.cells.now t.made)
 
-pub entry_holds-yes-requires : goal.entry_holds-yes-requires
-entry_holds-yes-requires c =
-    let pre = c.requires in
-    let t = c.loop-x in
-    let l : t.x < node_count c.args.cells.now = omega (arith, c.loop-x-test, t.invariant.0) in
-    record { ready = pre.0; node = l; parts = pre.1 t.x l (t.invariant.1.hit (omega (arith, c.loop-x-test))) }
+pub entry_holds-requires : goal.entry_holds-requires
+entry_holds-requires c =
+    let i = (goal.at.entry_holds-requires c).In-Some in
+    (c.requires.0, low i, c.requires.1 c.in-Some.x (low i) ((gathered i).hit (low i)))
 
 pub slice_bounds-insert_if-end : goal.slice_bounds-insert_if-end
-slice_bounds-insert_if-end c = let a = c.args in gathered-length (has a.nodes.words) (conforms (graph_at a.cells.now a.values.now) (shape_at a.cells.now a.values.now a.e)) c.node_count-n.result c.loop-x.invariant.1
-
-pub loop-x-smaller : goal.loop-x-smaller
-loop-x-smaller c = omega (arith, next-after (has c.args.nodes.words) {x = c.loop-x.x} (omega (arith, c.loop-x-test)) c.next_member-x-in-loop-x.ensures, c.loop-x-test)
+slice_bounds-insert_if-end c =
+    let t = c.args.memo.now.tables in
+    gathered-length (has c.args.nodes.words) (conforms (graph_at t.cells.now t.values.now) (shape_at t.cells.now t.values.now c.args.e)) (node_count t.cells.now) c.loop-x.invariant.2
 
 pub loop-x-preserved : goal.loop-x-preserved
 loop-x-preserved c =
-    let a = c.args in
-    let t = c.loop-x in
-    (t.invariant.0, gathered-more (has a.nodes.words) (conforms (graph_at a.cells.now a.values.now) (shape_at a.cells.now a.values.now a.e)) c.node_count-n.result t.invariant.1 (omega (arith, c.loop-x-test)) c.entry_holds-yes.ensures c.next_member-x-in-loop-x.ensures c.insert_if.ensures)
+    let i = (goal.at.loop-x-preserved c).In-Some in
+    let t = c.args.memo.now.tables in
+    let (same, ends, all) = c.loop-x.invariant in
+    let step = c.in-Some.ensures.steps in
+    let next = step.2 ∙ ap₂ (λ (ws : List ℕ) (m : ℕ). next_from (has ws) (c.in-Some.x + 1) m) ends same in
+    (step.4 ∙ same, step.3 ∙ ends, gathered-more (has c.args.nodes.words) (conforms (graph_at t.cells.now t.values.now) (shape_at t.cells.now t.values.now c.args.e)) (node_count t.cells.now) (gathered i) (low i) c.entry_holds.ensures next c.insert_if.ensures)
 
 pub returns : goal.returns
 returns c v l h =
-    let a = c.args in
-    let t = c.loop-x in
-    let n = c.node_count-n.result in
-    let p : ℕ → Bool = (conforms (graph_at a.cells.now a.values.now) (shape_at a.cells.now a.values.now a.e)) in
-    has_of (λ m. ltb m n && (has a.nodes.words m && p m)) 16 (gathered-all (has a.nodes.words) p n t.invariant.1 (omega (arith, c.loop-x-test))) v (omega (arith, nodes_le a.cells.now c.requires.0.tables))
-    ∙ ap₂ (λ (s t : Bool). s && (t && p v)) (lt-ltb v n (omega (arith, t.invariant.0))) h
+    let t = c.args.memo.now.tables in
+    let n = node_count t.cells.now in
+    let p : ℕ → Bool = conforms (graph_at t.cells.now t.values.now) (shape_at t.cells.now t.values.now c.args.e) in
+    has_of (λ m. ltb m n && (has c.args.nodes.words m && p m)) 16 (gathered-all (has c.args.nodes.words) p n c.loop-x.invariant.2 (omega (arith, c.in-None.ensures.steps, c.loop-x.invariant.0))) v (omega (arith, nodes_le t.cells.now t.made))
+    ∙ ap₂ (λ (s t : Bool). s && (t && p v)) (lt-ltb v n l) h

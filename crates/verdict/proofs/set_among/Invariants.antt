@@ -1,4 +1,3 @@
-use Prim.Native.Nat.{◌-◌}
 use mathlib.Core.Path.{◌≡◌}
 use Rattle.nodeset.specs.Words.{has}
 use Rattle.model.specs.Shapes.{conforms}
@@ -8,7 +7,6 @@ use Rattle.conditions.proofs.Members.{Gathered}
 use Rattle.verdict.proofs.set_among.Given as goal
 
 abbrev pub invariant-loop-x : goal.invariant-loop-x
-invariant-loop-x l = (l.n ≡ node_count l.cells) × Gathered (has l.among) (conforms (graph_at l.cells l.values) (shape_at l.cells l.values l.e)) l.n l.words l.x
-
-abbrev pub decreases-loop-x : goal.decreases-loop-x
-decreases-loop-x l = l.n - l.x
+invariant-loop-x l =
+    let t = l.memo.tables in
+    (l.x-iterator.n ≡ node_count t.cells.now) × (l.x-iterator.words.now ≡ l.fn.nodes.words) × Gathered (has l.fn.nodes.words) (conforms (graph_at t.cells.now t.values.now) (shape_at t.cells.now t.values.now l.e)) (node_count t.cells.now) l.words l.x-iterator.next

@@ -12,7 +12,6 @@ use Rattle.paths.specs.Ends.{end_known}
 use Rattle.entries.proofs.Codes.{count_path, all_path, less_path, lesseq_path, lang_path, set-end}
 use Rattle.entries.proofs.Ends.{end-ok}
 use Rattle.stepsets.specs.Conditions.{condition_ok}
-use Rattle.stepsets.proofs.Rows.{held_none}
 use Rattle.verdict.specs.Memo.{Ready}
 use Rattle.verdict.proofs.Parts.{first_by_lem}
 use Rattle.verdict.proofs.Holds.{code_le}
@@ -22,9 +21,9 @@ use Rattle.verdict.proofs.set_of_rows.Goals.{After-form_code, In_default}
 
 -- ---- what is known before the match: the tables and the operands
 abbrev cells : After-form_code → List ℕ
-cells m = m.args.cells.now
+cells m = m.args.rows.now.tables.cells.now
 
-ready : (m : After-form_code) → Ready (cells m) m.args.index.now m.args.values.now m.args.memo.now m.args.e
+ready : (m : After-form_code) → Ready (cells m) m.args.rows.now.tables.index.now m.args.rows.now.tables.values.now m.args.memo.now m.args.e
 ready m = m.requires.0
 
 first : (m : After-form_code) → m.wide-p.result ≡ form_first_at (cells m) m.args.e
@@ -72,31 +71,31 @@ lang c =
 
 pub path_set-requires : goal.path_set-requires
 unfolding condition_ok
-path_set-requires c = ((ready (goal.at.path_set-requires c).After-form_code).tables, entry (goal.at.path_set-requires c).After-form_code (count_path (cells (goal.at.path_set-requires c).After-form_code) (ready (goal.at.path_set-requires c).After-form_code).tables [] c.args.e (ready (goal.at.path_set-requires c).After-form_code).entry (sym c.form_code.ensures ∙ c.in-13.is)), part_room (ready (goal.at.path_set-requires c).After-form_code) 13 (sym c.form_code.ensures ∙ c.in-13.is) refl (first_by_lem (cells (goal.at.path_set-requires c).After-form_code) c.args.e 13 (sym c.form_code.ensures ∙ c.in-13.is)) (half (goal.at.path_set-requires c).After-form_code), refl, held_none (cells (goal.at.path_set-requires c).After-form_code) c.requires.3)
+path_set-requires c = (omega arith, (entry (goal.at.path_set-requires c).After-form_code (count_path (cells (goal.at.path_set-requires c).After-form_code) (ready (goal.at.path_set-requires c).After-form_code).tables [] c.args.e (ready (goal.at.path_set-requires c).After-form_code).entry (sym c.form_code.ensures ∙ c.in-13.is)), part_room (ready (goal.at.path_set-requires c).After-form_code) 13 (sym c.form_code.ensures ∙ c.in-13.is) refl (first_by_lem (cells (goal.at.path_set-requires c).After-form_code) c.args.e 13 (sym c.form_code.ensures ∙ c.in-13.is)) (half (goal.at.path_set-requires c).After-form_code), refl))
 
 pub path_set-requires-in-14 : goal.path_set-requires-in-14
 unfolding condition_ok
-path_set-requires-in-14 c = ((ready (goal.at.path_set-requires-in-14 c).After-form_code).tables, entry (goal.at.path_set-requires-in-14 c).After-form_code (all_path (cells (goal.at.path_set-requires-in-14 c).After-form_code) (ready (goal.at.path_set-requires-in-14 c).After-form_code).tables [] c.args.e (ready (goal.at.path_set-requires-in-14 c).After-form_code).entry (sym c.form_code.ensures ∙ c.in-14.is)), part_room (ready (goal.at.path_set-requires-in-14 c).After-form_code) 14 (sym c.form_code.ensures ∙ c.in-14.is) refl (first_by_lem (cells (goal.at.path_set-requires-in-14 c).After-form_code) c.args.e 14 (sym c.form_code.ensures ∙ c.in-14.is)) (half (goal.at.path_set-requires-in-14 c).After-form_code), refl, held_none (cells (goal.at.path_set-requires-in-14 c).After-form_code) c.requires.3)
+path_set-requires-in-14 c = (omega arith, (entry (goal.at.path_set-requires-in-14 c).After-form_code (all_path (cells (goal.at.path_set-requires-in-14 c).After-form_code) (ready (goal.at.path_set-requires-in-14 c).After-form_code).tables [] c.args.e (ready (goal.at.path_set-requires-in-14 c).After-form_code).entry (sym c.form_code.ensures ∙ c.in-14.is)), part_room (ready (goal.at.path_set-requires-in-14 c).After-form_code) 14 (sym c.form_code.ensures ∙ c.in-14.is) refl (first_by_lem (cells (goal.at.path_set-requires-in-14 c).After-form_code) c.args.e 14 (sym c.form_code.ensures ∙ c.in-14.is)) (half (goal.at.path_set-requires-in-14 c).After-form_code), refl))
 
 pub ends_set-requires : goal.ends_set-requires
 unfolding condition_ok
-ends_set-requires c = ((ready (goal.at.ends_set-requires c).After-form_code).tables, end-right (goal.at.ends_set-requires c).After-form_code codes.form_equal (sym c.form_code.ensures ∙ c.in-15.is) (omega arith) (omega arith) (λ z. let y : ⊥ = omega arith in y), refl, held_none (cells (goal.at.ends_set-requires c).After-form_code) c.requires.3, held_none (cells (goal.at.ends_set-requires c).After-form_code) c.requires.4)
+ends_set-requires c = (omega arith, (end-right (goal.at.ends_set-requires c).After-form_code codes.form_equal (sym c.form_code.ensures ∙ c.in-15.is) (omega arith) (omega arith) (λ z. let y : ⊥ = omega arith in y), refl))
 
 pub ends_set-requires-in-16 : goal.ends_set-requires-in-16
 unfolding condition_ok
-ends_set-requires-in-16 c = ((ready (goal.at.ends_set-requires-in-16 c).After-form_code).tables, end-right (goal.at.ends_set-requires-in-16 c).After-form_code codes.form_apart (sym c.form_code.ensures ∙ c.in-16.is) (omega arith) (omega arith) (λ z. let y : ⊥ = omega arith in y), refl, held_none (cells (goal.at.ends_set-requires-in-16 c).After-form_code) c.requires.3, held_none (cells (goal.at.ends_set-requires-in-16 c).After-form_code) c.requires.4)
+ends_set-requires-in-16 c = (omega arith, (end-right (goal.at.ends_set-requires-in-16 c).After-form_code codes.form_apart (sym c.form_code.ensures ∙ c.in-16.is) (omega arith) (omega arith) (λ z. let y : ⊥ = omega arith in y), refl))
 
 pub ends_set-requires-in-18 : goal.ends_set-requires-in-18
 unfolding condition_ok end_known
-ends_set-requires-in-18 c = ((ready (goal.at.ends_set-requires-in-18 c).After-form_code).tables, lt-ltb c.wide-p.result (path_count (cells (goal.at.ends_set-requires-in-18 c).After-form_code)) (entry (goal.at.ends_set-requires-in-18 c).After-form_code (less_path (cells (goal.at.ends_set-requires-in-18 c).After-form_code) (ready (goal.at.ends_set-requires-in-18 c).After-form_code).tables [] c.args.e (ready (goal.at.ends_set-requires-in-18 c).After-form_code).entry (sym c.form_code.ensures ∙ c.in-18.is))), refl, held_none (cells (goal.at.ends_set-requires-in-18 c).After-form_code) c.requires.3, held_none (cells (goal.at.ends_set-requires-in-18 c).After-form_code) c.requires.4)
+ends_set-requires-in-18 c = (omega arith, (lt-ltb c.wide-p.result (path_count (cells (goal.at.ends_set-requires-in-18 c).After-form_code)) (entry (goal.at.ends_set-requires-in-18 c).After-form_code (less_path (cells (goal.at.ends_set-requires-in-18 c).After-form_code) (ready (goal.at.ends_set-requires-in-18 c).After-form_code).tables [] c.args.e (ready (goal.at.ends_set-requires-in-18 c).After-form_code).entry (sym c.form_code.ensures ∙ c.in-18.is))), refl))
 
 pub ends_set-requires-in-19 : goal.ends_set-requires-in-19
 unfolding condition_ok end_known
-ends_set-requires-in-19 c = ((ready (goal.at.ends_set-requires-in-19 c).After-form_code).tables, lt-ltb c.wide-p.result (path_count (cells (goal.at.ends_set-requires-in-19 c).After-form_code)) (entry (goal.at.ends_set-requires-in-19 c).After-form_code (lesseq_path (cells (goal.at.ends_set-requires-in-19 c).After-form_code) (ready (goal.at.ends_set-requires-in-19 c).After-form_code).tables [] c.args.e (ready (goal.at.ends_set-requires-in-19 c).After-form_code).entry (sym c.form_code.ensures ∙ c.in-19.is))), refl, held_none (cells (goal.at.ends_set-requires-in-19 c).After-form_code) c.requires.3, held_none (cells (goal.at.ends_set-requires-in-19 c).After-form_code) c.requires.4)
+ends_set-requires-in-19 c = (omega arith, (lt-ltb c.wide-p.result (path_count (cells (goal.at.ends_set-requires-in-19 c).After-form_code)) (entry (goal.at.ends_set-requires-in-19 c).After-form_code (lesseq_path (cells (goal.at.ends_set-requires-in-19 c).After-form_code) (ready (goal.at.ends_set-requires-in-19 c).After-form_code).tables [] c.args.e (ready (goal.at.ends_set-requires-in-19 c).After-form_code).entry (sym c.form_code.ensures ∙ c.in-19.is))), refl))
 
 pub lang_set-requires : goal.lang_set-requires
 unfolding condition_ok
-lang_set-requires c = ((ready (goal.at.lang_set-requires c).After-form_code).tables, entry (goal.at.lang_set-requires c).After-form_code (lang_path (cells (goal.at.lang_set-requires c).After-form_code) (ready (goal.at.lang_set-requires c).After-form_code).tables [] c.args.e (ready (goal.at.lang_set-requires c).After-form_code).entry (lang (goal.at.lang_set-requires c).In_default)), refl, held_none (cells (goal.at.lang_set-requires c).After-form_code) c.requires.3)
+lang_set-requires c = (omega arith, (entry (goal.at.lang_set-requires c).After-form_code (lang_path (cells (goal.at.lang_set-requires c).After-form_code) (ready (goal.at.lang_set-requires c).After-form_code).tables [] c.args.e (ready (goal.at.lang_set-requires c).After-form_code).entry (lang (goal.at.lang_set-requires c).In_default)), refl))
 
 pub returns-in-13 : goal.returns-in-13
 returns-in-13 c = count_tells (ready (goal.at.returns-in-13 c).After-form_code) (first (goal.at.returns-in-13 c).After-form_code) (half (goal.at.returns-in-13 c).After-form_code) (low (goal.at.returns-in-13 c).After-form_code) (high (goal.at.returns-in-13 c).After-form_code) (sym c.form_code.ensures ∙ c.in-13.is) c.path_set.ensures.words_value

@@ -1,0 +1,6 @@
+use Rattle.nodeset.specs.Words.{stored}
+use Rattle.consoles.proofs.store.Goals as goal
+
+pub returns : goal.returns
+unfolding stored
+returns c = c.copy.ensures
