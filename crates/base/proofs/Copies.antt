@@ -1,11 +1,11 @@
 -- The first values of a list over those of another.
-use Prim.Native.Nat.{ℕ, zero, suc, ◌+◌, ◌<◌, ◌≤◌}
+use Prim.Native.Nat.{ℕ, zero, suc, ◌+◌, ◌<◌, ◌≤◌, min}
 use mathlib.Core.List.{List, [], ◌∷◌, ◌++◌}
-use mathlib.Core.Path.{◌≡◌, sym, ap, ◌∙◌}
+use mathlib.Core.Path.{◌≡◌, refl, sym, ap, ◌∙◌}
 use native.Mathlib.Numerals.{add-one}
 use native.Mathlib.Omega.{arith}
-use lib.ListN.{length, get_or, set, take, drop}
-use lib.Seq.{take-nil, drop-nil, take_all}
+use lib.ListN.{length, get_or, set, take, drop, length-drop}
+use lib.Seq.{take-nil, drop-nil, take_all, length-take-le}
 
 module _ {A : Type 0} where
   -- as many as there is room for, and then what stood there
@@ -27,3 +27,20 @@ module _ {A : Type 0} where
 
   pub over-all : {now : List A} (old xs : List A) (i : ℕ) → length xs ≤ i → now ≡ over old (take i xs) → now ≡ over old xs
   over-all old xs i l e = e ∙ ap (over old) (take_all i xs l)
+
+  -- what there is no room for counts for nothing
+  pub over_room : (old xs : List A) (n : ℕ) → n ≡ min (length old) (length xs) → over old (take n xs) ≡ over old xs
+  over_room [] xs n e = drop-nil (length (take n xs)) ∙ sym (drop-nil (length xs))
+  over_room (y ∷ old) [] n e = ap (over (y ∷ old)) (take-nil n)
+  over_room (y ∷ old) (x ∷ xs) zero e = absurd (omega arith)
+  over_room (y ∷ old) (x ∷ xs) (suc n) e = ap (λ (r : List A). x ∷ r) (over_room old xs n (omega arith))
+
+  -- as many values as there is room for are all that stands there
+  pub over_whole : (old xs : List A) → length old ≡ length xs → over old xs ≡ xs
+  over_whole [] [] e = refl
+  over_whole [] (x ∷ xs) e = absurd (omega arith)
+  over_whole (y ∷ old) [] e = absurd (omega arith)
+  over_whole (y ∷ old) (x ∷ xs) e = ap (λ (r : List A). x ∷ r) (over_whole old xs (omega arith))
+
+  pub over_part : (l xs : List A) (at n : ℕ) → n ≡ length xs → at + length xs ≤ length l → over (take n (drop at l)) xs ≡ xs
+  over_part l xs at n e room = over_whole (take n (drop at l)) xs (length-take-le n (drop at l) (omega (arith, length-drop at l)) ∙ e)

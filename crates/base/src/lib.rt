@@ -28,7 +28,8 @@ pub fn put<T: Copy>(list: &mut [T], i: usize, x: T)
 pub fn copy<T: Copy>(into: &mut [T], from: &[T])
     ensures { into.new ≡ take (length into.old) from.now ++ drop (length from.now) into.old }
 {
-    for (i, x) in from.iter().enumerate() {
+    let n = into.len().min(from.len());
+    for (i, x) in from[..n].iter().enumerate() {
         put(into, i, *x);
     }
 }

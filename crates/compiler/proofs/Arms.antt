@@ -13,6 +13,7 @@ use Rattle.plan.specs.Steps.{Step, numbers_of}
 use Rattle.plan.specs.Layout.{with_steps}
 use Rattle.translation.specs.Compile.{Part, taken, two, count_part, entry_part}
 use Rattle.compiler.specs.declared.Pair.{Pair}
+use Rattle.compiler.specs.declared.pairs.Pairs.{Pairs}
 use Rattle.compiler.specs.Stores.{keep_of, break_of, TwoAdded, Added}
 use Rattle.translation.proofs.Whole.{by_code_lem}
 use Rattle.compiler.proofs.Laws.{two_added}
@@ -22,7 +23,7 @@ use Rattle.compiler.proofs.Laws.{two_added}
 pub record Read : Type 0 where
   pub cs : List ℕ
   pub ps : List ℕ
-  pub pairs : List Pair
+  pub pairs : Pairs
   pub e : ℕ
   pub n : ℕ
   pub code : ℕ

@@ -3,14 +3,12 @@ use Prim.Native.Nat.{ℕ, ◌+◌, ◌-◌}
 use mathlib.Core.List.{List, [], ◌∷◌}
 use mathlib.Core.Path.{◌≡◌, sym, ap, ◌∙◌, subst}
 use native.Mathlib.Omega.{arith}
-use lib.ListN.{get_or}
 use borrow.Author.Tests.{eq-eqb, ne_eqb}
 use Rattle.tables.specs.Layout.{no_number}
 use Rattle.plan.specs.Steps.{Step, numbers_of}
 use Rattle.plan.specs.Layout.{with_numbers, with_steps}
 use Rattle.translation.specs.Compile.{Part, two, count_way, count_part}
-use Rattle.compiler.specs.declared.Pair.{Pair}
-use Rattle.compiler.specs.Stores.{no_pair, keep_of, break_of, TwoAdded, Added}
+use Rattle.compiler.specs.Stores.{TwoAdded, Added}
 
 module _ (ps p1 p2 : List ℕ) (n : ℕ) where
   pub two_law : (xs ys : List ℕ) (next k m : ℕ) → p1 ≡ with_numbers ps n xs → p2 ≡ with_numbers p1 (n + 1) ys → next ≡ n + 2 → k ≡ n → m ≡ n + 1 → TwoAdded ps p2 n xs ys next k m
@@ -22,14 +20,6 @@ put_as ps n h e = h ∙ ap (with_numbers ps n) e
 
 pub two_as : {ps qs : List ℕ} {n : ℕ} {xs ys us vs : List ℕ} {next k m : ℕ} → xs ≡ us → ys ≡ vs → TwoAdded ps qs n xs ys next k m → TwoAdded ps qs n us vs next k m
 two_as {ps} {qs} {n} e f r = record { stored = r.stored ∙ (λ i. with_numbers (with_numbers ps n (e i)) (n + 1) (f i)); after = r.after; keeps = r.keeps; breaks = r.breaks }
-
--- a pair that was read
-module _ (ps : List Pair) {i j : ℕ} {x : Pair} (e : x ≡ get_or ps i no_pair) (f : i ≡ j) where
-  pub keep_at : x.keep ≡ keep_of ps j
-  keep_at = ap (λ (p : Pair). p.keep) e ∙ ap (keep_of ps) f
-
-  pub break_at : x.breaking ≡ break_of ps j
-  break_at = ap (λ (p : Pair). p.breaking) e ∙ ap (break_of ps) f
 
 -- two steps by their numbers, and by name
 pub two_added : (ps qs : List ℕ) (n : ℕ) (s t : Step) (next k m : ℕ) → TwoAdded ps qs n (numbers_of s) (numbers_of t) next k m → Added ps qs n (two n s t) next k m

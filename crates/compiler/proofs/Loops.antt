@@ -22,24 +22,25 @@ use Rattle.plan.specs.Layout.{plan_count, rule_steps, laid, with_numbers, with_s
 use Rattle.plan.proofs.Stores.{store_rule, store-count, store-steps, laid_none}
 use Rattle.translation.specs.Compile.{Part, entry_part, put_at, more, made, target_step, steps_of_rule, steps_to, steps_of, rule_step, plan_of}
 use Rattle.compiler.specs.declared.Pair.{Pair}
-use Rattle.compiler.specs.Stores.{no_pair, keep_of, break_of, Added, FormsAdded, rule_stored}
+use Rattle.compiler.specs.declared.pairs.Pairs.{Pairs}
+use Rattle.compiler.specs.Stores.{keep_of, break_of, Added, FormsAdded, rule_stored}
 use Rattle.translation.proofs.Whole.{length_to}
 
 pub cleared-laid : (ps : List ℕ) → cleared plan_count 0 ps ≡ laid (drop plan_count ps) [] [] []
 unfolding cleared
 cleared-laid ps = sym (laid_none (drop plan_count ps))
 
--- ---- a store in the array of pairs, seen by one of a pair's numbers
-put-set : (g : Pair → ℕ) (xs : List Pair) (e : ℕ) (x : Pair) (f : ℕ → ℕ) → e < length xs → ((j : ℕ) → g (get_or xs j no_pair) ≡ f j) → (j : ℕ) → g (get_or (set xs e x) j no_pair) ≡ put_at f e (g x) j
+-- ---- a store in one of the two arrays
+put-set : (xs : List ℕ) (e x : ℕ) (f : ℕ → ℕ) → e < length xs → ((j : ℕ) → get_or xs j 0 ≡ f j) → (j : ℕ) → get_or (set xs e x) j 0 ≡ put_at f e x j
 unfolding put_at
-put-set g xs e x f l h j = pick (eqb j e) refl
+put-set xs e x f l h j = pick (eqb j e) refl
   where
-    pick : (b : Bool) → eqb j e ≡ b → g (get_or (set xs e x) j no_pair) ≡ cond b (g x) (f j)
-    pick true q = ap (λ (i : ℕ). g (get_or (set xs e x) i no_pair)) (eqb-true j e q) ∙ ap g (get_or-set_same xs e x no_pair l)
-    pick false q = ap g (get_or-set_other xs e j x no_pair (eqb-false j e q)) ∙ h j
+    pick : (b : Bool) → eqb j e ≡ b → get_or (set xs e x) j 0 ≡ cond b x (f j)
+    pick true q = ap (λ (i : ℕ). get_or (set xs e x) i 0) (eqb-true j e q) ∙ get_or-set_same xs e x 0 l
+    pick false q = get_or-set_other xs e j x 0 (eqb-false j e q) ∙ h j
 
 -- ---- entries: qs has those below e, and rs what compiling entry e made of it
-module _ (cs ps qs rs : List ℕ) (pairs : List Pair) (e n next : ℕ) (x : Pair) (f : FormsAdded cs ps qs e n pairs) (r : Added qs rs n (entry_part cs (keep_of pairs) (break_of pairs) n e (entry_at cs [] e)) next x.keep x.breaking) where
+module _ (cs ps qs rs : List ℕ) (pairs : Pairs) (e n next : ℕ) (x : Pair) (f : FormsAdded cs ps qs e n pairs) (r : Added qs rs n (entry_part cs (keep_of pairs) (break_of pairs) n e (entry_at cs [] e)) next x.keep x.breaking) where
   abbrev own : Part
   own = entry_part cs (made cs e).keep (made cs e).breaking (length (made cs e).steps) e (entry_at cs [] e)
 
@@ -55,26 +56,25 @@ module _ (cs ps qs rs : List ℕ) (pairs : List Pair) (e n next : ℕ) (x : Pair
   steps_append [] ts k ps = ap (λ (m : ℕ). with_steps ps m ts) (let z : k ≡ k + 0 = omega arith in z)
   steps_append (s ∷ ss) ts k ps = steps_append ss ts (k + 1) (with_numbers ps k (numbers_of s)) ∙ ap (λ (m : ℕ). with_steps (with_steps (with_numbers ps k (numbers_of s)) (k + 1) ss) m ts) (let z : k + 1 + length ss ≡ k + suc (length ss) = omega arith in z)
 
-  pub forms-more : e < length pairs → FormsAdded cs ps rs (e + 1) next (set pairs e x)
+  pub forms-more : {new : Pairs} → e < length pairs.keeps → e < length pairs.breaks → new.keeps ≡ set pairs.keeps e x.keep → new.breaks ≡ set pairs.breaks e x.breaking → FormsAdded cs ps rs (e + 1) next new
   unfolding more
-  forms-more l = record {
+  forms-more lk lb ek eb = record {
     stored = r.stored ∙ (λ i. with_steps (f.stored i) (f.after i) (same-part i).steps) ∙ ap (λ (i : ℕ). with_steps (with_steps ps 0 (made cs e).steps) i own.steps) (sym (zero-add (length (made cs e).steps))) ∙ sym (steps_append (made cs e).steps own.steps 0 ps) ∙ (λ i. with_steps ps 0 (sym next-made i).steps);
     after = r.after ∙ (λ i. f.after i + length (same-part i).steps) ∙ sym (length-append (made cs e).steps own.steps) ∙ (λ i. length (sym next-made i).steps);
-    keeps = λ j. put-set (λ p. p.keep) pairs e x (made cs e).keep l f.keeps j ∙ ap (λ (y : ℕ). put_at (made cs e).keep e y j) (r.keeps ∙ ap (λ (y : Part). y.keep) same-part) ∙ (λ i. (sym next-made i).keep j);
-    breaks = λ j. put-set (λ p. p.breaking) pairs e x (made cs e).breaking l f.breaks j ∙ ap (λ (y : ℕ). put_at (made cs e).breaking e y j) (r.breaks ∙ ap (λ (y : Part). y.breaking) same-part) ∙ (λ i. (sym next-made i).breaking j);
+    keeps = λ j. ap (λ (l : List ℕ). get_or l j 0) ek ∙ put-set pairs.keeps e x.keep (made cs e).keep lk f.keeps j ∙ ap (λ (y : ℕ). put_at (made cs e).keep e y j) (r.keeps ∙ ap (λ (y : Part). y.keep) same-part) ∙ (λ i. (sym next-made i).keep j);
+    breaks = λ j. ap (λ (l : List ℕ). get_or l j 0) eb ∙ put-set pairs.breaks e x.breaking (made cs e).breaking lb f.breaks j ∙ ap (λ (y : ℕ). put_at (made cs e).breaking e y j) (r.breaks ∙ ap (λ (y : Part). y.breaking) same-part) ∙ (λ i. (sym next-made i).breaking j);
   }
 
 -- no entry has steps
-none-at : (n j : ℕ) → get_or (replicate n no_pair) j no_pair ≡ no_pair
+none-at : (n j : ℕ) → ◌≡◌ {A = ℕ} (get_or (replicate n 0) j 0) 0
 none-at zero j = refl
 none-at (suc n) zero = refl
 none-at (suc n) (suc j) = none-at n j
 
-pub forms-none : (cs ps : List ℕ) (n : ℕ) (pairs : List Pair) → n ≡ 0 → pairs ≡ replicate max_forms no_pair → FormsAdded cs ps ps 0 n pairs
+pub forms-none : (cs ps : List ℕ) (n : ℕ) (pairs : Pairs) → n ≡ 0 → pairs.keeps ≡ replicate max_forms 0 → pairs.breaks ≡ replicate max_forms 0 → FormsAdded cs ps ps 0 n pairs
 unfolding made with_steps
-forms-none cs ps n pairs z e =
-    let at : (j : ℕ) → get_or pairs j no_pair ≡ no_pair = λ j. ap (λ (l : List Pair). get_or l j no_pair) e ∙ none-at max_forms j in
-    record { stored = refl; after = z; keeps = λ j. ap (λ (p : Pair). p.keep) (at j); breaks = λ j. ap (λ (p : Pair). p.breaking) (at j) }
+forms-none cs ps n pairs z ek eb =
+    record { stored = refl; after = z; keeps = λ j. ap (λ (l : List ℕ). get_or l j 0) ek ∙ none-at max_forms j; breaks = λ j. ap (λ (l : List ℕ). get_or l j 0) eb ∙ none-at max_forms j }
 
 -- ---- targets by their codes; xs: the numbers of the target's step
 module _ (cs : List ℕ) (r code a : ℕ) (ec : code ≡ rule_target_at cs r) (ea : a ≡ rule_operand_at cs r) (xs : List ℕ) where

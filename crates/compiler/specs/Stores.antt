@@ -7,17 +7,18 @@ use Rattle.plan.specs.Steps.{Step}
 use Rattle.plan.specs.Layout.{plan_count, rule_steps, with_numbers, with_steps}
 use Rattle.translation.specs.Compile.{Part, made, target_step}
 use Rattle.compiler.specs.declared.Pair.{Pair}
+use Rattle.compiler.specs.declared.pairs.Pairs.{Pairs}
 
--- before an entry has steps
+-- the steps of an entry with an unknown code
 abbrev pub no_pair : Pair
 no_pair = record { keep = 0; breaking = 0 }
 
 -- the number of entry j's keeping step, and of its breaking one; 0 past the end
-abbrev pub keep_of : List Pair → ℕ → ℕ
-keep_of ps j = (get_or ps j no_pair).keep
+abbrev pub keep_of : Pairs → ℕ → ℕ
+keep_of ps j = get_or ps.keeps j 0
 
-abbrev pub break_of : List Pair → ℕ → ℕ
-break_of ps j = (get_or ps j no_pair).breaking
+abbrev pub break_of : Pairs → ℕ → ℕ
+break_of ps j = get_or ps.breaks j 0
 
 -- qs is ps with two steps from n on, given by their numbers; next is the next step's number, k and m those of the two
 pub record TwoAdded (ps qs : List ℕ) (n : ℕ) (xs ys : List ℕ) (next k m : ℕ) : Type 0 where
@@ -34,7 +35,7 @@ pub record Added (ps qs : List ℕ) (n : ℕ) (x : Part) (next k m : ℕ) : Type
   pub breaks : m ≡ x.breaking
 
 -- qs is ps with the steps of the entries below e; n is the next step's number, and pairs has each entry's two
-pub record FormsAdded (cs ps qs : List ℕ) (e n : ℕ) (pairs : List Pair) : Type 0 where
+pub record FormsAdded (cs ps qs : List ℕ) (e n : ℕ) (pairs : Pairs) : Type 0 where
   pub stored : qs ≡ with_steps ps 0 (made cs e).steps
   pub after : n ≡ length (made cs e).steps
   pub keeps : (j : ℕ) → keep_of pairs j ≡ (made cs e).keep j

@@ -1,6 +1,8 @@
 // Tables to a plan: the code for the definition of translation. Operations: compile.
 #![tactic(auto)]
 
+mod pairs;
+
 ghost use Rattle.std.specs.Prelude.{◌≡◌, List, [], ◌∷◌, ◌++◌, ℕ, ◌+◌, ◌<◌, ◌≤◌, length, replicate, set, drop};
 ghost use Rattle.base.specs.Lists.{values};
 ghost use Rattle.model.specs.Limits.{max_rules, max_forms, max_steps};
@@ -10,11 +12,12 @@ ghost use Rattle.plan.specs.Steps.{Step, numbers_of};
 ghost use Rattle.plan.specs.Numbers.{listed};
 ghost use Rattle.plan.specs.Layout.{plan_count, with_numbers, laid};
 ghost use Rattle.translation.specs.Compile.{count_part, entry_part, made, target_step, steps_to, steps_of, rule_step, plan_of};
-ghost use Rattle.compiler.specs.Stores.{no_pair, keep_of, break_of, TwoAdded, Added, FormsAdded, rule_stored, RoomForPlan};
+ghost use Rattle.compiler.specs.Stores.{keep_of, break_of, TwoAdded, Added, FormsAdded, rule_stored, RoomForPlan};
 ghost use Rattle.model.specs.Answers.{answer_of};
 ghost use Rattle.compiler.specs.Answers.{compile_answer, plan_after};
 
-use base::cell;
+use crate::pairs::Pairs;
+use base::{cell, put};
 use model::{MAX_FORMS, Refusal};
 use plan::{Numbers, PLAN_CELLS, RULE_STEPS, clear_plan, put_step, steps};
 use tablecheck::well_formed;
@@ -33,11 +36,42 @@ pub struct Pair {
     pub breaking: u16,
 }
 
-// Before an entry has steps.
+// The steps of an entry with an unknown code.
 const NO_PAIR: Pair = Pair {
     keep: 0,
     breaking: 0,
 };
+
+impl Pairs {
+    // No entry has steps yet.
+    fn new() -> Self
+        ensures { (result.keeps ≡ replicate max_forms 0) × (result.breaks ≡ replicate max_forms 0) }
+    {
+        Pairs {
+            keeps: [0; MAX_FORMS],
+            breaks: [0; MAX_FORMS],
+        }
+    }
+
+    // The steps of entry e.
+    fn of(&self, e: usize) -> Pair
+        ensures { (result.keep ≡ keep_of self.now e) × (result.breaking ≡ break_of self.now e) }
+    {
+        Pair {
+            keep: cell(&self.keeps, e, 0),
+            breaking: cell(&self.breaks, e, 0),
+        }
+    }
+
+    // Entry e has these steps from now on.
+    fn store(&mut self, e: usize, pair: Pair)
+        ensures keeps { self.new.keeps ≡ set self.old.keeps e pair.keep }
+        ensures breaks { self.new.breaks ≡ set self.old.breaks e pair.breaking }
+    {
+        put(&mut self.keeps, e, pair.keep);
+        put(&mut self.breaks, e, pair.breaking);
+    }
+}
 
 // A plan that is filled: its cells, which have room for every step, and the number of the next step.
 #[derive(Drop)]
@@ -74,14 +108,14 @@ fn counting(path: u16, of: u16, low: u16, high: u16) -> Numbers
 }
 
 // The steps of the entry with a number.
-fn pair_of(pairs: &[Pair], e: u16) -> Pair
+fn pair_of(pairs: &Pairs, e: u16) -> Pair
     ensures { (result.keep ≡ keep_of pairs.now e) × (result.breaking ≡ break_of pairs.now e) }
 {
-    cell(pairs, wide(e), NO_PAIR)
+    pairs.of(wide(e))
 }
 
 // `not`: its child's two, exchanged.
-fn swapped(cells: &[u16], pairs: &[Pair], e: usize) -> Pair
+fn swapped(cells: &[u16], pairs: &Pairs, e: usize) -> Pair
     ensures { (result.keep ≡ break_of pairs.now (form_first_at cells.now e)) × (result.breaking ≡ keep_of pairs.now (form_first_at cells.now e)) }
 {
     let a = pair_of(pairs, form_first(cells, e));
@@ -92,10 +126,10 @@ fn swapped(cells: &[u16], pairs: &[Pair], e: usize) -> Pair
 }
 
 // `shape`: the two of what that shape begins with.
-fn same_steps(cells: &[u16], pairs: &[Pair], e: usize) -> Pair
+fn same_steps(cells: &[u16], pairs: &Pairs, e: usize) -> Pair
     ensures { (result.keep ≡ keep_of pairs.now (root_at cells.now (form_first_at cells.now e))) × (result.breaking ≡ break_of pairs.now (root_at cells.now (form_first_at cells.now e))) }
 {
-    cell(pairs, root(cells, wide(form_first(cells, e))), NO_PAIR)
+    pairs.of(root(cells, wide(form_first(cells, e))))
 }
 
 // The step of rule r's target.
@@ -115,7 +149,8 @@ fn target_step(cells: &[u16], r: usize) -> Numbers
 
 // Each method asks for room for the steps that it adds: that is no invariant, since a plan may be full.
 impl Plan<'_> {
-    // One more step; its number.
+    // One more step; its number. Part of its callers, as is `two`, so that a step is stored where it is made.
+    #[inline(always)]
     fn push(&mut self, numbers: Numbers) -> u16
         requires { self.old.next < max_steps }
         ensures same_reference { self.new.cells.ghost_name ≡ self.old.cells.ghost_name }
@@ -130,6 +165,7 @@ impl Plan<'_> {
     }
 
     // A keeping step and a breaking one.
+    #[inline(always)]
     fn two(&mut self, keeping: Numbers, breaking: Numbers) -> Pair
         requires { self.old.next + 2 ≤ max_steps }
         ensures same_reference { self.new.cells.ghost_name ≡ self.old.cells.ghost_name }
@@ -188,7 +224,7 @@ impl Plan<'_> {
     fn parts_steps(
         &mut self,
         cells: &[u16],
-        pairs: &[Pair],
+        pairs: &Pairs,
         e: usize,
         keeping: u16,
         breaking: u16,
@@ -206,7 +242,7 @@ impl Plan<'_> {
     }
 
     // `all`: Every of the keep, Count 1 * of the break.
-    fn all_entry(&mut self, cells: &[u16], pairs: &[Pair], e: usize) -> Pair
+    fn all_entry(&mut self, cells: &[u16], pairs: &Pairs, e: usize) -> Pair
         requires { self.old.next + 2 ≤ max_steps }
         ensures same_reference { self.new.cells.ghost_name ≡ self.old.cells.ghost_name }
         ensures added { TwoAdded self.old.cells.now self.new.cells.now self.old.next (numbers_of (Step.every (form_first_at cells.now e) (keep_of pairs.now (form_second_at cells.now e)))) (numbers_of (Step.count (form_first_at cells.now e) (break_of pairs.now (form_second_at cells.now e)) 1 no_number)) self.new.next result.keep result.breaking }
@@ -243,7 +279,7 @@ impl Plan<'_> {
         }
     }
 
-    fn count_entry(&mut self, cells: &[u16], pairs: &[Pair], e: usize) -> Pair
+    fn count_entry(&mut self, cells: &[u16], pairs: &Pairs, e: usize) -> Pair
         requires { self.old.next + 4 ≤ max_steps }
         ensures same_reference { self.new.cells.ghost_name ≡ self.old.cells.ghost_name }
         ensures added { Added self.old.cells.now self.new.cells.now self.old.next (count_part self.old.next (form_first_at cells.now e) (keep_of pairs.now (form_second_at cells.now e)) (form_third_at cells.now e) (form_fourth_at cells.now e)) self.new.next result.keep result.breaking }
@@ -256,7 +292,7 @@ impl Plan<'_> {
     }
 
     // The steps of entry e.
-    fn compile_entry(&mut self, cells: &[u16], pairs: &[Pair], e: usize) -> Pair
+    fn compile_entry(&mut self, cells: &[u16], pairs: &Pairs, e: usize) -> Pair
         requires { (e < max_forms) × (self.old.next + 4 ≤ max_steps) }
         ensures same_reference { self.new.cells.ghost_name ≡ self.old.cells.ghost_name }
         ensures added { Added self.old.cells.now self.new.cells.now self.old.next (entry_part cells.now (keep_of pairs.now) (break_of pairs.now) self.old.next e (entry_at cells.now [] e)) self.new.next result.keep result.breaking }
@@ -283,34 +319,34 @@ impl Plan<'_> {
     }
 
     // The steps of all entries, in a plan with none; pairs gets each entry's two.
-    fn fill_forms(&mut self, pairs: &mut [Pair], cells: &[u16])
-        requires { (form_count cells.now ≤ max_forms) × (self.old.next ≡ 0) × (pairs.old ≡ replicate max_forms no_pair) }
+    fn fill_forms(&mut self, pairs: &mut Pairs, cells: &[u16])
+        requires { (form_count cells.now ≤ max_forms) × (self.old.next ≡ 0) × (pairs.old.keeps ≡ replicate max_forms 0) × (pairs.old.breaks ≡ replicate max_forms 0) }
         ensures same_reference { self.new.cells.ghost_name ≡ self.old.cells.ghost_name }
         ensures added { FormsAdded cells.now self.old.cells.now self.new.cells.now (form_count cells.now) self.new.next pairs.new }
     {
         let forms = form_count(cells);
         for e in 0..forms {
-            let own = self.compile_entry(cells, &pairs[..], e);
-            pairs[e] = own;
+            let own = self.compile_entry(cells, pairs, e);
+            pairs.store(e, own);
         }
     }
 
     // The two steps of rule r, and its step's number.
-    fn rule_steps(&mut self, cells: &[u16], pairs: &[Pair], r: u16)
+    fn rule_steps(&mut self, cells: &[u16], pairs: &Pairs, r: u16)
         requires { (r < max_rules) × (self.old.next + 2 ≤ max_steps) }
         ensures same_reference { self.new.cells.ghost_name ≡ self.old.cells.ghost_name }
         ensures stored { self.new.cells.now ≡ rule_stored cells.now self.old.cells.now r self.old.next (break_of pairs.now (root_at cells.now (rule_shape_at cells.now r))) }
         ensures next { self.new.next ≡ self.old.next + 2 }
     {
         let k = wide(r);
-        let b = cell(pairs, root(cells, rule_shape(cells, k)), NO_PAIR);
+        let b = pairs.of(root(cells, rule_shape(cells, k)));
         let target = self.push(target_step(cells, k));
         let own = self.push(step(steps::BOTH, target, b.breaking));
         self.cells[RULE_STEPS + k] = own;
     }
 
     // The steps of all rules, in a plan with those of the entries.
-    fn fill_rules(&mut self, cells: &[u16], pairs: &[Pair])
+    fn fill_rules(&mut self, cells: &[u16], pairs: &Pairs)
         requires { RoomForPlan cells.now self.old.cells.now × (self.old.next ≡ length (made cells.now (form_count cells.now)).steps) × ((j : ℕ) → break_of pairs.now j ≡ (made cells.now (form_count cells.now)).breaking j) }
         ensures same_reference { self.new.cells.ghost_name ≡ self.old.cells.ghost_name }
         ensures next { self.new.next ≡ length (steps_to cells.now (rule_count cells.now)) }
@@ -342,7 +378,7 @@ fn make_plan(plan: &mut [u16], cells: &[u16]) -> usize
     ensures new_plan { plan.new ≡ plan_of cells.now ++ drop plan_count plan.old }
 {
     clear_plan(plan);
-    let mut pairs = [NO_PAIR; MAX_FORMS];
+    let mut pairs = Pairs::new();
     let mut filled = Plan {
         cells: plan,
         next: 0,

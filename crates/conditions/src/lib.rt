@@ -82,12 +82,12 @@ pub fn first_unlisted(tables: Indexed, links: &[u64], v: NodeNo) -> Option<usize
 {
     let cells = tables.cells;
     let mut lowest = 0;
-    let mut next = last_out(tables, v);
+    let mut next = last_out(tables.index, v);
     while 0 < next {
         let i = next - 1;
         let listed = test(links, predicate(cells, i).0 as usize);
         lowest = pick(listed, lowest, next);
-        next = next_out(tables, i);
+        next = next_out(tables.index, i);
     }
     lowest.checked_sub(1)
 }
@@ -257,7 +257,8 @@ fn same_language(tagged: bool, lang: u16, cells: &[u16], y: NodeNo) -> bool
 }
 
 // The first two numbers in both sets that have the same language. The second set is that of the nodes that have one, since
-// others never clash; or any other. The inner loop starts after the outer.
+// others never clash; or any other. The inner loop starts after the outer; it goes over places, since of a slice the edit
+// `second_too_late` would pass the end as well.
 pub fn first_clash(cells: &[u16], a: &[u64], b: &[u64]) -> Option<(NodeNo, NodeNo)>
     requires { node_count cells.now ≤ max_nodes }
     ensures { (vs : List ℤ) → pair_found result ≡ first_pair (among (λ w. has a.now w && has b.now w) (λ w. has a.now w && has b.now w) (clash (term_at cells.now vs))) (node_count cells.now) }
@@ -270,8 +271,8 @@ pub fn first_clash(cells: &[u16], a: &[u64], b: &[u64]) -> Option<(NodeNo, NodeN
         let first = NodeNo(*x);
         let known = has_language(cells, first);
         let lang = node_lang(cells, first);
-        for y in &ends[i + 1..] {
-            let second = NodeNo(*y);
+        for k in i + 1..ends.len() {
+            let second = NodeNo(ends[k]);
             if same_language(known, lang, cells, second) {
                 answer = Some((first, second));
                 break 'search;

@@ -6,6 +6,7 @@ pub mod Rows
 pub mod Nesting
 pub mod Lines
 pub mod Books
+pub mod Faults
 pub mod GroundsLocal
 pub mod Grounds
 pub mod GroundsLeaves

@@ -1,3 +1,4 @@
 pub mod Items
 pub mod Heads
 pub mod Places
+pub mod Faults

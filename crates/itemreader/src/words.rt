@@ -1,4 +1,5 @@
-// The words after an opening bracket, by their number in the family that they are looked up in.
+// The words after an opening bracket, by their number in the family that they are looked up in, and how many words each family
+// has.
 // They stay numbers: a number and one is the code of an entry, which document 01 gives, and matches decide over them by ranges.
 ghost use Rattle.std.specs.Prelude.{◌≡◌, ℕ, map};
 ghost use Rattle.text.specs.Pool.{index_of};
@@ -70,6 +71,8 @@ pub const PATH_STAR: usize = 3;
 
 pub const PATH_PLUS: usize = 4;
 
+pub const PATH_FAMILY: usize = PATH_PLUS + 1;
+
 // of forms: one less than the code of its entry, since `true` has no bracket
 pub const IS: usize = 0;
 
@@ -111,6 +114,8 @@ pub const LESSEQ: usize = 18;
 
 pub const ONELANG: usize = 19;
 
+pub const FORM_FAMILY: usize = ONELANG + 1;
+
 // of targets
 pub const TARGET_NODE: usize = 0;
 
@@ -119,6 +124,8 @@ pub const TARGET_SUBJECTS: usize = 1;
 pub const TARGET_OBJECTS: usize = 2;
 
 pub const TARGET_CLASS: usize = 3;
+
+pub const TARGET_FAMILY: usize = TARGET_CLASS + 1;
 
 // of lines
 pub const LINE_LINK: usize = 0;
@@ -142,3 +149,5 @@ pub const LINE_FACT: usize = 8;
 pub const LINE_SHAPE: usize = 9;
 
 pub const LINE_RULE: usize = 10;
+
+pub const LINE_FAMILY: usize = LINE_RULE + 1;

@@ -58,7 +58,7 @@ fn first_met(relation: Relation, v: usize, spares: NodeSet) -> (usize, NodeNo)
         if node < relation.n {
             return (hops, NodeNo(node as u16));
         }
-        level = level.next(relation);
+        level = level.next(relation.rows, relation.n);
         hops += 1;
     }
 }

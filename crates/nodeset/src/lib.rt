@@ -126,8 +126,12 @@ fn next_kept<F: Fn(u64, u64) -> u64>(a: &[u64], b: &[u64], op: F, from: usize, n
     requires { F.IsAlwaysCallable op }
     ensures { (keeps : Bool → Bool → Bool) → DigitByDigit keeps (F.post op) → result ≡ next_from (λ m. keeps (has a.now m) (has b.now m)) from n }
 {
+    if n <= from {
+        return n;
+    }
+    // that at is below n is tested once for each word: as a loop's condition it would be tested again
     let mut at = from;
-    while at < n {
+    loop {
         let word = op(cell(a, at / 64, 0), cell(b, at / 64, 0));
         let rest = word >> (at % 64);
         let left = n - at;
@@ -144,7 +148,6 @@ fn next_kept<F: Fn(u64, u64) -> u64>(a: &[u64], b: &[u64], op: F, from: usize, n
         }
         at += step;
     }
-    n
 }
 
 // The least member from a number on and below n, n where there is none.

@@ -159,23 +159,23 @@ pub fn index_table(index: &mut [u16], cells: &[u16])
 }
 
 // The last fact out of node v, as its number and one; 0 where there is none.
-pub fn last_out(tables: Indexed, v: NodeNo) -> usize
-    ensures { result ≡ cond (ltb v.0 max_nodes) (get_or tables.entry.index.now (subject_heads + v.0) 0) 0 }
+pub fn last_out(index: &[u16], v: NodeNo) -> usize
+    ensures { result ≡ cond (ltb v.0 max_nodes) (get_or index.now (subject_heads + v.0) 0) 0 }
 {
     let x = v.0 as usize;
     if x < MAX_NODES {
-        wide(cell(tables.index, SUBJECT_HEADS + x, 0))
+        wide(cell(index, SUBJECT_HEADS + x, 0))
     } else {
         0
     }
 }
 
 // The fact before fact i out of the same node, as its number and one; 0 where there is none.
-pub fn next_out(tables: Indexed, i: usize) -> usize
+pub fn next_out(index: &[u16], i: usize) -> usize
     requires { i < max_facts }
-    ensures { result ≡ get_or tables.entry.index.now (subject_nexts + i) 0 }
+    ensures { result ≡ get_or index.now (subject_nexts + i) 0 }
 {
-    wide(cell(tables.index, SUBJECT_NEXTS + i, 0))
+    wide(cell(index, SUBJECT_NEXTS + i, 0))
 }
 
 // A member of from is in row w.
@@ -241,10 +241,12 @@ fn join_itself(into: &mut [u64], sets: Sets, from: &[u64], n: usize)
     }
 }
 
+// By reference, where paths nest: each call within a call would hold copies of the facts, and tables from elsewhere may have paths
+// 127 deep.
 impl<'a> Facts<'a> {
     // The last fact of link l, as its number and one; 0 where there is none.
-    fn last_fact(self, l: LinkNo) -> usize
-        ensures { result ≡ cond (ltb l.0 max_links) (get_or self.entry.index.now l.0 0) 0 }
+    fn last_fact(&self, l: LinkNo) -> usize
+        ensures { result ≡ cond (ltb l.0 max_links) (get_or self.now.index.now l.0 0) 0 }
     {
         if l.0 < LINKS {
             wide(cell(self.index, wide(l.0), 0))
@@ -254,17 +256,17 @@ impl<'a> Facts<'a> {
     }
 
     // The fact before fact i that has the same link, as its number and one; 0 where there is none.
-    fn next_fact(self, i: usize) -> usize
+    fn next_fact(&self, i: usize) -> usize
         requires { i < max_facts }
-        ensures { result ≡ get_or self.entry.index.now (max_links + i) 0 }
+        ensures { result ≡ get_or self.now.index.now (max_links + i) 0 }
     {
         wide(cell(self.index, MAX_LINKS + i, 0))
     }
 
     // The object of fact i joins each set that its subject is in; read backwards where back.
-    fn join_fact(self, into: &mut [u64], i: usize, back: bool, sets: Sets, from: &[u64])
-        requires { (i < self.len) × Room sets self.n from.now into.old }
-        ensures { into.new ≡ joined_sets (set_count sets) (cond back (get_or self.entry.o.now i 0) (get_or self.entry.s.now i 0)) (cond back (get_or self.entry.s.now i 0) (get_or self.entry.o.now i 0)) (start_of sets from.now) into.old }
+    fn join_fact(&self, into: &mut [u64], i: usize, back: bool, sets: Sets, from: &[u64])
+        requires { (i < self.now.len) × Room sets self.now.n from.now into.old }
+        ensures { into.new ≡ joined_sets (set_count sets) (cond back (get_or self.now.o.now i 0) (get_or self.now.s.now i 0)) (cond back (get_or self.now.s.now i 0) (get_or self.now.o.now i 0)) (start_of sets from.now) into.old }
     {
         let v = node_at(self.s, i);
         let w = node_at(self.o, i);
@@ -275,9 +277,9 @@ impl<'a> Facts<'a> {
 
     // What the facts of link l add; read backwards where back. Only these are looked at: the predicates, of which the index is made,
     // are there for the promise alone.
-    fn join_link(self, into: &mut [u64], l: LinkNo, back: bool, sets: Sets, from: &[u64])
-        requires { Room sets self.n from.now into.old }
-        ensures { into.new ≡ with_images (set_count sets) self.entry.n (edges self.entry.s.now self.entry.p.now self.entry.o.now l.0 back self.entry.len) (start_of sets from.now) into.old }
+    fn join_link(&self, into: &mut [u64], l: LinkNo, back: bool, sets: Sets, from: &[u64])
+        requires { Room sets self.now.n from.now into.old }
+        ensures { into.new ≡ with_images (set_count sets) self.now.n (edges self.now.s.now self.now.p.now self.now.o.now l.0 back self.now.len) (start_of sets from.now) into.old }
     {
         let mut next = self.last_fact(l);
         while 0 < next {
@@ -289,9 +291,9 @@ impl<'a> Facts<'a> {
 
     // Each set of into gains the ends of path entry e, read backwards where back, from the members of its namesake in from.
     #[cycle(spread)]
-    fn spread(self, into: &mut [u64], e: usize, back: bool, sets: Sets, from: &[u64])
-        requires { (e < path_count self.cells.now) × Room sets self.n from.now into.old }
-        ensures { into.new ≡ with_ends (set_count sets) self.entry.n (triples_over self.entry) (path_at self.entry.cells.now e) back (start_of sets from.now) into.old }
+    fn spread(&self, into: &mut [u64], e: usize, back: bool, sets: Sets, from: &[u64])
+        requires { (e < path_count self.now.cells.now) × Room sets self.now.n from.now into.old }
+        ensures { into.new ≡ with_ends (set_count sets) self.now.n (triples_over self.now) (path_at self.now.cells.now e) back (start_of sets from.now) into.old }
     {
         let a = path_first(self.cells, e);
         let b = path_second(self.cells, e);
@@ -310,9 +312,9 @@ impl<'a> Facts<'a> {
 
     // The same of a seq, with as many words for what lies between its two parts as the sets need.
     #[cycle(spread)]
-    fn seq(self, into: &mut [u64], e: usize, back: bool, sets: Sets, from: &[u64])
-        requires { (e < path_count self.cells.now) × Room sets self.n from.now into.old × (path_code_at self.cells.now e ≡ codes.path_seq) }
-        ensures { into.new ≡ with_ends (set_count sets) self.entry.n (triples_over self.entry) (path_at self.entry.cells.now e) back (start_of sets from.now) into.old }
+    fn seq(&self, into: &mut [u64], e: usize, back: bool, sets: Sets, from: &[u64])
+        requires { (e < path_count self.now.cells.now) × Room sets self.now.n from.now into.old × (path_code_at self.now.cells.now e ≡ codes.path_seq) }
+        ensures { into.new ≡ with_ends (set_count sets) self.now.n (triples_over self.now) (path_at self.now.cells.now e) back (start_of sets from.now) into.old }
     {
         if set_words(sets, self.n) <= MAX_NODES {
             self.seq_few(into, e, back, sets, from);
@@ -324,9 +326,9 @@ impl<'a> Facts<'a> {
     // The same of one set, or of few rows. This and the next are two functions: one with a const parameter for the words would be
     // in a cycle with functions that have none, of which rattle states no theorem yet (tried).
     #[cycle(spread)]
-    fn seq_few(self, into: &mut [u64], e: usize, back: bool, sets: Sets, from: &[u64])
-        requires { (e < path_count self.cells.now) × Room sets self.n from.now into.old × (path_code_at self.cells.now e ≡ codes.path_seq) × (set_words sets self.n ≤ max_nodes) }
-        ensures { into.new ≡ with_ends (set_count sets) self.entry.n (triples_over self.entry) (path_at self.entry.cells.now e) back (start_of sets from.now) into.old }
+    fn seq_few(&self, into: &mut [u64], e: usize, back: bool, sets: Sets, from: &[u64])
+        requires { (e < path_count self.now.cells.now) × Room sets self.now.n from.now into.old × (path_code_at self.now.cells.now e ≡ codes.path_seq) × (set_words sets self.now.n ≤ max_nodes) }
+        ensures { into.new ≡ with_ends (set_count sets) self.now.n (triples_over self.now) (path_at self.now.cells.now e) back (start_of sets from.now) into.old }
     {
         let mut mid = [0u64; MAX_NODES];
         self.seq_by(into, &mut mid, e, back, sets, from);
@@ -334,9 +336,9 @@ impl<'a> Facts<'a> {
 
     // The same of a row for each of many nodes.
     #[cycle(spread)]
-    fn seq_many(self, into: &mut [u64], e: usize, back: bool, sets: Sets, from: &[u64])
-        requires { (e < path_count self.cells.now) × Room sets self.n from.now into.old × (path_code_at self.cells.now e ≡ codes.path_seq) }
-        ensures { into.new ≡ with_ends (set_count sets) self.entry.n (triples_over self.entry) (path_at self.entry.cells.now e) back (start_of sets from.now) into.old }
+    fn seq_many(&self, into: &mut [u64], e: usize, back: bool, sets: Sets, from: &[u64])
+        requires { (e < path_count self.now.cells.now) × Room sets self.now.n from.now into.old × (path_code_at self.now.cells.now e ≡ codes.path_seq) }
+        ensures { into.new ≡ with_ends (set_count sets) self.now.n (triples_over self.now) (path_at self.now.cells.now e) back (start_of sets from.now) into.old }
     {
         let mut mid = [0u64; ROWS_WORDS];
         self.seq_by(into, &mut mid, e, back, sets, from);
@@ -345,7 +347,7 @@ impl<'a> Facts<'a> {
     // The same, over mid, which is empty: the sets that the first part leads to, from which the second part starts.
     #[cycle(spread)]
     fn seq_by(
-        self,
+        &self,
         into: &mut [u64],
         mid: &mut [u64],
         e: usize,
@@ -353,8 +355,8 @@ impl<'a> Facts<'a> {
         sets: Sets,
         from: &[u64],
     )
-        requires { (e < path_count self.cells.now) × Room sets self.n from.now into.old × (path_code_at self.cells.now e ≡ codes.path_seq) × MidOk sets self.n mid.old }
-        ensures { into.new ≡ with_ends (set_count sets) self.entry.n (triples_over self.entry) (path_at self.entry.cells.now e) back (start_of sets from.now) into.old }
+        requires { (e < path_count self.now.cells.now) × Room sets self.now.n from.now into.old × (path_code_at self.now.cells.now e ≡ codes.path_seq) × MidOk sets self.now.n mid.old }
+        ensures { into.new ≡ with_ends (set_count sets) self.now.n (triples_over self.now) (path_at self.now.cells.now e) back (start_of sets from.now) into.old }
     {
         let a = path_first(self.cells, e);
         let b = path_second(self.cells, e);
@@ -367,9 +369,9 @@ impl<'a> Facts<'a> {
 
     // The same of a star or plus: the pairs of its part, as rows, are closed.
     #[cycle(spread)]
-    fn repeat(self, into: &mut [u64], e: usize, back: bool, sets: Sets, from: &[u64])
-        requires { (e < path_count self.cells.now) × Room sets self.n from.now into.old × (codes.path_star ≤ path_code_at self.cells.now e) }
-        ensures { into.new ≡ with_ends (set_count sets) self.entry.n (triples_over self.entry) (path_at self.entry.cells.now e) back (start_of sets from.now) into.old }
+    fn repeat(&self, into: &mut [u64], e: usize, back: bool, sets: Sets, from: &[u64])
+        requires { (e < path_count self.now.cells.now) × Room sets self.now.n from.now into.old × (codes.path_star ≤ path_code_at self.now.cells.now e) }
+        ensures { into.new ≡ with_ends (set_count sets) self.now.n (triples_over self.now) (path_at self.now.cells.now e) back (start_of sets from.now) into.old }
     {
         let a = path_first(self.cells, e);
         let none = path_code(self.cells, e) == codes::PATH_STAR;

@@ -37,7 +37,9 @@ pub struct Numbers {
     pub fourth: u16,
 }
 
-// Numbers stored as step k.
+// Numbers stored as step k. Part of its callers, where the numbers need not be put together: as a call it takes longer to compile
+// nested forms.
+#[inline(always)]
 pub fn put_step(plan: &mut [u16], k: usize, step: Numbers)
     requires { (plan_count ≤ length plan.old) × (k < max_steps) }
     ensures { plan.new ≡ with_numbers plan.old k (listed step) }

@@ -19,14 +19,15 @@ use closure::{Relation, take_row};
 use nodeset::{Iter, NodeSet};
 
 // The nodes that the rows lead to from the members of a set below n.
-fn image(set: NodeSet, relation: Relation) -> NodeSet
-    ensures { result.words ≡ image_words relation.entry.rows.now relation.entry.n set.words }
+fn image(set: NodeSet, rows: &[u64], n: usize) -> NodeSet
+    requires { (n ≤ max_nodes) × (16 * n ≤ length rows.now) }
+    ensures { result.words ≡ image_words rows.now n set.words }
 {
     let members = set.words;
     let mut words = [0u64; 16];
-    for u in Iter::below(&members, relation.n) {
+    for u in Iter::below(&members, n) {
         let at = 16 * u;
-        take_row(&mut words, 0, &relation.rows[at..]);
+        take_row(&mut words, 0, &rows[at..]);
     }
     NodeSet { words }
 }
@@ -51,13 +52,14 @@ impl Level {
         }
     }
 
-    // One round more.
-    pub fn next(self, relation: Relation) -> Level
-        ensures words_value { result.reached.words ≡ union self.reached.words (image_words relation.entry.rows.now relation.entry.n self.frontier.words) }
-        ensures words_value_2 { result.frontier.words ≡ difference (image_words relation.entry.rows.now relation.entry.n self.frontier.words) self.reached.words }
+    // One round more, by any rows of n nodes, with whatever past them: less than a Relation asks.
+    pub fn next(self, rows: &[u64], n: usize) -> Level
+        requires { (n ≤ max_nodes) × (16 * n ≤ length rows.now) }
+        ensures words_value { result.reached.words ≡ union self.reached.words (image_words rows.now n self.frontier.words) }
+        ensures words_value_2 { result.frontier.words ≡ difference (image_words rows.now n self.frontier.words) self.reached.words }
     {
         let before = self.reached;
-        let found = image(self.frontier, relation);
+        let found = image(self.frontier, rows, n);
         Level {
             reached: before.union(found),
             frontier: found.difference(before),
@@ -81,7 +83,7 @@ pub fn search(relation: Relation, v: usize) -> Reached
     let mut level = Level::start(v);
     let mut count: usize = 0;
     loop {
-        level = level.next(relation);
+        level = level.next(relation.rows, relation.n);
         if level.frontier.none_below(relation.n) {
             let nodes = level.reached;
             return Reached {

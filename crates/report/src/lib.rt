@@ -17,6 +17,7 @@ ghost use Rattle.report.specs.Pages.{page_count, found_in, part_in, row_ok, repo
 ghost use Rattle.tables.specs.Names.{node_name_at};
 ghost use Rattle.report.specs.Answers.{part_long, part_formed, part_answer, part_after, refusal_answer, refusal_after};
 
+use base::copy;
 use lists::{LENGTH_PLACES, LIST_PLACES};
 use model::{MAX_NAME, MAX_NODES, NAME_BYTES, NodeNo, Refusal, code, line};
 use tablecheck::well_formed;
@@ -109,7 +110,7 @@ impl Page<'_> {
         ensures put { Wrote self.old self.new text.now }
     {
         let end = self.at + text.len();
-        self.bytes[self.at..end].copy_from_slice(text);
+        copy(&mut self.bytes[self.at..end], text);
         self.at = end;
     }
 

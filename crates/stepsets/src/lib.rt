@@ -65,7 +65,8 @@ pub enum Condition {
     Open,
 }
 
-// The condition holds of node v, with its two sets.
+// The condition holds of node v, with its two sets. Part of each loop over the nodes: as a call it takes twice the time.
+#[inline(always)]
 fn condition_holds(condition: Condition, tables: Indexed, a: &[u64], b: &[u64], v: NodeNo) -> bool
     requires { let cs = tables.cells.now in (v.0 < node_count cs) × (condition_ok cs condition ≡ true) }
     ensures { result ≡ holds_of tables.entry.cells.now tables.entry.values.now condition (has a.now) (has b.now) v.0 }

@@ -14,7 +14,7 @@ ghost use Rattle.text.specs.Decimals.{digit, is_mag, mag_of, positive_of, negati
 ghost use Rattle.text.specs.Pool.{padded, same_at, zero_at, hash_of, name_key, find, store};
 ghost use Rattle.model.specs.Limits.{max_name, name_bytes};
 
-use base::cell;
+use base::{cell, copy};
 use model::{Fault, MAX_COUNT, MAX_NAME, NAME_BYTES};
 
 // Why a text is no number: it is not written as one; or it is, and stands for one out of the range.
@@ -182,6 +182,14 @@ pub fn bound_at(book: &[u8], at: usize, end: usize) -> Result<u16, NumberError>
     }
 }
 
+// Byte j of the word from at to end, or 0 past it.
+pub fn letter(book: &[u8], at: usize, end: usize, j: usize) -> u8
+    requires { (at ≤ end) × (end ≤ length book.now) }
+    ensures { result ≡ get_or (padded (slice at end book.now)) j 0 }
+{
+    if j < end - at { book[at + j] } else { 0 }
+}
+
 // The len bytes from place on and those from at on are the same. No early exit: many bytes are compared at once.
 fn same_bytes(names: &[u8], place: usize, book: &[u8], at: usize, len: usize) -> bool
     requires { (place + len ≤ length names.now) × (at + len ≤ length book.now) }
@@ -290,6 +298,6 @@ pub fn put_name(names: &mut [u8], place: usize, book: &[u8], at: usize, end: usi
     ensures { names.new ≡ store names.old place (padded (slice at end book.now)) }
 {
     let last = place + (end - at);
-    names[place..last].copy_from_slice(&book[at..end]);
+    copy(&mut names[place..last], &book[at..end]);
     names[last..place + NAME_BYTES].fill(0);
 }

@@ -31,7 +31,7 @@ use entries::{Question, end_at, ends_from};
 use model::{MAX_PATHS, NodeNo, Refusal};
 use nodeset::{Iter, NodeSet, test};
 use paths::{End, INDEX_CELLS, Indexed, ROWS_WORDS, index_table};
-use stepsets::{Condition, EndRows, ends_set, lang_set, path_set};
+use stepsets::{Condition, EndRows, Held, ends_set, lang_set, path_set};
 use tables::codes;
 use tables::layout::{CELLS, VALUES};
 use tables::reads::{
@@ -159,7 +159,18 @@ fn set_along(memo: &Memo, e: usize) -> NodeSet
     requires { let cs = memo.now.tables.cells.now in (e < form_count cs) × (codes.form_count ≤ form_code_at cs e) × (form_code_at cs e ≡ codes.form_closed → ⊥) }
     ensures { ConformingSet memo.now.tables.cells.now memo.now.tables.values.now memo.now.words e result.words }
 {
-    let mut rows = EndRows::<ROWS_WORDS>::new(memo.tables);
+    // made in its place: by `EndRows::new` it would be copied there
+    let mut rows = EndRows {
+        tables: memo.tables,
+        first: Held {
+            rows: [0; ROWS_WORDS],
+            of: None,
+        },
+        second: Held {
+            rows: [0; ROWS_WORDS],
+            of: None,
+        },
+    };
     set_of_rows(&mut rows, &memo.words, e)
 }
 

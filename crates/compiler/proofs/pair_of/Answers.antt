@@ -1,5 +1,8 @@
-use Rattle.compiler.proofs.Laws.{keep_at, break_at}
+use mathlib.Core.Path.{ap, ◌∙◌}
+use Rattle.compiler.specs.Stores.{keep_of, break_of}
 use Rattle.compiler.proofs.pair_of.Goals as goal
 
 pub returns : goal.returns
-returns c = (keep_at c.args.pairs.now c.cell.ensures c.wide.ensures, break_at c.args.pairs.now c.cell.ensures c.wide.ensures)
+returns c =
+    let ps = c.args.pairs.now in
+    (c.of.ensures.0 ∙ ap (keep_of ps) c.wide.ensures, c.of.ensures.1 ∙ ap (break_of ps) c.wide.ensures)

@@ -1,15 +1,13 @@
 -- `first_clash` meets its contract. The invariants: each of the ends before place i has the language of none after it, and the one
 -- at place i that of none before place k.
-use Prim.Native.Nat.{ℕ, ◌+◌, ◌-◌, ◌<◌}
+use Prim.Native.Nat.{ℕ, ◌<◌}
 use mathlib.Core.Bool.{true, ◌&&◌}
 use mathlib.Core.List.{List}
-use mathlib.Core.Option.{Option}
 use mathlib.Core.Path.{◌≡◌, refl, sym, ap, ◌∙◌, subst}
 use native.Mathlib.Omega.{arith}
 use lib.Dec.{eqb}
 use lib.IntN.{ℤ}
-use lib.ListN.{get_or, length, take, drop, length-drop}
-use Rattle.std.proofs.lemmas.List.{get_or-take, get_or-drop}
+use lib.ListN.{get_or, length}
 use Rattle.base.specs.Bounded.{every}
 use Rattle.base.proofs.Bounded.{every_more}
 use Rattle.nodeset.specs.Words.{has}
@@ -26,46 +24,38 @@ pub search-init : goal.search-init
 unfolding every
 search-init c = (refl, c.node_count-n.ensures, c.gather-ends.ensures, λ vs. refl)
 
-pub loop-y-init : goal.loop-y-init
-loop-y-init c = (c.search.invariant.0, λ vs. subst (λ (k : ℕ). clear_of (alike c.args.cells.now vs) c.gather-ends.result.now c.search.i k ≡ true) (omega arith) (clear_begins (alike c.args.cells.now vs) c.gather-ends.result.now c.search.i))
+pub loop-k-init : goal.loop-k-init
+loop-k-init c = (c.search.invariant.0, λ vs. clear_begins (alike c.args.cells.now vs) c.gather-ends.result.now c.search.i)
 
--- the second stands among those after the first
-here : (c : After-same_language) → c.search.i + 1 + c.loop-y.y-index < length c.gather-ends.result.now
-here c = omega (arith, c.loop-y-test, c.search-test, length-drop (c.search.i + 1) c.gather-ends.result.now)
-
-second : (c : After-same_language) → let ends = c.gather-ends.result.now in let i = c.search.i + 1 in get_or (take (length ends - i) (drop i ends)) c.loop-y.y-index 0 ≡ get_or ends (i + c.loop-y.y-index) 0
-second c =
-    let ends : List ℕ = c.gather-ends.result.now in
-    let i : ℕ = c.search.i + 1 in
-    get_or-take (length ends - i) (drop i ends) c.loop-y.y-index 0 (omega (arith, here c)) ∙ get_or-drop i ends c.loop-y.y-index 0
+-- the second stands among the ends
+here : (c : After-same_language) → c.loop-k.k < length c.gather-ends.result.now
+here c = omega (arith, c.loop-k-test)
 
 -- what is asked of the pair
 asked : (c : After-same_language) (vs : List ℤ)
-    → c.same_language.result ≡ alike c.args.cells.now vs (get_or c.gather-ends.result.now c.search.i 0) (get_or c.gather-ends.result.now (c.search.i + 1 + c.loop-y.y-index) 0)
+    → c.same_language.result ≡ alike c.args.cells.now vs (get_or c.gather-ends.result.now c.search.i 0) (get_or c.gather-ends.result.now c.loop-k.k 0)
 asked c vs =
     let cs = c.args.cells.now in
     let i = c.search.invariant in
     let x : ℕ = get_or c.gather-ends.result.now c.search.i 0 in
-    let k : ℕ = c.search.i + 1 + c.loop-y.y-index in
-    let y : ℕ = get_or c.gather-ends.result.now k 0 in
+    let y : ℕ = get_or c.gather-ends.result.now c.loop-k.k 0 in
     c.same_language.ensures
-    ∙ ap (λ (z : ℕ). c.has_language-known.result && (eqb (kind_at cs z) codes.node_words && eqb c.node_lang-lang.result (lang_at cs z))) (second c)
     ∙ (λ j. c.has_language-known.ensures j && (eqb (kind_at cs y) codes.node_words && eqb (c.node_lang-lang.ensures j) (lang_at cs y)))
-    ∙ lang_test cs vs x y (omega (arith, i.1, (i.2.inside c.search.i (omega (arith, c.search-test))).0)) (omega (arith, i.1, (i.2.inside k (here c)).0))
+    ∙ lang_test cs vs x y (omega (arith, i.1, (i.2.inside c.search.i (omega (arith, c.search-test))).0)) (omega (arith, i.1, (i.2.inside c.loop-k.k (here c)).0))
 
-pub loop-y-preserved : goal.loop-y-preserved
-loop-y-preserved c =
-    let l = c.loop-y in
-    (l.invariant.0, λ vs. subst (λ (k : ℕ). clear_of (alike c.args.cells.now vs) c.gather-ends.result.now c.search.i k ≡ true) (omega arith) (clear_more (alike c.args.cells.now vs) c.gather-ends.result.now c.search.i (c.search.i + 1 + l.y-index) (l.invariant.1 vs) (sym (asked (goal.at.loop-y-preserved c).After-same_language vs) ∙ c.if-same_language.false)))
+pub loop-k-preserved : goal.loop-k-preserved
+loop-k-preserved c =
+    let l = c.loop-k in
+    (l.invariant.0, λ vs. clear_more (alike c.args.cells.now vs) c.gather-ends.result.now c.search.i l.k (l.invariant.1 vs) (sym (asked (goal.at.loop-k-preserved c).After-same_language vs) ∙ c.if-same_language.false))
 
 pub search-preserved : goal.search-preserved
 search-preserved c =
     let cs = c.args.cells.now in
     let ends : List ℕ = c.gather-ends.result.now in
     let s = c.search in
-    let l = c.loop-y in
+    let l = c.loop-k in
     let count : ℕ = length c.gather-ends.result.now in
-    (l.invariant.0, s.invariant.1, s.invariant.2, λ vs. every_more (λ j. clear_of (alike cs vs) ends j count) s.i (s.invariant.3 vs) (clear_rest (alike cs vs) ends s.i (s.i + 1 + l.y-index) count (omega (arith, c.loop-y-test, length-drop (s.i + 1) ends)) (l.invariant.1 vs)))
+    (l.invariant.0, s.invariant.1, s.invariant.2, λ vs. every_more (λ j. clear_of (alike cs vs) ends j count) s.i (s.invariant.3 vs) (clear_rest (alike cs vs) ends s.i l.k count (omega (arith, c.loop-k-test)) (l.invariant.1 vs)))
 
 pub returns-after-search : goal.returns-after-search
 returns-after-search c =
@@ -81,6 +71,5 @@ returns-then-same_language c =
     let a = c.args in
     let cs = a.cells.now in
     let s = c.search in
-    let l = c.loop-y in
-    λ vs. ap (λ (z : ℕ). Option.some (get_or c.gather-ends.result.now s.i 0, z)) (second (goal.at.returns-then-same_language c).After-same_language)
-    ∙ sym (sym (clash-ordered cs vs (λ w. has a.a.now w && has a.b.now w)) ∙ ap (first_pair (among (λ w. has a.a.now w && has a.b.now w) (λ w. has a.a.now w && has a.b.now w) (ordered (alike cs vs)))) (sym s.invariant.1) ∙ clash-hit (λ w. has a.a.now w && has a.b.now w) (alike cs vs) c.node_count-n.result s.invariant.2 {k = s.i + 1 + l.y-index} (omega arith) (here (goal.at.returns-then-same_language c).After-same_language) (s.invariant.3 vs) (l.invariant.1 vs) (sym (asked (goal.at.returns-then-same_language c).After-same_language vs) ∙ c.if-same_language.true))
+    let l = c.loop-k in
+    λ vs. sym (sym (clash-ordered cs vs (λ w. has a.a.now w && has a.b.now w)) ∙ ap (first_pair (among (λ w. has a.a.now w && has a.b.now w) (λ w. has a.a.now w && has a.b.now w) (ordered (alike cs vs)))) (sym s.invariant.1) ∙ clash-hit (λ w. has a.a.now w && has a.b.now w) (alike cs vs) c.node_count-n.result s.invariant.2 {k = l.k} (omega arith) (here (goal.at.returns-then-same_language c).After-same_language) (s.invariant.3 vs) (l.invariant.1 vs) (sym (asked (goal.at.returns-then-same_language c).After-same_language vs) ∙ c.if-same_language.true))

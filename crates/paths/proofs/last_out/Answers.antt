@@ -11,7 +11,7 @@ use Rattle.paths.proofs.last_out.Goals as goal
 pub returns-then-x-lt-MAX_NODES : goal.returns-then-x-lt-MAX_NODES
 returns-then-x-lt-MAX_NODES c =
     let a = c.args in
-    c.wide.ensures ∙ c.cell.ensures ∙ ap (λ (b : Bool). cond b (get_or a.tables.index.now (subject_heads + a.v.0) 0) 0) (sym (lt-ltb a.v.0 max_nodes c.if-x-lt-MAX_NODES.true))
+    c.wide.ensures ∙ c.cell.ensures ∙ ap (λ (b : Bool). cond b (get_or a.index.now (subject_heads + a.v.0) 0) 0) (sym (lt-ltb a.v.0 max_nodes c.if-x-lt-MAX_NODES.true))
 
 pub returns-else-x-lt-MAX_NODES : goal.returns-else-x-lt-MAX_NODES
-returns-else-x-lt-MAX_NODES c = let a = c.args in ap (λ (b : Bool). cond b (get_or a.tables.index.now (subject_heads + a.v.0) 0) 0) (sym (le-ltb a.v.0 max_nodes c.if-x-lt-MAX_NODES.false))
+returns-else-x-lt-MAX_NODES c = let a = c.args in ap (λ (b : Bool). cond b (get_or a.index.now (subject_heads + a.v.0) 0) 0) (sym (le-ltb a.v.0 max_nodes c.if-x-lt-MAX_NODES.false))

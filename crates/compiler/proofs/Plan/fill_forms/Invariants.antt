@@ -1,7 +1,5 @@
 use Prim.Native.Nat.{◌-◌, ◌≤◌}
 use mathlib.Core.Path.{◌≡◌}
-use lib.ListN.{length}
-use Rattle.model.specs.Limits.{max_forms}
 use Rattle.tables.specs.Layout.{form_count}
 use Rattle.compiler.specs.Stores.{FormsAdded}
 use Rattle.compiler.proofs.Plan.fill_forms.Given as goal
@@ -11,7 +9,6 @@ invariant-loop-e l =
     (l.self.cells.ghost_name ≡ l.fn.self.cells.ghost_name)
     × (l.e ≤ l.forms)
     × (l.forms ≡ form_count l.cells)
-    × (length l.pairs ≡ max_forms)
     × FormsAdded l.cells l.fn.self.cells.now l.self.cells.now l.e l.self.next l.pairs
 
 abbrev pub decreases-loop-e : goal.decreases-loop-e

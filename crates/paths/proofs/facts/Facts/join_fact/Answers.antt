@@ -15,11 +15,11 @@ join-requires c =
     let w = c.node_at-w.ensures in
     let near = picked-number a.back c.node_at-w.result c.node_at-v.result c.pick-near.ensures ∙ ap₂ (cond a.back) w v in
     let far = picked-number a.back c.node_at-v.result c.node_at-w.result c.pick-far.ensures ∙ ap₂ (cond a.back) v w in
-    let f = fact_between a.self.s.now a.self.p.now a.self.o.now a.self.index.now a.self.len a.self.n a.self.made a.i pre.0 in (
+    let f = fact_between a.self.now.s.now a.self.now.p.now a.self.now.o.now a.self.now.index.now a.self.now.len a.self.now.n a.self.now.made a.i pre.0 in (
       pre.1,
-      a.self.made.nodes,
-      subst (λ (x : ℕ). x < a.self.n) (sym near) (cond_lt a.back (get_or a.self.o.now a.i 0) (get_or a.self.s.now a.i 0) a.self.n f.1 f.0),
-      subst (λ (x : ℕ). x < a.self.n) (sym far) (cond_lt a.back (get_or a.self.s.now a.i 0) (get_or a.self.o.now a.i 0) a.self.n f.0 f.1),
+      a.self.now.made.nodes,
+      subst (λ (x : ℕ). x < a.self.now.n) (sym near) (cond_lt a.back (get_or a.self.now.o.now a.i 0) (get_or a.self.now.s.now a.i 0) a.self.now.n f.1 f.0),
+      subst (λ (x : ℕ). x < a.self.now.n) (sym far) (cond_lt a.back (get_or a.self.now.s.now a.i 0) (get_or a.self.now.o.now a.i 0) a.self.now.n f.0 f.1),
     )
 
 pub returns : goal.returns

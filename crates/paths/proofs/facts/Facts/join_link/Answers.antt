@@ -14,12 +14,12 @@ use Rattle.paths.proofs.facts.Facts.join_link.Goals as goal
 pub loop-next-init : goal.loop-next-init
 loop-next-init c =
     let a = c.args in
-    let key : ℕ → ℕ = λ i. get_or a.self.p.now i 0 in
-    let e = chain-begins a.self.s.now a.self.p.now a.self.o.now a.self.index.now a.self.len a.self.n a.self.made a.l.0 c.last_fact-next.ensures in (
-      subst (λ (k : ℕ). k ≤ a.self.len) (sym e) (last_le key a.l.0 a.self.len),
+    let key : ℕ → ℕ = λ i. get_or a.self.now.p.now i 0 in
+    let e = chain-begins a.self.now.s.now a.self.now.p.now a.self.now.o.now a.self.now.index.now a.self.now.len a.self.now.n a.self.now.made a.l.0 c.last_fact-next.ensures in (
+      subst (λ (k : ℕ). k ≤ a.self.now.len) (sym e) (last_le key a.l.0 a.self.now.len),
       refl,
       λ i. (c.type_inv.into i).fits,
-      λ l q. (λ i f. last-key key l a.self.len i (sym q ∙ f), chain-rest a.self.s.now a.self.p.now a.self.o.now a.self.index.now a.self.len a.self.n a.self.made (set_count a.sets) l a.back (start_of a.sets a.from.now) a.into.now a.self.len q),
+      λ l q. (λ i f. last-key key l a.self.now.len i (sym q ∙ f), chain-rest a.self.now.s.now a.self.now.p.now a.self.now.o.now a.self.now.index.now a.self.now.len a.self.now.n a.self.now.made (set_count a.sets) l a.back (start_of a.sets a.from.now) a.into.now a.self.now.len q),
     )
 
 pub join_fact-requires : goal.join_fact-requires
@@ -27,19 +27,19 @@ join_fact-requires c =
     let a = c.args in
     let t = c.loop-next in
     let i : ℕ = t.next - 1 in
-    let l : i < a.self.len = omega (arith, t.invariant.0, c.loop-next-test.true) in
-    (l, room-kept a.sets a.self.n a.from.now a.into.now t.into t.invariant.1 c.requires)
+    let l : i < a.self.now.len = omega (arith, t.invariant.0, c.loop-next-test.true) in
+    (l, room-kept a.sets a.self.now.n a.from.now a.into.now t.into t.invariant.1 c.requires)
 
 pub next_fact-next-requires : goal.next_fact-next-requires
-next_fact-next-requires c = omega (arith, c.loop-next.invariant.0, c.args.self.made.few)
+next_fact-next-requires c = omega (arith, c.loop-next.invariant.0, c.args.self.now.made.few)
 
 pub loop-next-smaller : goal.loop-next-smaller
 loop-next-smaller c =
     let a = c.args in
     let t = c.loop-next in
     let i : ℕ = t.next - 1 in
-    let l : i < a.self.len = omega (arith, t.invariant.0, c.loop-next-test.true) in
-    let h : c.next_fact-next.result ≤ i = walk_falls (λ k. get_or a.self.p.now k 0) a.self.len max_links 0 max_links c.args.self.made.indexed i l c.next_fact-next.ensures in
+    let l : i < a.self.now.len = omega (arith, t.invariant.0, c.loop-next-test.true) in
+    let h : c.next_fact-next.result ≤ i = walk_falls (λ k. get_or a.self.now.p.now k 0) a.self.now.len max_links 0 max_links c.args.self.now.made.indexed i l c.next_fact-next.ensures in
     omega (arith, h, c.loop-next-test.true)
 
 pub loop-next-preserved : goal.loop-next-preserved
@@ -47,18 +47,18 @@ loop-next-preserved c =
     let a = c.args in
     let t = c.loop-next in
     let i : ℕ = t.next - 1 in
-    let l : i < a.self.len = omega (arith, t.invariant.0, c.loop-next-test.true) in
+    let l : i < a.self.now.len = omega (arith, t.invariant.0, c.loop-next-test.true) in
     let q : t.next ≡ suc i = omega (arith, c.loop-next-test.true) in
     let step = c.next_fact-next.ensures in
-    let h : c.next_fact-next.result ≤ i = walk_falls (λ k. get_or a.self.p.now k 0) a.self.len max_links 0 max_links c.args.self.made.indexed i l step in (
+    let h : c.next_fact-next.result ≤ i = walk_falls (λ k. get_or a.self.now.p.now k 0) a.self.now.len max_links 0 max_links c.args.self.now.made.indexed i l step in (
       omega (arith, h, l),
       c.join_fact.auto.into ∙ t.invariant.1,
-      joined_small (set_count a.sets) (cond a.back (get_or a.self.o.now i 0) (get_or a.self.s.now i 0)) (cond a.back (get_or a.self.s.now i 0) (get_or a.self.o.now i 0)) (start_of a.sets a.from.now) t.into c.join_fact.ensures,
+      joined_small (set_count a.sets) (cond a.back (get_or a.self.now.o.now i 0) (get_or a.self.now.s.now i 0)) (cond a.back (get_or a.self.now.s.now i 0) (get_or a.self.now.o.now i 0)) (start_of a.sets a.from.now) t.into c.join_fact.ensures,
       λ p e.
           let own = t.invariant.3 p e in
           let k = own.0 i q in
-          let after = walk_next (λ k. get_or a.self.p.now k 0) a.self.len max_links 0 max_links c.args.self.made.indexed p i l k step in
-          (λ j f. last-key (λ i. get_or a.self.p.now i 0) p i j (sym after ∙ f), chain_more a.self.s.now a.self.p.now a.self.o.now a.self.index.now a.self.len a.self.n a.self.made (set_count a.sets) p a.back (start_of a.sets a.from.now) t.into i l k c.join_fact.ensures after ∙ ap (λ (k : ℕ). with_images (set_count a.sets) a.self.n (edges a.self.s.now a.self.p.now a.self.o.now p a.back k) (start_of a.sets a.from.now) t.into) (sym q) ∙ own.1),
+          let after = walk_next (λ k. get_or a.self.now.p.now k 0) a.self.now.len max_links 0 max_links c.args.self.now.made.indexed p i l k step in
+          (λ j f. last-key (λ i. get_or a.self.now.p.now i 0) p i j (sym after ∙ f), chain_more a.self.now.s.now a.self.now.p.now a.self.now.o.now a.self.now.index.now a.self.now.len a.self.now.n a.self.now.made (set_count a.sets) p a.back (start_of a.sets a.from.now) t.into i l k c.join_fact.ensures after ∙ ap (λ (k : ℕ). with_images (set_count a.sets) a.self.now.n (edges a.self.now.s.now a.self.now.p.now a.self.now.o.now p a.back k) (start_of a.sets a.from.now) t.into) (sym q) ∙ own.1),
     )
 
 pub returns : goal.returns
@@ -66,6 +66,6 @@ returns c =
     let a = c.args in
     let t = c.loop-next in
     let z : 0 ≡ t.next = omega (arith, c.loop-next-test.false) in
-    chain-ends a.self.s.now a.self.p.now a.self.o.now a.self.index.now a.self.len a.self.n a.self.made (set_count a.sets) a.l.0 a.back (start_of a.sets a.from.now) t.into t.invariant.2
-    ∙ ap (λ (k : ℕ). with_images (set_count a.sets) a.self.n (edges a.self.s.now a.self.p.now a.self.o.now a.l.0 a.back k) (start_of a.sets a.from.now) t.into) z
-    ∙ (t.invariant.3 a.l.0 (chain-begins a.self.s.now a.self.p.now a.self.o.now a.self.index.now a.self.len a.self.n a.self.made a.l.0 c.last_fact-next.ensures)).1
+    chain-ends a.self.now.s.now a.self.now.p.now a.self.now.o.now a.self.now.index.now a.self.now.len a.self.now.n a.self.now.made (set_count a.sets) a.l.0 a.back (start_of a.sets a.from.now) t.into t.invariant.2
+    ∙ ap (λ (k : ℕ). with_images (set_count a.sets) a.self.now.n (edges a.self.now.s.now a.self.now.p.now a.self.now.o.now a.l.0 a.back k) (start_of a.sets a.from.now) t.into) z
+    ∙ (t.invariant.3 a.l.0 (chain-begins a.self.now.s.now a.self.now.p.now a.self.now.o.now a.self.now.index.now a.self.now.len a.self.now.n a.self.now.made a.l.0 c.last_fact-next.ensures)).1
