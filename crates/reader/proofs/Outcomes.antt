@@ -28,6 +28,7 @@ use Rattle.itemreader.specs.Held.{Limits}
 use Rattle.linereader.specs.Storing.{CountsFit}
 use Rattle.std.specs.Prelude.{Result, Ok, Err}
 use Rattle.model.specs.Refusals.{fault_of, refusal_at}
+use Rattle.model.proofs.Refusals.{fault_refusal}
 use Rattle.model.specs.declared.Refusal.{Refusal}
 use Rattle.reader.specs.Answers.{names_left, cells_left, values_left}
 use Rattle.reader.specs.Running.{Ran}
@@ -74,15 +75,7 @@ refusal_numbered s h r k e = ⊎_elim
 
 -- the refusal of a line by its number
 pub refusal_by_fault : (k line : ℕ) → 2 ≤ k → k ≤ 7 → ◌≡◌ {A = Answer Counts} (refusal_of (refusal_at (fault_of k) line)) (refusal k line)
-refusal_by_fault zero line l h = absurd (omega arith)
-refusal_by_fault (suc zero) line l h = absurd (omega arith)
-refusal_by_fault (suc (suc zero)) line l h = refl
-refusal_by_fault (suc (suc (suc zero))) line l h = refl
-refusal_by_fault (suc (suc (suc (suc zero)))) line l h = refl
-refusal_by_fault (suc (suc (suc (suc (suc zero))))) line l h = refl
-refusal_by_fault (suc (suc (suc (suc (suc (suc zero)))))) line l h = refl
-refusal_by_fault (suc (suc (suc (suc (suc (suc (suc zero))))))) line l h = refl
-refusal_by_fault (suc (suc (suc (suc (suc (suc (suc (suc k)))))))) line l h = absurd (omega arith)
+refusal_by_fault k line l h = fault_refusal k line l h
 
 -- ---- the lines of a book have been read, from tables that were cleared and held the built-in names
 module _ (s : List ℕ) (h : length s ≤ max_bytes) (r : Result Counts Refusal) (ns ns₁ ns₂ cs cs₁ cs₂ : List ℕ) (vs vs₁ vs₂ : List ℤ) (e : ns₁ ≡ built_names ns) (f : cs₁ ≡ cleared cell_count 0 cs) (g : vs₁ ≡ cleared value_count (pos 0) vs) where
